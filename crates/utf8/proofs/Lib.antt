@@ -1,0 +1,7 @@
+-- utf8
+pub mod Tests
+pub mod Walk
+pub mod Leads
+pub mod Chars
+pub mod Cuts
+pub mod Texts

@@ -1,0 +1,5 @@
+-- utf8
+pub mod Form
+pub mod Chars
+pub mod Text
+pub mod Order

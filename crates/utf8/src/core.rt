@@ -1,0 +1,69 @@
+// What the layers above need of text in bytes.
+ghost use mathlib.Core.Path.{_≡_};
+ghost use mathlib.Core.List.{_++_};
+ghost use Prim.Native.Nat.{_+_, _≤_};
+ghost use lib.ListN.{length, take, drop};
+ghost use Rattle.utf8.specs.Chars.{takeChars};
+ghost use Rattle.utf8.specs.Order.{byteOrder};
+
+// How two texts stand in byte order.
+pub enum Ordering {
+    Less,
+    Equal,
+    Greater,
+}
+
+// The place k characters after `at`, or the end where they run out.
+pub fn skip(bytes: &[u8], at: usize, k: usize) -> usize
+    requires { ⌜ at ≤ length (now bytes) ⌝ }
+    ensures { λ r. ⌜ r ≡ at + length (takeChars k (drop at (now (bytes .entry)))) ⌝ }
+{
+    let mut i = at;
+    let mut left = k;
+    while i < bytes.len() {
+        if !crate::is_cont(bytes[i]) {
+            if left == 0 {
+                return i;
+            }
+            left -= 1;
+        }
+        i += 1;
+    }
+    i
+}
+
+pub fn compare(a: &[u8], b: &[u8]) -> Ordering
+    ensures { λ r. ⌜ r ≡ byteOrder (now (a .entry)) (now (b .entry)) ⌝ }
+{
+    let mut i = 0;
+    while i < a.len() {
+        if b.len() <= i {
+            return Ordering::Greater;
+        }
+        let x = a[i];
+        let y = b[i];
+        if x < y {
+            return Ordering::Less;
+        }
+        if y < x {
+            return Ordering::Greater;
+        }
+        i += 1;
+    }
+    if i < b.len() {
+        Ordering::Less
+    } else {
+        Ordering::Equal
+    }
+}
+
+pub fn copy_into(dst: &mut [u8], at: usize, src: &[u8])
+    requires { ⌜ at + length (now src) ≤ length (now dst) ⌝ }
+    ensures { λ _. ⌜ now (dst .exit) ≡ take at (now (dst .entry)) ++ now (src .entry) ++ drop (at + length (now (src .entry))) (now (dst .entry)) ⌝ }
+{
+    let mut j = 0;
+    while j < src.len() {
+        dst[at + j] = src[j];
+        j += 1;
+    }
+}
