@@ -1,0 +1,70 @@
+// Where everything stands in a record: the four sizes, the kinds, the counts, the inserted text.
+ghost use mathlib.Core.Path.{_≡_};
+ghost use Prim.Native.Nat.{_+_, _*_, _≤_, _<_};
+ghost use lib.ListN.{length};
+ghost use Rattle.operation.specs.Layout.{wordAt, recordsOf, textBytesOf, baseOf, targetOf, textStart, kindAt, countAt};
+
+fn wide(x: u8) -> usize
+    ensures { λ r. ⌜ (r ≡ x) × (r < 256) ⌝ }
+{
+    x as usize
+}
+
+// Low byte first.
+fn word(rec: &[u8], at: usize) -> usize
+    requires { ⌜ at + 1 < length (now rec) ⌝ }
+    ensures { λ r. ⌜ (r ≡ wordAt (now (rec .entry)) at) × (r < 65536) ⌝ }
+{
+    wide(rec[at]) + 256 * wide(rec[at + 1])
+}
+
+pub fn records(rec: &[u8]) -> usize
+    requires { ⌜ 8 ≤ length (now rec) ⌝ }
+    ensures { λ r. ⌜ (r ≡ recordsOf (now (rec .entry))) × (r < 65536) ⌝ }
+{
+    word(rec, 0)
+}
+
+pub fn text_bytes(rec: &[u8]) -> usize
+    requires { ⌜ 8 ≤ length (now rec) ⌝ }
+    ensures { λ r. ⌜ (r ≡ textBytesOf (now (rec .entry))) × (r < 65536) ⌝ }
+{
+    word(rec, 2)
+}
+
+pub fn base(rec: &[u8]) -> usize
+    requires { ⌜ 8 ≤ length (now rec) ⌝ }
+    ensures { λ r. ⌜ (r ≡ baseOf (now (rec .entry))) × (r < 65536) ⌝ }
+{
+    word(rec, 4)
+}
+
+pub fn target(rec: &[u8]) -> usize
+    requires { ⌜ 8 ≤ length (now rec) ⌝ }
+    ensures { λ r. ⌜ (r ≡ targetOf (now (rec .entry))) × (r < 65536) ⌝ }
+{
+    word(rec, 6)
+}
+
+// Where the text of n records begins.
+pub fn text_start(n: usize) -> usize
+    requires { ⌜ n < 65536 ⌝ }
+    ensures { λ r. ⌜ r ≡ textStart n ⌝ }
+{
+    8 + 3 * n
+}
+
+pub fn kind(rec: &[u8], k: usize) -> u8
+    requires { ⌜ (textStart (recordsOf (now rec)) ≤ length (now rec)) × (k < recordsOf (now rec)) ⌝ }
+    ensures { λ r. ⌜ r ≡ kindAt (now (rec .entry)) k ⌝ }
+{
+    rec[8 + k]
+}
+
+// The count of record k of n.
+pub fn count(rec: &[u8], n: usize, k: usize) -> usize
+    requires { ⌜ (n ≡ recordsOf (now rec)) × (textStart (recordsOf (now rec)) ≤ length (now rec)) × (k < recordsOf (now rec)) ⌝ }
+    ensures { λ r. ⌜ (r ≡ countAt (now (rec .entry)) k) × (r < 65536) ⌝ }
+{
+    word(rec, 8 + n + 2 * k)
+}
