@@ -1,13 +1,15 @@
 -- What the passes of the check go by: from record k on, what the whole comes to.
-use Prim.Native.Nat.{ℕ, _+_, _-_, _≤_, _<_}
+use Prim.Native.Nat.{ℕ, zero, suc, _+_, _-_, _≤_, _<_}
 use native.Mathlib.Nat.{zero-add, add-zero, sub-zero}
+use native.Mathlib.Numerals.{add-one}
 use native.Mathlib.Omega.{arith}
 use mathlib.Core.Path.{_≡_, refl, sym, ap, ap₂, _∙_}
 use mathlib.Core.Bool.{Bool, true, false, cond, not, _&&_, and-assoc, and-true}
 use mathlib.Core.List.{List, [], _∷_}
+use lib.Dec.{eqb}
 use lib.ListN.{length, take, drop, length-take}
 use lib.Seq.{drop-drop}
-use borrow.Author.Tests.{le-leb, lt-leb, eq-eqb, ne-eqb, not-true, not-false}
+use borrow.Author.Tests.{le-leb, lt-leb, eq-eqb, ne-eqb, eqb-true, eqb-false, not-true, not-false}
 use Rattle.utf8.specs.Form.{within, wellFormed}
 use Rattle.utf8.specs.Chars.{numChars, allOf}
 use Rattle.utf8.proofs.Leads.{inside, under, over}
@@ -235,3 +237,16 @@ module _ (r : List ℕ) (n k at kind : ℕ) (h : k < n) (e : n ≡ recordsOf r) 
           room = omega (arith, inserts-more r k (omega arith) (sym f ∙ z), g .room);
           left = past ∙ ap (drop 1) (left-insert r k (omega arith) at (sym f ∙ z)) ∙ ap (λ j. byteOpsLeft r (k + 1) (at + j)) (sym c);
         }
+
+pub record Reach (r : List ℕ) (k : ℕ) : Type 0 where
+  pub at : ℕ
+  pub reached : Reached r k at
+
+-- every record's text begins somewhere
+pub reach : (r : List ℕ) → Sound r → (k : ℕ) → k ≤ recordsOf r → Reach r k
+reach r s zero h = record { at = textStart (recordsOf r); reached = reached-start r (recordsOf r) (textStart (recordsOf r)) s refl refl }
+reach r s (suc k) h = go (eqb (kindAt r k) 2) refl (reach r s k (omega arith))
+  where
+    go : (b : Bool) → eqb (kindAt r k) 2 ≡ b → Reach r k → Reach r (suc k)
+    go true e g = record { at = g .at + countAt r k; reached = rw (← add-one k) (reached-insert r (recordsOf r) k (g .at) (kindAt r k) h refl (g .reached) refl (countAt r k) refl (eqb-true (kindAt r k) 2 e)) }
+    go false e g = record { at = g .at; reached = rw (← add-one k) (reached-other r (recordsOf r) k (g .at) (kindAt r k) h refl (g .reached) refl (eqb-false (kindAt r k) 2 e)) }

@@ -6,3 +6,4 @@ pub mod Faults
 pub mod Records
 pub mod Walks
 pub mod Checking
+pub mod Answers

@@ -261,13 +261,13 @@ module _ (r : List ℕ) (z : recordFault r ≡ 0) where
   unfolding ops
   inBytes-ops = inBytes-inChars (byteOps r) (facts .texts)
 
-  inBytes-length : length (byteOps r) ≡ recordsOf r
+  pub byteOps-length : length (byteOps r) ≡ recordsOf r
   unfolding entries
-  inBytes-length = sym (length-map (byteOps r) entryOf) ∙ ap length inBytes-entries ∙ length-entries r 0 (recordsOf r)
+  byteOps-length = sym (length-map (byteOps r) entryOf) ∙ ap length inBytes-entries ∙ length-entries r 0 (recordsOf r)
 
-  ops-length : length (ops r) ≡ recordsOf r
+  pub ops-length : length (ops r) ≡ recordsOf r
   unfolding ops
-  ops-length = length-map (byteOps r) inChars ∙ inBytes-length
+  ops-length = length-map (byteOps r) inChars ∙ byteOps-length
 
   pub ops-base : base (ops r) ≡ baseOf r
   ops-base = sym (inBytes-base (ops r)) ∙ ap base inBytes-ops ∙ facts .base-is

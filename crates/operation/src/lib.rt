@@ -69,10 +69,12 @@ pub fn check(rec: &[u8]) -> Fact
     if !linked {
         return Fact::Refused(Refusal::Neighbours);
     }
-    if base != layout::base(rec) {
+    let stated_base = layout::base(rec);
+    if base != stated_base {
         return Fact::Refused(Refusal::Sums);
     }
-    if target != layout::target(rec) {
+    let stated_target = layout::target(rec);
+    if target != stated_target {
         return Fact::Refused(Refusal::Sums);
     }
     Fact::Is(layout::text_start(n) + text)
@@ -128,7 +130,8 @@ pub fn insert_text(rec: &[u8], k: usize) -> &[u8]
     if n <= k {
         return &rec[0..0];
     }
-    if layout::kind(rec, k) != 2 {
+    let kind = layout::kind(rec, k);
+    if kind != 2 {
         return &rec[0..0];
     }
     let from = checks::text_at(rec, n, k);

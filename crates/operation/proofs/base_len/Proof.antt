@@ -1,3 +1,4 @@
+use Rattle.operation.proofs.Answers.{base-is, base-refused, passed-header}
 use borrow.Author.Needs.{needs}
 use Rattle.operation.proofs.base_len.Statement.{statement}
 use Rattle.operation.proofs.base_len.Tie as tie
@@ -16,7 +17,7 @@ enum-told c = search needs
 
 -- src/lib.rt:86:33
 base-requires : tie.Need-base-requires
-base-requires c κs = ?
+base-requires c κs = search passed-header
 
 -- src/lib.rt:87:23
 enum-known-x : tie.Need-enum-known-x
@@ -24,11 +25,11 @@ enum-known-x c = search needs
 
 -- src/lib.rt:82:1
 returns : tie.Need-returns
-returns c = ?
+returns c = search base-is
 
 -- src/lib.rt:82:1
 returns-2 : tie.Need-returns-2
-returns-2 c = ?
+returns-2 c = search base-refused
 
 pub base-len-spec : {M : Type 1} → statement M
 base-len-spec =

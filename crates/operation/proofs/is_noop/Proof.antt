@@ -1,3 +1,4 @@
+use Rattle.operation.proofs.Answers.{noop-many, noop-none, noop-one, noop-refused, passed-header, passed-kinds}
 use borrow.Author.Needs.{needs}
 use Rattle.operation.proofs.is_noop.Statement.{statement}
 use Rattle.operation.proofs.is_noop.Tie as tie
@@ -21,27 +22,27 @@ enum-told c = search needs
 
 -- src/lib.rt:108:17
 records-requires : tie.Need-records-requires
-records-requires c κs = ?
+records-requires c κs = search passed-header
 
 -- src/lib.rt:110:17
 returns : tie.Need-returns
-returns c = ?
+returns c = search noop-none
 
 -- src/lib.rt:113:17
 returns-2 : tie.Need-returns-2
-returns-2 c = ?
+returns-2 c = search noop-many
 
 -- src/lib.rt:115:22
 kind-requires : tie.Need-kind-requires
-kind-requires c κs = ?
+kind-requires c κs = search (passed-kinds, needs)
 
 -- src/lib.rt:102:1
 returns-3 : tie.Need-returns-3
-returns-3 c = ?
+returns-3 c = search noop-refused
 
 -- src/lib.rt:102:1
 returns-4 : tie.Need-returns-4
-returns-4 c = ?
+returns-4 c = search noop-one
 
 pub is-noop-spec : {M : Type 1} → statement M
 is-noop-spec =

@@ -1,3 +1,4 @@
+use Rattle.operation.proofs.Answers.{passed-header, target-is, target-refused}
 use borrow.Author.Needs.{needs}
 use Rattle.operation.proofs.target_len.Statement.{statement}
 use Rattle.operation.proofs.target_len.Tie as tie
@@ -16,7 +17,7 @@ enum-told c = search needs
 
 -- src/lib.rt:96:33
 target-requires : tie.Need-target-requires
-target-requires c κs = ?
+target-requires c κs = search passed-header
 
 -- src/lib.rt:97:23
 enum-known-x : tie.Need-enum-known-x
@@ -24,11 +25,11 @@ enum-known-x c = search needs
 
 -- src/lib.rt:92:1
 returns : tie.Need-returns
-returns c = ?
+returns c = search target-is
 
 -- src/lib.rt:92:1
 returns-2 : tie.Need-returns-2
-returns-2 c = ?
+returns-2 c = search target-refused
 
 pub target-len-spec : {M : Type 1} → statement M
 target-len-spec =

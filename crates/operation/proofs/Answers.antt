@@ -1,0 +1,276 @@
+-- From what the code finds to the answers of the calls.
+use Prim.Native.Nat.{ℕ, zero, suc, _+_, _-_, _≤_, _<_}
+use native.Mathlib.Nat.{add-zero}
+use native.Mathlib.Omega.{arith}
+use mathlib.Core.Path.{_≡_, refl, sym, ap, _∙_}
+use mathlib.Core.Bool.{Bool, true, false, cond, not}
+use mathlib.Core.List.{List, [], _∷_, map}
+use lib.Dec.{eqb}
+use lib.ListN.{length, take, drop, getD, length-map, List·getD-map, List·getD-eq-default}
+use lib.Seq.{getD-drop}
+use borrow.Author.Tests.{eq-eqb, ne-eqb, eqb-true, eqb-false, not-true, not-false}
+use Rattle.utf8.specs.Chars.{allOf}
+use Rattle.utf8.proofs.Tests.{known}
+use Rattle.operation.specs.declared.Refusal.{Refusal}
+use Rattle.operation.specs.declared.Fact.{Fact}
+use Rattle.operation.specs.declared.Fact.the-variants as fact
+use Rattle.operation.specs.declared.Noop.the-variants as noop
+use Rattle.operation.specs.declared.checks.Entries.{Entries}
+use Rattle.operation.specs.declared.checks.Entries.the-variants.{Unsound, Inserts}
+use Rattle.operation.specs.declared.checks.Body.{Body}
+use Rattle.operation.specs.declared.checks.Body.the-variants as body
+use Rattle.operation.specs.Answer.{number, Answer, gives, refused, factOf, noopOf, settle}
+use Rattle.operation.specs.Op.{Op, retain, total, base}
+use Rattle.operation.specs.Built.{chained}
+use Rattle.operation.specs.Layout.{recordsOf, textBytesOf, baseOf, targetOf, textStart, sizeOf, kindAt, countAt}
+use Rattle.operation.specs.Record.{Seq, ByteSeq, inChars, inserted, entries, byteOps, ops, inLimits, soundEntry, insertBytes, sound, wellInserted, givesChars, adds, recordFault}
+use Rattle.operation.specs.Front.{byteOpsLeft}
+use Rattle.operation.specs.Checks.{entriesOf, outcome, start, Sound, Reached}
+use Rattle.operation.specs.Calls.{checkCall, baseCall, targetCall, noEffect, noopCall, textCall}
+use Rattle.operation.proofs.Faults.{InLimits, limits, faultless}
+use Rattle.operation.proofs.Records.{byteOps-length, ops-length}
+use Rattle.operation.proofs.Walks.{left-all, left-done, left-retain, left-insert, left-delete}
+use Rattle.operation.proofs.Checking.{pass-start, reached-room, Reach, reach}
+
+-- which enum's case a number found by a test is
+pub chosen : (b : Bool) (x : ℕ) (e : Entries) → e ≡ cond b (Inserts x) Unsound → e ≡ Unsound → b ≡ false
+chosen true x e p q = absurd (let z : _≡_ {A = ℕ} 0 1 = cc (p, q) in omega arith)
+chosen false x e p q = refl
+
+inserts : (b : Bool) (x s : ℕ) (e : Entries) → e ≡ cond b (Inserts x) Unsound → e ≡ Inserts s → (b ≡ true) × (x ≡ s)
+inserts true x s e p q = (refl, (cc (p, q)))
+inserts false x s e p q = absurd (let z : _≡_ {A = ℕ} 0 1 = cc (p, q) in omega arith)
+
+ill : (b : Bool) (x e : Body) (l : Bool) (m n : ℕ) → x ≡ body.Of l m n → e ≡ cond b x body.IllFormed → e ≡ body.IllFormed → b ≡ false
+ill true x e l m n o p q = absurd (let z : _≡_ {A = ℕ} 0 1 = cc (o, p, q) in omega arith)
+ill false x e l m n o p q = refl
+
+formed : (b : Bool) (e : Body) (l k : Bool) (m n x y : ℕ) → e ≡ cond b (body.Of l m n) body.IllFormed → e ≡ body.Of k x y → (b ≡ true) × (l ≡ k) × (m ≡ x) × (n ≡ y)
+formed true e l k m n x y p q = (refl, (cc (p, q)), (cc (p, q)), (cc (p, q)))
+formed false e l k m n x y p q = absurd (let z : _≡_ {A = ℕ} 0 1 = cc (p, q) in omega arith)
+
+-- ---- check
+
+module _ (r : List ℕ) (a : Bool) (pa : a ≡ inLimits r) where
+  pub check-1 : not a ≡ true → refused 1 ≡ checkCall r
+  unfolding checkCall recordFault
+  check-1 h = rw (sym pa ∙ not-true a h)
+
+  module _ (h : not a ≡ false) where
+    abbrev limited : inLimits r ≡ true
+    limited = sym pa ∙ not-false a h
+
+    bounds : InLimits r
+    bounds = limits r .0 (known limited)
+
+    pub has-header : 8 ≤ length r
+    has-header = bounds .header
+
+    module _ (n : ℕ) (pn : n ≡ recordsOf r) where
+      pub few-entries : n ≤ 1024
+      few-entries = omega (arith, bounds)
+
+      pub has-entries : textStart n ≤ length r
+      has-entries = omega (arith, bounds)
+
+    module _ (t : ℕ) (pt : t ≡ textBytesOf r) (e : Entries) (pe : e ≡ entriesOf r) where
+      pub check-2 : e ≡ Unsound → refused 2 ≡ checkCall r
+      unfolding checkCall recordFault sound entriesOf
+      check-2 u = rw (limited, chosen (allOf soundEntry (entries r)) (insertBytes (entries r)) e pe u)
+
+      module _ (s : ℕ) (ps : e ≡ Inserts s) where
+        given : (allOf soundEntry (entries r) ≡ true) × (insertBytes (entries r) ≡ s)
+        unfolding entriesOf
+        given = inserts (allOf soundEntry (entries r)) (insertBytes (entries r)) s e pe ps
+
+        pub check-2′ : (s ≡ t → ⊥) → refused 2 ≡ checkCall r
+        unfolding checkCall recordFault sound
+        check-2′ u = rw (limited, given .0, ne-eqb (insertBytes (entries r)) (textBytesOf r) (λ z. u (sym (given .1) ∙ z ∙ sym pt)))
+
+        module _ (st : s ≡ t) where
+          adds-up : insertBytes (entries r) ≡ textBytesOf r
+          adds-up = given .1 ∙ st ∙ pt
+
+          is-sound : sound r ≡ true
+          unfolding sound
+          is-sound = rw (given .0, eq-eqb (insertBytes (entries r)) (textBytesOf r) adds-up)
+
+          pub sounds : Sound r
+          sounds = record { few = bounds .records; short = bounds .text-bytes; room = bounds .whole; entries-sound = known (given .0); adds-up = adds-up }
+
+          module _ (o : Body) (po : o ≡ outcome r 0 (start r)) where
+            all : o ≡ cond (allOf wellInserted (byteOps r)) (body.Of (chained (byteOps r)) (base (byteOps r)) (total givesChars (byteOps r))) body.IllFormed
+            all = po ∙ pass-start r adds-up
+
+            pub check-3 : o ≡ body.IllFormed → refused 3 ≡ checkCall r
+            unfolding checkCall recordFault
+            check-3 u = rw (limited, is-sound, ill (allOf wellInserted (byteOps r)) _ o _ _ _ refl all u)
+
+            module _ (l : Bool) (b g : ℕ) (pl : o ≡ body.Of l b g) where
+              found : (allOf wellInserted (byteOps r) ≡ true) × (chained (byteOps r) ≡ l) × (base (byteOps r) ≡ b) × (total givesChars (byteOps r) ≡ g)
+              found = formed (allOf wellInserted (byteOps r)) o (chained (byteOps r)) l (base (byteOps r)) (total givesChars (byteOps r)) b g all pl
+
+              pub check-4 : not l ≡ true → refused 4 ≡ checkCall r
+              unfolding checkCall recordFault
+              check-4 u = rw (limited, is-sound, found .0, found .1 ∙ not-true l u)
+
+              module _ (ml : not l ≡ false) (b′ : ℕ) (pb : b′ ≡ baseOf r) where
+                pub check-5 : (b ≡ b′ → ⊥) → refused 5 ≡ checkCall r
+                unfolding checkCall recordFault adds
+                check-5 u = rw (limited, is-sound, found .0, found .1 ∙ not-false l ml, ne-eqb (base (byteOps r)) (baseOf r) (λ z. u (sym (found .2) ∙ z ∙ sym pb)))
+
+                module _ (mb : b ≡ b′) (g′ : ℕ) (pg : g′ ≡ targetOf r) where
+                  pub check-5′ : (g ≡ g′ → ⊥) → refused 5 ≡ checkCall r
+                  unfolding checkCall recordFault adds
+                  check-5′ u =
+                      rw (limited, is-sound, found .0, found .1 ∙ not-false l ml, eq-eqb (base (byteOps r)) (baseOf r) (found .2 ∙ mb ∙ pb), ne-eqb (total givesChars (byteOps r)) (targetOf r) (λ z. u (sym (found .3) ∙ z ∙ sym pg)))
+
+                  pub check-0 : (n z : ℕ) → g ≡ g′ → n ≡ recordsOf r → z ≡ textStart n → gives ((z + t) ∷ []) ≡ checkCall r
+                  unfolding checkCall recordFault adds
+                  check-0 n z mg pn pz =
+                      rw (limited, is-sound, found .0, found .1 ∙ not-false l ml, eq-eqb (base (byteOps r)) (baseOf r) (found .2 ∙ mb ∙ pb), eq-eqb (total givesChars (byteOps r)) (targetOf r) (found .3 ∙ mg ∙ pg))
+                      (ap (λ k. gives (k ∷ [])) (omega arith))
+
+-- ---- after the check
+
+-- what the record is like where no fault was found
+pub no-fault : (r : List ℕ) → recordFault r ≡ 0 → Sound r
+no-fault r z =
+    let f = faultless r .0 z in
+    let l = limits r .0 (f .in-limits) in
+    record { few = l .records; short = l .text-bytes; room = l .whole; entries-sound = f .sound; adds-up = f .adds-up }
+
+module _ (r : List ℕ) (f : Fact) (p : factOf f ≡ checkCall r) where
+  pub same-refusal : (x : Refusal) (g : Answer) → f ≡ fact.Refused x → refused (number x) ≡ settle (recordFault r) refused g
+  unfolding checkCall
+  same-refusal x g q = go (recordFault r) (ap factOf (sym q) ∙ p)
+    where
+      go : (k : ℕ) → refused (number x) ≡ settle k refused (gives (sizeOf r ∷ [])) → refused (number x) ≡ settle k refused g
+      go zero e = absurd (let z : _≡_ {A = ℕ} 0 1 = cc e in omega arith)
+      go (suc k) e = e
+
+  pub base-refused : (x : Refusal) → f ≡ fact.Refused x → refused (number x) ≡ baseCall r
+  unfolding baseCall
+  base-refused x q = same-refusal x _ q
+
+  pub target-refused : (x : Refusal) → f ≡ fact.Refused x → refused (number x) ≡ targetCall r
+  unfolding targetCall
+  target-refused x q = same-refusal x _ q
+
+  pub noop-refused : (x : Refusal) → f ≡ fact.Refused x → refused (number x) ≡ noopCall r
+  unfolding noopCall
+  noop-refused x q = same-refusal x _ q
+
+  pub text-refused : (k : ℕ) (x : Refusal) → f ≡ fact.Refused x → [] ≡ textCall r k
+  unfolding checkCall textCall
+  text-refused k x q = go (recordFault r) (ap factOf (sym q) ∙ p)
+    where
+      go : (m : ℕ) → refused (number x) ≡ settle m refused (gives (sizeOf r ∷ [])) → [] ≡ settle m (λ n. []) (getD (map inserted (byteOps r)) k [])
+      go zero e = absurd (let z : _≡_ {A = ℕ} 0 1 = cc e in omega arith)
+      go (suc m) e = refl
+
+  module _ (s : ℕ) (q : f ≡ fact.Is s) where
+    pub passed : recordFault r ≡ 0
+    unfolding checkCall
+    passed = go (recordFault r) (ap factOf (sym q) ∙ p)
+      where
+        go : (k : ℕ) → gives (s ∷ []) ≡ settle k refused (gives (sizeOf r ∷ [])) → k ≡ 0
+        go zero e = refl
+        go (suc k) e = absurd (let z : _≡_ {A = ℕ} 0 1 = cc e in omega arith)
+
+    pub passed-sound : Sound r
+    passed-sound = no-fault r passed
+
+    pub passed-header : 8 ≤ length r
+    passed-header = omega (arith, passed-sound)
+
+    pub passed-kinds : textStart (recordsOf r) ≤ length r
+    passed-kinds = omega (arith, passed-sound)
+
+    pub base-is : (b : ℕ) → b ≡ baseOf r → gives (b ∷ []) ≡ baseCall r
+    unfolding baseCall
+    base-is b e = rw passed (ap (λ n. gives (n ∷ [])) e)
+
+    pub target-is : (b : ℕ) → b ≡ targetOf r → gives (b ∷ []) ≡ targetCall r
+    unfolding targetCall
+    target-is b e = rw passed (ap (λ n. gives (n ∷ [])) e)
+
+    -- ---- no effect
+
+    module _ (n : ℕ) (pn : n ≡ recordsOf r) where
+      all-ahead : byteOps r ≡ byteOpsLeft r 0 (textStart (recordsOf r))
+      all-ahead = sym (left-all r (passed-sound .adds-up))
+
+      noop-by : (m : ℕ) → noEffect (ops r) ≡ m → gives (m ∷ []) ≡ noopCall r
+      unfolding noopCall
+      noop-by m e = rw (passed, e)
+
+      pub noop-none : n ≡ 0 → gives (1 ∷ []) ≡ noopCall r
+      unfolding ops
+      noop-none z = noop-by 1 (ap (λ q. noEffect (map inChars q)) (all-ahead ∙ left-done r 0 _ (omega arith)))
+
+      pub noop-many : 1 < n → gives (0 ∷ []) ≡ noopCall r
+      noop-many h = noop-by 0 (go (ops r) (omega (arith, ops-length r passed)))
+        where
+          go : (s : Seq) → 1 < length s → noEffect s ≡ 0
+          go [] l = absurd (omega arith)
+          go (o ∷ []) l = absurd (omega arith)
+          go (o ∷ u ∷ s) l = refl
+
+      module _ (z : n ≡ 0 → ⊥) (l : n ≤ 1) (kind : ℕ) (pk : kind ≡ kindAt r 0) where
+        pub noop-one : noopOf (noop.Is (eqb kind 1)) ≡ noopCall r
+        unfolding ops inChars
+        noop-one = go (eqb kind 1) refl
+          where
+            one : (o : Op ℕ) (m at : ℕ) → byteOpsLeft r 0 (textStart (recordsOf r)) ≡ o ∷ byteOpsLeft r 1 at → noEffect (inChars o ∷ []) ≡ m → gives (m ∷ []) ≡ noopCall r
+            one o m at a e = noop-by m (ap (λ q. noEffect (map inChars q)) (all-ahead ∙ a ∙ ap (λ q. o ∷ q) (left-done r 1 at (omega arith))) ∙ e)
+
+            go : (b : Bool) → eqb kind 1 ≡ b → noopOf (noop.Is b) ≡ noopCall r
+            go true e = one _ 1 _ (left-retain r 0 (omega arith) _ (sym pk ∙ eqb-true kind 1 e)) refl
+            go false e = other (eqb kind 2) refl
+              where
+                no : kindAt r 0 ≡ 1 → ⊥
+                no y = eqb-false kind 1 e (pk ∙ y)
+
+                other : (b : Bool) → eqb kind 2 ≡ b → noopOf (noop.Is false) ≡ noopCall r
+                other true g = one _ 0 _ (left-insert r 0 (omega arith) _ (sym pk ∙ eqb-true kind 2 g)) refl
+                other false g = one _ 0 _ (left-delete r 0 (omega arith) _ no (λ y. eqb-false kind 2 g (pk ∙ y))) refl
+
+    -- ---- the text of record k
+
+    module _ (n k : ℕ) (pn : n ≡ recordsOf r) where
+      text-by : (x : List ℕ) → x ≡ getD (map inserted (byteOps r)) k [] → x ≡ textCall r k
+      unfolding textCall
+      text-by x e = rw passed e
+
+      pub text-past : n ≤ k → [] ≡ textCall r k
+      text-past h = text-by [] (sym (List·getD-eq-default (map inserted (byteOps r)) [] (simp length-map (omega (arith, byteOps-length r passed)))))
+
+      -- the operation in front of what lies ahead
+      at-front : (at : ℕ) (o : Op ℕ) (s : ByteSeq) → Reached r k at → byteOpsLeft r k at ≡ o ∷ s → inserted o ≡ textCall r k
+      at-front at o s g e =
+          text-by (inserted o)
+          (sym (List·getD-map inserted (byteOps r) k (retain 0)
+          ∙ ap (λ j. inserted (getD (byteOps r) j (retain 0))) (sym (add-zero k))
+          ∙ ap inserted (sym (getD-drop k (byteOps r) 0 (retain 0)))
+          ∙ ap (λ q. inserted (getD q 0 (retain 0))) (g .left ∙ e)))
+
+      module _ (h : k < n) (kind : ℕ) (pk : kind ≡ kindAt r k) where
+        pub text-other : (kind ≡ 2 → ⊥) → [] ≡ textCall r k
+        text-other z = go (eqb kind 1) refl
+          where
+            g : Reach r k
+            g = reach r passed-sound k (omega arith)
+
+            go : (b : Bool) → eqb kind 1 ≡ b → [] ≡ textCall r k
+            go true e = at-front (g .at) _ _ (g .reached) (left-retain r k (omega arith) (g .at) (sym pk ∙ eqb-true kind 1 e))
+            go false e = at-front (g .at) _ _ (g .reached) (left-delete r k (omega arith) (g .at) (λ y. eqb-false kind 1 e (pk ∙ y)) (λ y. z (pk ∙ y)))
+
+        module _ (from count : ℕ) (z : kind ≡ 2) (g : Reached r k from) (pc : count ≡ countAt r k) where
+          pub text-room : from + count ≤ length r
+          text-room = reached-room r n k from kind (omega arith) pn g pk count pc z
+
+          pub text-is : take (from + count - from) (drop from r) ≡ textCall r k
+          text-is =
+              let e : from + count - from ≡ countAt r k = omega arith in
+              ap (λ j. take j (drop from r)) e ∙ at-front from _ _ g (left-insert r k (omega arith) from (sym pk ∙ z))
