@@ -7,3 +7,4 @@ pub mod Records
 pub mod Walks
 pub mod Checking
 pub mod Answers
+pub mod Fronts

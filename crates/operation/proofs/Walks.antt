@@ -73,7 +73,7 @@ module _ (r : List ℕ) (k : ℕ) where
         let (e, f) = within-bounds 1 3 (kindAt r k) c in
         record { least = e; most = f; some = leb→le 1 (countAt r k) d; rest = b }
 
-drop-take : (n m : ℕ) (t : List ℕ) → drop n (take (n + m) t) ≡ take m (drop n t)
+pub drop-take : (n m : ℕ) (t : List ℕ) → drop n (take (n + m) t) ≡ take m (drop n t)
 drop-take zero m t = ap (λ j. take j t) (zero-add m)
 drop-take (suc n) m [] = ap (λ j. drop (suc n) (take j [])) (suc-add n m) ∙ sym (take-nil m)
 drop-take (suc n) m (x ∷ t) = ap (λ j. drop (suc n) (take j (x ∷ t))) (suc-add n m) ∙ drop-take n m t

@@ -9,8 +9,8 @@ use Rattle.utf8.specs.Form.{within, wellFormed}
 use Rattle.utf8.specs.Chars.{numChars, allOf}
 use Rattle.utf8.specs.Text.{Char, chars}
 use Rattle.operation.specs.declared.core.Front.{Front}
-use Rattle.operation.specs.Op.{ifZero, Op, retain, insert, delete, cut, rest}
-use Rattle.operation.specs.Layout.{recordsOf}
+use Rattle.operation.specs.Op.{ifZero, Op, retain, insert, delete, cut, rest, front}
+use Rattle.operation.specs.Layout.{recordsOf, textStart}
 use Rattle.operation.specs.Record.{Seq, ByteSeq, Entry, entriesFrom, operations, inBytes, inChars, inserted, soundEntry, insertBytes, wellInserted}
 
 -- the records from k on, and their operations where their text begins at `at`
@@ -26,6 +26,8 @@ opsLeft r k at = map inChars (byteOpsLeft r k at)
 
 -- `at` is a place at which the text of the records from k on can begin
 pub record Place (r : List ℕ) (k at : ℕ) : Type 0 where
+  pub few : recordsOf r ≤ 1024
+  pub header : textStart (recordsOf r) ≤ length r
   pub index : k ≤ recordsOf r
   pub room : at + insertBytes (entriesLeft r k) ≤ length r
   pub sound : T (allOf soundEntry (entriesLeft r k))
@@ -60,3 +62,13 @@ pub record Cut (r : List ℕ) (f : Front) (k mid : ℕ) : Type 0 where
   pub below : mid ≤ f .to
   pub first : take (mid - f .from) (drop (f .from) r) ≡ inserted (inBytes (cut k (frontOp r f)))
   pub second : take (f .to - mid) (drop mid r) ≡ inserted (inBytes (rest k (frontOp r f)))
+
+-- `f` is the front of the records from k on
+pub record Loads (r : List ℕ) (k at : ℕ) (f : Front) : Type 0 where
+  pub stands : Stands r f
+  pub has : ahead r f ≡ opsLeft r k at
+
+-- `g` is the front once k characters of `f` are used up
+pub record Leaves (r : List ℕ) (f : Front) (k : ℕ) (g : Front) : Type 0 where
+  pub stands : Stands r g
+  pub has : ahead r g ≡ front (rest k (frontOp r f)) (opsLeft r (f .next) (f .to))

@@ -1,4 +1,10 @@
 // What the layers above use to go through a record that was checked.
+ghost use mathlib.Core.Path.{_≡_};
+ghost use Prim.Native.Nat.{_≤_};
+ghost use lib.ListN.{length};
+ghost use Rattle.operation.specs.Layout.{recordsOf, textStart};
+ghost use Rattle.operation.specs.Record.{recordFault, ops};
+ghost use Rattle.operation.specs.Front.{Place, Stands, Loads, Leaves, Cut};
 
 // The front of what lies ahead in a record: a kind (0 at the end), how many characters are left of it, the bytes of
 // its text, and the record behind it. The text of the records behind it begins at `to`.
@@ -8,4 +14,77 @@ pub struct Front {
     pub from: usize,
     pub to: usize,
     pub next: usize,
+}
+
+// The front at record k of n, where the text of the records from k on begins at `at`.
+pub fn load(rec: &[u8], n: usize, k: usize, at: usize) -> Front
+    requires { ⌜ (n ≡ recordsOf (now rec)) × Place (now rec) k at ⌝ }
+    ensures { λ f. ⌜ Loads (now (rec .entry)) k at f ⌝ }
+{
+    if n <= k {
+        return Front {
+            kind: 0,
+            left: 0,
+            from: at,
+            to: at,
+            next: k,
+        };
+    }
+    let kind = crate::layout::kind(rec, k);
+    let count = crate::layout::count(rec, n, k);
+    if kind == 2 {
+        let to = at + count;
+        let chars = utf8::num_chars(&rec[at..to]);
+        return Front {
+            kind,
+            left: chars,
+            from: at,
+            to,
+            next: k + 1,
+        };
+    }
+    Front {
+        kind,
+        left: count,
+        from: at,
+        to: at,
+        next: k + 1,
+    }
+}
+
+// The place in its text that is k characters behind the front.
+pub fn cut(rec: &[u8], f: Front, k: usize) -> usize
+    requires { ⌜ Stands (now rec) f × (k ≤ f .left) ⌝ }
+    ensures { λ mid. ⌜ Cut (now (rec .entry)) f k mid ⌝ }
+{
+    let from = f.from;
+    let to = f.to;
+    if k == f.left {
+        return to;
+    }
+    if from == to {
+        return to;
+    }
+    let text = &rec[from..to];
+    from + utf8::core::skip(text, 0, k)
+}
+
+// What stays in front once k characters are used up, `mid` being their place in the text.
+pub fn rest(rec: &[u8], n: usize, f: Front, k: usize, mid: usize) -> Front
+    requires { ⌜ (n ≡ recordsOf (now rec)) × Stands (now rec) f × (k ≤ f .left) × Cut (now rec) f k mid ⌝ }
+    ensures { λ g. ⌜ Leaves (now (rec .entry)) f k g ⌝ }
+{
+    let left = f.left;
+    let to = f.to;
+    let next = f.next;
+    if k == left {
+        return load(rec, n, next, to);
+    }
+    Front {
+        kind: f.kind,
+        left: left - k,
+        from: mid,
+        to,
+        next,
+    }
 }
