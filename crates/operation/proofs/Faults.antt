@@ -72,11 +72,11 @@ pub faultless : (r : List ℕ) → (recordFault r ≡ 0) ↔ Faultless r
 unfolding recordFault
 faultless r = (
   λ z.
-      let (a, z₁) = needs-out (inLimits r) 0 _ z in
-      let (b, z₂) = needs-out (sound r) 1 _ z₁ in
-      let (c, z₃) = needs-out (allOf wellInserted (byteOps r)) 2 _ z₂ in
-      let (d, z₄) = needs-out (chained (byteOps r)) 3 _ z₃ in
-      let (e, z₅) = needs-out (adds r) 4 _ z₄ in
+      let (a, z₁) = needs-out (inLimits r) _ _ z in
+      let (b, z₂) = needs-out (sound r) _ _ z₁ in
+      let (c, z₃) = needs-out (allOf wellInserted (byteOps r)) _ _ z₂ in
+      let (d, z₄) = needs-out (chained (byteOps r)) _ _ z₃ in
+      let (e, z₅) = needs-out (adds r) _ _ z₄ in
       let b₂ = both (allOf soundEntry (entries r)) _ .0 (unfold sound in b) in
       let e₂ = eq-and (base (byteOps r)) (baseOf r) _ .0 (unfold adds in e) in
       record {
@@ -89,9 +89,9 @@ faultless r = (
         target-is = eqb→eq (total givesChars (byteOps r)) (targetOf r) (e₂ .1);
       },
   λ f.
-      needs-in (inLimits r) 1 _ (f .in-limits)
-      ∙ needs-in (sound r) 2 _ (unfold sound in both (allOf soundEntry (entries r)) _ .1 (f .sound, equal-T (f .adds-up)))
-      ∙ needs-in (allOf wellInserted (byteOps r)) 3 _ (f .texts)
-      ∙ needs-in (chained (byteOps r)) 4 _ (f .chain)
-      ∙ needs-in (adds r) 5 0 (unfold adds in eq-and (base (byteOps r)) (baseOf r) _ .1 (f .base-is, equal-T (f .target-is))),
+      needs-in (inLimits r) _ _ (f .in-limits)
+      ∙ needs-in (sound r) _ _ (unfold sound in both (allOf soundEntry (entries r)) _ .1 (f .sound, equal-T (f .adds-up)))
+      ∙ needs-in (allOf wellInserted (byteOps r)) _ _ (f .texts)
+      ∙ needs-in (chained (byteOps r)) _ _ (f .chain)
+      ∙ needs-in (adds r) _ 0 (unfold adds in eq-and (base (byteOps r)) (baseOf r) _ .1 (f .base-is, equal-T (f .target-is))),
 )

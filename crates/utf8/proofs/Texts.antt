@@ -2,7 +2,7 @@
 use Prim.Native.Nat.{ℕ, zero, suc, _≤_, _<_, zero-le}
 use native.Mathlib.Omega.{arith}
 use mathlib.Core.Path.{_≡_, refl, ap, ap₂, sym, _∙_}
-use mathlib.Core.Logic.{_≢_}
+use mathlib.Core.Logic.{_≢_, _↔_}
 use mathlib.Core.HLevel.{isProp→PathP}
 use mathlib.Core.Bool.{Bool, true, false, cond}
 use mathlib.Core.List.{List, [], _∷_, _++_, map, append-assoc}
@@ -148,3 +148,14 @@ letter-b = record { bytes = 0x62 ∷ []; well = tt }
 pub a≢b : letter-a ≢ letter-b
 unfolding letter-a letter-b
 a≢b e = let f : _≡_ {A = List ℕ} (0x61 ∷ []) (0x62 ∷ []) = ap (λ (c : Char). c .bytes) e in let z : _≡_ {A = ℕ} 0x61 0x62 = cc f in omega arith
+
+-- ---- RFC 3629's UTF8-octets = *( UTF8-char )
+
+-- some characters have these bytes
+pub record Octets (t : List ℕ) : Type 0 where
+  pub characters : List Char
+  pub theirs : bytes characters ≡ t
+
+-- a text is well-formed exactly where it is the bytes of some characters
+pub octets : (t : List ℕ) → T (wellFormed t) ↔ Octets t
+octets t = (λ h. record { characters = chars t; theirs = bytes-chars t h }, λ o. rw (← o .theirs) (bytes-well (o .characters)))

@@ -1,0 +1,89 @@
+// Answers in words on standard output.
+ghost use Prim.Native.Nat.{_<_};
+use operation::Fact;
+use operation::Noop;
+use operation::Refusal;
+
+pub fn text(t: &[u8]) {
+    io::write_all(1, t);
+}
+
+pub fn number(n: u64) {
+    io::print_decimal(1, n);
+}
+
+pub fn yes_or_no(b: bool) {
+    if b {
+        text(b"yes");
+    } else {
+        text(b"no");
+    }
+}
+
+fn number_of(x: Refusal) -> u64 {
+    match x {
+        Refusal::Size => 1,
+        Refusal::Entry => 2,
+        Refusal::Utf8 => 3,
+        Refusal::Neighbours => 4,
+        Refusal::Sums => 5,
+        Refusal::Log => 6,
+        Refusal::Revision => 7,
+        Refusal::IncompatibleLengths => 8,
+        Refusal::Limit => 9,
+        Refusal::Room => 10,
+    }
+}
+
+pub fn refusal(x: Refusal) {
+    text(b"refused ");
+    number(number_of(x));
+}
+
+pub fn fact(f: Fact) {
+    match f {
+        Fact::Is(n) => number(n as u64),
+        Fact::Refused(x) => refusal(x),
+    }
+}
+
+pub fn noop(n: Noop) {
+    match n {
+        Noop::Is(b) => yes_or_no(b),
+        Noop::Refused(x) => refusal(x),
+    }
+}
+
+// Short ones in hexadecimal; of long ones the length and a sum.
+pub fn bytes(t: &[u8]) {
+    if t.len() == 0 {
+        text(b"empty");
+    } else if t.len() <= 64 {
+        hexadecimal(t);
+    } else {
+        number(t.len() as u64);
+        text(b" bytes, sum ");
+        number(sum(t));
+    }
+}
+
+fn wide(x: u8) -> u64
+    ensures { λ r. ⌜ r < 256 ⌝ }
+{
+    x as u64
+}
+
+fn hexadecimal(t: &[u8]) {
+    for i in 0..t.len() {
+        io::print_hex(1, wide(t[i]), 2);
+    }
+}
+
+// Each byte weighed by its place.
+fn sum(t: &[u8]) -> u64 {
+    let mut n: u64 = 0;
+    for i in 0..t.len() {
+        n = (n * 31 + wide(t[i])) % 4294967291;
+    }
+    n
+}
