@@ -17,7 +17,7 @@ pub struct State {
     pub number: u64,
 }
 
-pub fn fresh(start: usize) -> State {
+pub(crate) fn fresh(start: usize) -> State {
     State {
         start,
         mode: 0,
@@ -102,7 +102,7 @@ fn repeated(s: State, times: u64, buf: &mut [u8]) -> State {
 }
 
 // What a number was for, once it has ended.
-pub fn settled(s: State, buf: &mut [u8]) -> State {
+pub(crate) fn settled(s: State, buf: &mut [u8]) -> State {
     let v = s.value;
     if s.mode == 3 {
         let t = pushed(s, (v % 256) as u8, buf);
@@ -203,7 +203,7 @@ fn counted(s: State, c: u8) -> State {
     }
 }
 
-pub fn feed(s: State, c: u8, buf: &mut [u8]) -> State {
+pub(crate) fn feed(s: State, c: u8, buf: &mut [u8]) -> State {
     let mode = s.mode;
     match mode {
         0 => {

@@ -4,15 +4,15 @@ use operation::Fact;
 use operation::Noop;
 use operation::Refusal;
 
-pub fn text(t: &[u8]) {
+pub(crate) fn text(t: &[u8]) {
     io::write_all(1, t);
 }
 
-pub fn number(n: u64) {
+pub(crate) fn number(n: u64) {
     io::print_decimal(1, n);
 }
 
-pub fn yes_or_no(b: bool) {
+pub(crate) fn yes_or_no(b: bool) {
     if b {
         text(b"yes");
     } else {
@@ -35,19 +35,19 @@ fn number_of(x: Refusal) -> u64 {
     }
 }
 
-pub fn refusal(x: Refusal) {
+pub(crate) fn refusal(x: Refusal) {
     text(b"refused ");
     number(number_of(x));
 }
 
-pub fn fact(f: Fact) {
+pub(crate) fn fact(f: Fact) {
     match f {
         Fact::Is(n) => number(n as u64),
         Fact::Refused(x) => refusal(x),
     }
 }
 
-pub fn noop(n: Noop) {
+pub(crate) fn noop(n: Noop) {
     match n {
         Noop::Is(b) => yes_or_no(b),
         Noop::Refused(x) => refusal(x),
@@ -55,7 +55,7 @@ pub fn noop(n: Noop) {
 }
 
 // Short ones in hexadecimal; of long ones the length and a sum.
-pub fn bytes(t: &[u8]) {
+pub(crate) fn bytes(t: &[u8]) {
     if t.len() == 0 {
         text(b"empty");
     } else if t.len() <= 64 {

@@ -8,7 +8,7 @@ ghost use Rattle.operation.specs.Record.{inLimits};
 ghost use Rattle.operation.specs.Checks.{entriesOf, mayFollow, outcome, start, Passes, Passing, Sound, Reached};
 
 // Refusal 1 is not found.
-pub fn in_limits(rec: &[u8]) -> bool
+pub(crate) fn in_limits(rec: &[u8]) -> bool
     ensures { λ r. ⌜ r ≡ inLimits (now (rec .entry)) ⌝ }
 {
     if rec.len() < 8 {
@@ -32,12 +32,12 @@ pub fn in_limits(rec: &[u8]) -> bool
 }
 
 // A kind or a count that can't be, or the sum of the insert counts.
-pub enum Entries {
+pub(crate) enum Entries {
     Unsound,
     Inserts(usize),
 }
 
-pub fn sum_inserts(rec: &[u8], n: usize) -> Entries
+pub(crate) fn sum_inserts(rec: &[u8], n: usize) -> Entries
     requires { ⌜ (n ≡ recordsOf (now rec)) × (n ≤ 1024) × (textStart n ≤ length (now rec)) ⌝ }
     ensures { λ r. ⌜ r ≡ entriesOf (now (rec .entry)) ⌝ }
 {
@@ -64,7 +64,7 @@ pub fn sum_inserts(rec: &[u8], n: usize) -> Entries
 }
 
 // An insert that isn't well-formed, or whether all neighbours may stand so, with the sums.
-pub enum Body {
+pub(crate) enum Body {
     IllFormed,
     Of {
         linked: bool,
@@ -74,7 +74,7 @@ pub enum Body {
 }
 
 // On the way: where the next insert's text begins, the kind before (0 at first), and the same so far.
-pub struct Pass {
+pub(crate) struct Pass {
     pub at: usize,
     pub last: u8,
     pub linked: bool,
@@ -82,7 +82,7 @@ pub struct Pass {
     pub target: usize,
 }
 
-pub enum Passed {
+pub(crate) enum Passed {
     IllFormed,
     On(Pass),
 }
@@ -145,7 +145,7 @@ fn step(rec: &[u8], n: usize, k: usize, p: Pass) -> Passed
     })
 }
 
-pub fn go_through(rec: &[u8], n: usize) -> Body
+pub(crate) fn go_through(rec: &[u8], n: usize) -> Body
     requires { ⌜ (n ≡ recordsOf (now rec)) × Sound (now rec) ⌝ }
     ensures { λ r. ⌜ r ≡ outcome (now (rec .entry)) 0 (start (now (rec .entry))) ⌝ }
 {
@@ -174,7 +174,7 @@ pub fn go_through(rec: &[u8], n: usize) -> Body
 }
 
 // Where the text of record k begins, were it an insert.
-pub fn text_at(rec: &[u8], n: usize, k: usize) -> usize
+pub(crate) fn text_at(rec: &[u8], n: usize, k: usize) -> usize
     requires { ⌜ (n ≡ recordsOf (now rec)) × (k < n) × Sound (now rec) ⌝ }
     ensures { λ r. ⌜ Reached (now (rec .entry)) k r ⌝ }
 {

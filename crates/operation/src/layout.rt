@@ -18,28 +18,28 @@ fn word(rec: &[u8], at: usize) -> usize
     wide(rec[at]) + 256 * wide(rec[at + 1])
 }
 
-pub fn records(rec: &[u8]) -> usize
+pub(crate) fn records(rec: &[u8]) -> usize
     requires { ⌜ 8 ≤ length (now rec) ⌝ }
     ensures { λ r. ⌜ (r ≡ recordsOf (now (rec .entry))) × (r < 65536) ⌝ }
 {
     word(rec, 0)
 }
 
-pub fn text_bytes(rec: &[u8]) -> usize
+pub(crate) fn text_bytes(rec: &[u8]) -> usize
     requires { ⌜ 8 ≤ length (now rec) ⌝ }
     ensures { λ r. ⌜ (r ≡ textBytesOf (now (rec .entry))) × (r < 65536) ⌝ }
 {
     word(rec, 2)
 }
 
-pub fn base(rec: &[u8]) -> usize
+pub(crate) fn base(rec: &[u8]) -> usize
     requires { ⌜ 8 ≤ length (now rec) ⌝ }
     ensures { λ r. ⌜ (r ≡ baseOf (now (rec .entry))) × (r < 65536) ⌝ }
 {
     word(rec, 4)
 }
 
-pub fn target(rec: &[u8]) -> usize
+pub(crate) fn target(rec: &[u8]) -> usize
     requires { ⌜ 8 ≤ length (now rec) ⌝ }
     ensures { λ r. ⌜ (r ≡ targetOf (now (rec .entry))) × (r < 65536) ⌝ }
 {
@@ -47,14 +47,14 @@ pub fn target(rec: &[u8]) -> usize
 }
 
 // Where the text of n records begins.
-pub fn text_start(n: usize) -> usize
+pub(crate) fn text_start(n: usize) -> usize
     requires { ⌜ n < 65536 ⌝ }
     ensures { λ r. ⌜ r ≡ textStart n ⌝ }
 {
     8 + 3 * n
 }
 
-pub fn kind(rec: &[u8], k: usize) -> u8
+pub(crate) fn kind(rec: &[u8], k: usize) -> u8
     requires { ⌜ (textStart (recordsOf (now rec)) ≤ length (now rec)) × (k < recordsOf (now rec)) ⌝ }
     ensures { λ r. ⌜ r ≡ kindAt (now (rec .entry)) k ⌝ }
 {
@@ -62,7 +62,7 @@ pub fn kind(rec: &[u8], k: usize) -> u8
 }
 
 // The count of record k of n.
-pub fn count(rec: &[u8], n: usize, k: usize) -> usize
+pub(crate) fn count(rec: &[u8], n: usize, k: usize) -> usize
     requires { ⌜ (n ≡ recordsOf (now rec)) × (textStart (recordsOf (now rec)) ≤ length (now rec)) × (k < recordsOf (now rec)) ⌝ }
     ensures { λ r. ⌜ (r ≡ countAt (now (rec .entry)) k) × (r < 65536) ⌝ }
 {
