@@ -1,0 +1,9 @@
+-- operational_transform
+pub mod Build
+pub mod Apply
+pub mod Align
+pub mod Compose
+pub mod Transform
+pub mod Invert
+pub mod Output
+pub mod Calls

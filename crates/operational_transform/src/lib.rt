@@ -1,0 +1,1 @@
+// Builders, apply, compose, transform and invert.
