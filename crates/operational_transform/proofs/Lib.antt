@@ -15,4 +15,4 @@ pub mod Loops
 pub mod Outputs
 pub mod Examples
 pub mod Theorems
-pub mod Written
+pub mod Results

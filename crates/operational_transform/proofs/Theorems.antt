@@ -1,4 +1,4 @@
--- The main promises, on sequences of characters. `Written` has what the calls leave in their outputs, and `Symmetry` that no
+-- The main promises, on sequences of characters. `Results` has what the calls leave in their outputs, and `Symmetry` that no
 -- call of transform favours a side.
 use native.Mathlib.Omega.{arith}
 use mathlib.Core.Path.{_≡_, sym, ap, _∙_}

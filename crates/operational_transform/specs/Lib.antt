@@ -7,3 +7,4 @@ pub mod Transform
 pub mod Invert
 pub mod Output
 pub mod Calls
+pub mod Emit

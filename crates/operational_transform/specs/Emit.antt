@@ -1,0 +1,156 @@
+-- The emitter: the builders' sequence, written as a record while it is built. Only contracts of `core` cite this.
+use Prim.Native.Nat.{ℕ, zero, suc, _+_, _*_, _/_, _%_, _^_, _≤_}
+use mathlib.Core.Path.{_≡_}
+use mathlib.Core.Bool.{Bool, true, false, cond, _&&_}
+use mathlib.Core.List.{List, [], _∷_, _++_, map, reverse}
+use lib.Dec.{leb}
+use lib.ListN.{length}
+use Rattle.utf8.specs.Text.{Char, bytes}
+use Rattle.operation.specs.declared.Refusal.the-variants.{Limit, Room}
+use Rattle.operation.specs.Answer.{Answer, gives, refused, number}
+use Rattle.operation.specs.Op.{ifZero, Op, retain, insert, delete, size, base, target}
+use Rattle.operation.specs.Layout.{kindsStart, countsStart, textStart}
+use Rattle.operation.specs.Record.{Seq, inBytes, code, inserted, text}
+use Rattle.operational_transform.specs.declared.Written.{Written}
+use Rattle.operational_transform.specs.declared.Written.the-variants as written
+use Rattle.operational_transform.specs.declared.core.Emitter.{Emitter}
+use Rattle.operational_transform.specs.Build.{addAll}
+
+-- the code's answer, in the paper's numbers
+abbrev pub writtenOf : Written → Answer
+writtenOf (written.Bytes n) = gives (n ∷ [])
+writtenOf (written.Refused x) = refused (number x)
+
+-- ---- bytes laid over a buffer from a place on; what does not fit falls away
+
+unfoldable pub place : List ℕ → List ℕ → List ℕ
+place [] o = o
+place (x ∷ xs) [] = []
+place (x ∷ xs) (y ∷ o) = x ∷ place xs o
+
+unfoldable pub over : ℕ → List ℕ → List ℕ → List ℕ
+unfolding place
+over zero xs o = place xs o
+over (suc p) xs [] = []
+over (suc p) xs (y ∷ o) = y ∷ over p xs o
+
+-- a number in two bytes, cut off above
+abbrev pub bytes16 : ℕ → List ℕ
+bytes16 v = v % 256 ∷ v / 256 % 256 ∷ []
+
+-- ---- the pending group: an insert, a delete and a retain, each of which may be missing
+
+abbrev pub one : ℕ → ℕ
+one c = ifZero c 0 1
+
+-- a record is written where its count is not 0
+unfoldable pub emitted : ℕ → ℕ → ℕ → ℕ → List ℕ → List ℕ
+unfolding over
+emitted n k kind c o = ifZero c o (over (countsStart n + 2 * k) (bytes16 c) (over (kindsStart + k) (kind ∷ []) o))
+
+-- how many records there are once the group is flushed, and the buffer then
+abbrev pub flushedRecords : Emitter → ℕ
+flushedRecords e = e .records + one (e .ins) + one (e .del) + one (e .ret)
+
+unfoldable pub flushed : ℕ → Emitter → List ℕ → List ℕ
+unfolding emitted
+flushed n e o =
+    emitted n (e .records + one (e .ins) + one (e .del)) 1 (e .ret)
+    (emitted n (e .records + one (e .ins)) 3 (e .del) (emitted n (e .records) 2 (e .ins) o))
+
+-- every number of an emitter is at most k
+pub record Under (k : ℕ) (e : Emitter) : Type 0 where
+  pub ins : e .ins ≤ k
+  pub del : e .del ≤ k
+  pub ret : e .ret ≤ k
+  pub records : e .records ≤ k
+  pub text : e .text ≤ k
+  pub base : e .base ≤ k
+  pub target : e .target ≤ k
+
+abbrev pub nothing : Emitter
+nothing = record { ins = 0; del = 0; ret = 0; records = 0; text = 0; base = 0; target = 0 }
+
+-- ---- what an emitter stands for
+
+-- of a sequence held last operation first, the three parallel parts in record order
+unfoldable pub kindsOf : Seq → List ℕ
+unfolding inBytes
+kindsOf [] = []
+kindsOf (o ∷ r) = kindsOf r ++ (code (inBytes o) ∷ [])
+
+unfoldable pub countsOf : Seq → List ℕ
+unfolding inBytes
+countsOf [] = []
+countsOf (o ∷ r) = countsOf r ++ bytes16 (size (inBytes o))
+
+unfoldable pub textsOf : Seq → List ℕ
+unfolding inBytes
+textsOf [] = []
+textsOf (o ∷ r) = textsOf r ++ inserted (inBytes o)
+
+-- these parts at their places in a record of n operations
+unfoldable pub laid : ℕ → Seq → List ℕ → List ℕ → List ℕ
+unfolding kindsOf countsOf over
+laid n r t o = over kindsStart (kindsOf r) (over (countsStart n) (countsOf r) (over (textStart n) t o))
+
+-- an operation in front, unless it is empty
+abbrev pub kept : Op Char → Seq → Seq
+kept o s = ifZero (size o) s (o ∷ s)
+
+abbrev pub group : List Char → ℕ → ℕ → Seq → Seq
+group x d r s = kept (retain r) (kept (delete d) (kept (insert x) s))
+
+-- nothing is flushed yet, or a retain was flushed last and the group has an insert or a delete
+pub data Fresh : List Char → ℕ → Seq → Type 0 where
+  first : {x : List Char} {d : ℕ} → Fresh x d []
+  later-insert : {c : Char} {x : List Char} {d m : ℕ} {s : Seq} → Fresh (c ∷ x) d (retain m ∷ s)
+  later-delete : {x : List Char} {d m : ℕ} {s : Seq} → Fresh x (suc d) (retain m ∷ s)
+
+-- the emitter `e` with the buffer `out` stands for the sequence `acc`, held last operation first, in a record of n operations that
+-- is written over `out0`
+pub record Rep (n : ℕ) (out0 : List ℕ) (acc : Seq) (e : Emitter) (out : List ℕ) : Type 0 where
+  pub done : Seq
+  pub held : List Char
+  pub fresh : Fresh held (e .del) done
+  pub is : acc ≡ group held (e .del) (e .ret) done
+  pub ins : length (bytes held) ≡ e .ins
+  pub records : length done ≡ e .records
+  pub text : length (textsOf done ++ bytes held) ≡ e .text
+  pub base-is : base acc ≡ e .base
+  pub target-is : target acc ≡ e .target
+  pub wrote : e .records ≤ n → out ≡ laid n done (textsOf done ++ bytes held) out0
+
+-- the emitter takes operations as the builders do
+pub record Adds (n : ℕ) (ops : Seq) (e : Emitter) (o : List ℕ) (e′ : Emitter) (o′ : List ℕ) : Type 0 where
+  pub keeps : (out0 : List ℕ) (acc : Seq) → Rep n out0 acc e o → Rep n out0 (addAll acc ops) e′ o′
+  pub under : (k : ℕ) → Under k e → Under (k + 70000 * length ops) e′
+
+-- a retain writes nothing
+pub record Retains (k : ℕ) (e e′ : Emitter) : Type 0 where
+  pub adds : (n : ℕ) (o : List ℕ) → Adds n (retain k ∷ []) e o e′ o
+
+-- the numbers of an emitter that has no group pending are the sizes of a sequence
+pub record Sizes (s : Seq) (e : Emitter) : Type 0 where
+  pub records : e .records ≡ length s
+  pub text-bytes : e .text ≡ length (text (map inBytes s))
+  pub base-is : e .base ≡ base s
+  pub target-is : e .target ≡ target s
+
+-- all is written but the sizes
+pub record Done (n : ℕ) (s : Seq) (out0 : List ℕ) (e : Emitter) (out : List ℕ) : Type 0 where
+  pub small : Under (2 ^ 40) e
+  pub sizes : Sizes s e
+  pub wrote : e .records ≤ n → out ≡ laid n (reverse s) (textsOf (reverse s)) out0
+
+pub record Finishes (n : ℕ) (e : Emitter) (o : List ℕ) (e′ : Emitter) (o′ : List ℕ) : Type 0 where
+  pub done : (out0 : List ℕ) (acc : Seq) → Rep n out0 acc e o → Done n (reverse acc) out0 e′ o′
+
+-- ---- the answer of a call that would write a record of these sizes: 9, then 10
+
+abbrev pub within : Emitter → Bool
+within e = leb (e .records) 1024 && (leb (e .text) 32768 && (leb (e .base) 32768 && leb (e .target) 32768))
+
+unfoldable pub judged : Emitter → ℕ → Written
+judged e room =
+    cond (within e) (cond (leb (textStart (e .records) + e .text) room) (written.Bytes (textStart (e .records) + e .text)) (written.Refused Room)) (written.Refused Limit)

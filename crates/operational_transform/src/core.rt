@@ -1,0 +1,275 @@
+// The emitter: a sequence is built and written as a record at the same time.
+//
+// A built sequence is groups of an insert, a delete and a retain, each of which may be missing. The group that is being
+// built is held as three numbers; an insert's bytes go to the text at once, which only ever grows. Every function takes the
+// number n of records of the whole, so that each byte has its place. A byte that has none in the buffer is not written: a
+// run on an empty buffer yields the sizes.
+use crate::Written;
+use operation::Refusal;
+use operation::core::Front;
+ghost use mathlib.Core.Path.{_≡_};
+ghost use mathlib.Core.List.{[], _∷_};
+ghost use Prim.Native.Nat.{_+_, _-_, _^_, _≤_, min};
+ghost use lib.Dec.{T};
+ghost use lib.ListN.{length, take, drop};
+ghost use Rattle.utf8.specs.Form.{wellFormed};
+ghost use Rattle.utf8.specs.Chars.{numChars};
+ghost use Rattle.utf8.specs.Text.{chars};
+ghost use Rattle.operation.specs.Op.{insert, delete, cut};
+ghost use Rattle.operation.specs.Front.{frontOp, Stands, Cut};
+ghost use Rattle.operational_transform.specs.Emit.{over, bytes16, one, emitted, flushed, flushedRecords, Under, nothing, Adds, Retains, Finishes, judged};
+
+pub struct Emitter {
+    // the pending group: bytes of the insert, characters of the delete and of the retain
+    pub ins: usize,
+    pub del: usize,
+    pub ret: usize,
+    // records written, text bytes, base and target so far
+    pub records: usize,
+    pub text: usize,
+    pub base: usize,
+    pub target: usize,
+}
+
+pub fn put(out: &mut [u8], at: usize, v: u8)
+    ensures { λ _. ⌜ now (out .exit) ≡ over at (v ∷ []) (now (out .entry)) ⌝ }
+{
+    if at < out.len() {
+        out[at] = v;
+    }
+}
+
+pub fn put16(out: &mut [u8], at: usize, v: usize)
+    requires { ⌜ at ≤ 2 ^ 50 ⌝ }
+    ensures { λ _. ⌜ now (out .exit) ≡ over at (bytes16 v) (now (out .entry)) ⌝ }
+{
+    let low = (v % 256) as u8;
+    let high = (v / 256 % 256) as u8;
+    put(out, at, low);
+    put(out, at + 1, high);
+}
+
+// As many of the bytes src[from..to] as have a place.
+pub fn copy(out: &mut [u8], at: usize, src: &[u8], from: usize, to: usize)
+    requires { ⌜ (at ≤ 2 ^ 50) × (from ≤ to) × (to ≤ length (now src)) ⌝ }
+    ensures { λ _. ⌜ now (out .exit) ≡ over at (take (to - from) (drop from (now (src .entry)))) (now (out .entry)) ⌝ }
+{
+    let room = room_behind(out.len(), at);
+    let len = lesser(to - from, room);
+    let mut i = 0;
+    while i < len {
+        out[at + i] = src[from + i];
+        i += 1;
+    }
+}
+
+fn room_behind(len: usize, at: usize) -> usize
+    ensures { λ r. ⌜ r ≡ len - at ⌝ }
+{
+    if at < len { len - at } else { 0 }
+}
+
+pub fn lesser(a: usize, b: usize) -> usize
+    ensures { λ r. ⌜ r ≡ min a b ⌝ }
+{
+    if a < b { a } else { b }
+}
+
+pub fn start() -> Emitter
+    ensures { λ r. ⌜ r ≡ nothing ⌝ }
+{
+    Emitter {
+        ins: 0,
+        del: 0,
+        ret: 0,
+        records: 0,
+        text: 0,
+        base: 0,
+        target: 0,
+    }
+}
+
+// One record, unless its count is 0: the number of records afterwards.
+fn emit(out: &mut [u8], n: usize, records: usize, kind: u8, count: usize) -> usize
+    requires { ⌜ (n ≤ 2 ^ 41) × (records ≤ 2 ^ 41) ⌝ }
+    ensures { λ r. ⌜ (r ≡ records + one count) × (r ≤ records + 1) × (now (out .exit) ≡ emitted n records kind count (now (out .entry))) ⌝ }
+{
+    if count == 0 {
+        return records;
+    }
+    put(out, 8 + records, kind);
+    put16(out, 8 + n + 2 * records, count);
+    records + 1
+}
+
+// The pending group's records: the number of records afterwards.
+fn flush(out: &mut [u8], n: usize, e: Emitter) -> usize
+    requires { ⌜ (n ≤ 2 ^ 40) × Under (2 ^ 40) e ⌝ }
+    ensures { λ r. ⌜ (r ≡ flushedRecords e) × (r ≤ e .records + 3) × (now (out .exit) ≡ flushed n e (now (out .entry))) ⌝ }
+{
+    let x = emit(out, n, e.records, 2, e.ins);
+    let y = emit(out, n, x, 3, e.del);
+    emit(out, n, y, 1, e.ret)
+}
+
+pub fn retain(e: Emitter, k: usize) -> Emitter
+    requires { ⌜ (k ≤ 65536) × Under (2 ^ 40) e ⌝ }
+    ensures { λ r. ⌜ Retains k e r ⌝ }
+{
+    Emitter {
+        ins: e.ins,
+        del: e.del,
+        ret: e.ret + k,
+        records: e.records,
+        text: e.text,
+        base: e.base + k,
+        target: e.target + k,
+    }
+}
+
+pub fn delete(out: &mut [u8], n: usize, e: Emitter, k: usize) -> Emitter
+    requires { ⌜ (k ≤ 65536) × (n ≤ 2 ^ 40) × Under (2 ^ 40) e ⌝ }
+    ensures { λ r. ⌜ Adds n (delete k ∷ []) e (now (out .entry)) r (now (out .exit)) ⌝ }
+{
+    if k == 0 {
+        return e;
+    }
+    if 0 < e.ret {
+        let records = flush(out, n, e);
+        return Emitter {
+            ins: 0,
+            del: k,
+            ret: 0,
+            records,
+            text: e.text,
+            base: e.base + k,
+            target: e.target,
+        };
+    }
+    Emitter {
+        ins: e.ins,
+        del: e.del + k,
+        ret: e.ret,
+        records: e.records,
+        text: e.text,
+        base: e.base + k,
+        target: e.target,
+    }
+}
+
+// The text src[from..to], of `num` characters.
+pub fn insert(
+    out: &mut [u8],
+    n: usize,
+    e: Emitter,
+    src: &[u8],
+    from: usize,
+    to: usize,
+    num: usize,
+) -> Emitter
+    requires { ⌜ (n ≤ 2 ^ 40) × (from ≤ to) × (to ≤ length (now src)) × (to - from ≤ 65536) × T (wellFormed (take (to - from) (drop from (now src)))) × (num ≡ numChars (take (to - from) (drop from (now src)))) × Under (2 ^ 40) e ⌝ }
+    ensures { λ r. ⌜ Adds n (insert (chars (take (to - from) (drop from (now (src .entry))))) ∷ []) e (now (out .entry)) r (now (out .exit)) ⌝ }
+{
+    let len = to - from;
+    if len == 0 {
+        return e;
+    }
+    if 0 < e.ret {
+        let records = flush(out, n, e);
+        copy(out, 8 + 3 * n + e.text, src, from, to);
+        return Emitter {
+            ins: len,
+            del: 0,
+            ret: 0,
+            records,
+            text: e.text + len,
+            base: e.base,
+            target: e.target + num,
+        };
+    }
+    copy(out, 8 + 3 * n + e.text, src, from, to);
+    Emitter {
+        ins: e.ins + len,
+        del: e.del,
+        ret: e.ret,
+        records: e.records,
+        text: e.text + len,
+        base: e.base,
+        target: e.target + num,
+    }
+}
+
+// The first k characters of the front's operation, whose text ends at `mid`.
+pub fn part(
+    out: &mut [u8],
+    n: usize,
+    e: Emitter,
+    src: &[u8],
+    f: Front,
+    k: usize,
+    mid: usize,
+) -> Emitter
+    requires { ⌜ (n ≤ 2 ^ 40) × Stands (now src) f × (k ≤ f .left) × Cut (now src) f k mid × Under (2 ^ 40) e ⌝ }
+    ensures { λ r. ⌜ Adds n (cut k (frontOp (now (src .entry)) f) ∷ []) e (now (out .entry)) r (now (out .exit)) ⌝ }
+{
+    let kind = f.kind;
+    if kind == 1 {
+        return retain(e, k);
+    }
+    if kind == 2 {
+        return insert(out, n, e, src, f.from, mid, k);
+    }
+    delete(out, n, e, k)
+}
+
+// The pending group is written, too.
+pub fn finish(out: &mut [u8], n: usize, e: Emitter) -> Emitter
+    requires { ⌜ (n ≤ 2 ^ 40) × Under (2 ^ 39) e ⌝ }
+    ensures { λ r. ⌜ Finishes n e (now (out .entry)) r (now (out .exit)) ⌝ }
+{
+    let records = flush(out, n, e);
+    Emitter {
+        ins: 0,
+        del: 0,
+        ret: 0,
+        records,
+        text: e.text,
+        base: e.base,
+        target: e.target,
+    }
+}
+
+// The answer of a call that would write what was emitted: 9, then 10.
+pub fn judge(e: Emitter, room: usize) -> Written
+    requires { ⌜ Under (2 ^ 40) e ⌝ }
+    ensures { λ r. ⌜ r ≡ judged e room ⌝ }
+{
+    if 1024 < e.records {
+        return Written::Refused(Refusal::Limit);
+    }
+    if 32768 < e.text {
+        return Written::Refused(Refusal::Limit);
+    }
+    if 32768 < e.base {
+        return Written::Refused(Refusal::Limit);
+    }
+    if 32768 < e.target {
+        return Written::Refused(Refusal::Limit);
+    }
+    let size = 8 + 3 * e.records + e.text;
+    if room < size {
+        return Written::Refused(Refusal::Room);
+    }
+    Written::Bytes(size)
+}
+
+// The sizes, at the front of the record.
+pub fn header(out: &mut [u8], e: Emitter)
+    requires { ⌜ Under (2 ^ 40) e ⌝ }
+    ensures { λ _. ⌜ now (out .exit) ≡ over 6 (bytes16 (e .target)) (over 4 (bytes16 (e .base)) (over 2 (bytes16 (e .text)) (over 0 (bytes16 (e .records)) (now (out .entry))))) ⌝ }
+{
+    put16(out, 0, e.records);
+    put16(out, 2, e.text);
+    put16(out, 4, e.base);
+    put16(out, 6, e.target);
+}
