@@ -49,6 +49,16 @@ ops-start r n at z e p =
     let f = faultless r .0 z in
     ap (map inChars) (ap (byteOpsLeft r 0) (p ∙ ap textStart e) ∙ left-all r (f .adds-up))
 
+pub fault-header : (r : List ℕ) → recordFault r ≡ 0 → 8 ≤ length r
+fault-header r z = limits r .0 (faultless r .0 z .in-limits) .header
+
+pub fault-few : (r : List ℕ) (n : ℕ) → recordFault r ≡ 0 → n ≡ recordsOf r → n ≤ 1024
+fault-few r n z e = omega (arith, limits r .0 (faultless r .0 z .in-limits) .records)
+
+-- what lies ahead of the first front is the whole sequence
+pub first-ahead : (r : List ℕ) (n at : ℕ) (f : Front) → recordFault r ≡ 0 → n ≡ recordsOf r → at ≡ textStart n → Loads r 0 at f → ahead r f ≡ ops r
+first-ahead r n at f z e p l = l .has ∙ ops-start r n at z e p
+
 -- ---- the operation of a front
 
 module _ (r : List ℕ) (f : Front) where

@@ -1,10 +1,9 @@
 // What the layers above use to go through a record that was checked.
 ghost use mathlib.Core.Path.{_≡_};
 ghost use Prim.Native.Nat.{_≤_};
-ghost use lib.ListN.{length};
-ghost use Rattle.operation.specs.Layout.{recordsOf, textStart};
+ghost use Rattle.operation.specs.Layout.{recordsOf, baseOf, targetOf};
 ghost use Rattle.operation.specs.Record.{recordFault, ops};
-ghost use Rattle.operation.specs.Front.{Place, Stands, Loads, Leaves, Cut};
+ghost use Rattle.operation.specs.Front.{Place, Stands, ahead, Loads, Leaves, Cut};
 
 // The front of what lies ahead in a record: a kind (0 at the end), how many characters are left of it, the bytes of
 // its text, and the record behind it. The text of the records behind it begins at `to`.
@@ -14,6 +13,36 @@ pub struct Front {
     pub from: usize,
     pub to: usize,
     pub next: usize,
+}
+
+// The sizes that a checked record states.
+pub fn records(rec: &[u8]) -> usize
+    requires { ⌜ recordFault (now rec) ≡ 0 ⌝ }
+    ensures { λ r. ⌜ (r ≡ recordsOf (now (rec .entry))) × (r ≤ 1024) ⌝ }
+{
+    crate::layout::records(rec)
+}
+
+pub fn base(rec: &[u8]) -> usize
+    requires { ⌜ recordFault (now rec) ≡ 0 ⌝ }
+    ensures { λ r. ⌜ r ≡ baseOf (now (rec .entry)) ⌝ }
+{
+    crate::layout::base(rec)
+}
+
+pub fn target(rec: &[u8]) -> usize
+    requires { ⌜ recordFault (now rec) ≡ 0 ⌝ }
+    ensures { λ r. ⌜ r ≡ targetOf (now (rec .entry)) ⌝ }
+{
+    crate::layout::target(rec)
+}
+
+// The front of a whole record of n.
+pub fn first(rec: &[u8], n: usize) -> Front
+    requires { ⌜ (recordFault (now rec) ≡ 0) × (n ≡ recordsOf (now rec)) × (n ≤ 1024) ⌝ }
+    ensures { λ f. ⌜ Stands (now (rec .entry)) f × (ahead (now (rec .entry)) f ≡ ops (now (rec .entry))) ⌝ }
+{
+    load(rec, n, 0, crate::layout::text_start(n))
 }
 
 // The front at record k of n, where the text of the records from k on begins at `at`.
