@@ -140,7 +140,21 @@ no-fault r z =
     let l = limits r .0 (f .in-limits) in
     record { few = l .records; short = l .text-bytes; room = l .whole; entries-sound = f .sound; adds-up = f .adds-up }
 
+-- the record is refused by this number
+pub record Stopped (r : List ℕ) (x : Refusal) : Type 0 where
+  pub less : ℕ
+  pub fault : recordFault r ≡ suc less
+  pub number-is : number x ≡ suc less
+
 module _ (r : List ℕ) (f : Fact) (p : factOf f ≡ checkCall r) where
+  pub stopped : (x : Refusal) → f ≡ fact.Refused x → Stopped r x
+  unfolding checkCall
+  stopped x q = go (recordFault r) refl (ap factOf (sym q) ∙ p)
+    where
+      go : (k : ℕ) → recordFault r ≡ k → refused (number x) ≡ settle k refused (gives (sizeOf r ∷ [])) → Stopped r x
+      go zero h e = absurd (let z : _≡_ {A = ℕ} 0 1 = cc e in omega arith)
+      go (suc k) h e = record { less = k; fault = h; number-is = (cc e) }
+
   pub same-refusal : (x : Refusal) (g : Answer) → f ≡ fact.Refused x → refused (number x) ≡ settle (recordFault r) refused g
   unfolding checkCall
   same-refusal x g q = go (recordFault r) (ap factOf (sym q) ∙ p)

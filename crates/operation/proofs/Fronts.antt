@@ -99,13 +99,17 @@ module _ (r : List ℕ) (f : Front) (s : Stands r f) where
 
 -- ---- loading
 
-some-ahead : (r : List ℕ) (f : Front) → 0 < f .left → ahead r f ≡ frontOp r f ∷ opsLeft r (f .next) (f .to)
+pub some-ahead : (r : List ℕ) (f : Front) → 0 < f .left → ahead r f ≡ frontOp r f ∷ opsLeft r (f .next) (f .to)
 unfolding ahead
 some-ahead r f h = go (f .left) h
   where
     go : (n : ℕ) → 0 < n → ifZero n [] (frontOp r f ∷ opsLeft r (f .next) (f .to)) ≡ frontOp r f ∷ opsLeft r (f .next) (f .to)
     go zero h = absurd (omega arith)
     go (suc n) h = refl
+
+pub ended-ahead : (r : List ℕ) (f : Front) → Stands r f → f .kind ≡ 0 → ahead r f ≡ []
+unfolding ahead
+ended-ahead r f s e = rw (s .ended e)
 
 pub load-end : (r : List ℕ) (n k at : ℕ) → n ≡ recordsOf r → Place r k at → n ≤ k → Loads r k at (record { kind = 0; left = 0; from = at; to = at; next = k })
 unfolding ahead opsLeft within
@@ -324,7 +328,7 @@ module _ (r : List ℕ) (f : Front) (s : Stands r f) (k : ℕ) where
 
 -- ---- what stays in front
 
-size-rest : {C : Type 0} (k : ℕ) (o : Op C) → size (rest k o) ≡ size o - k
+pub size-rest : {C : Type 0} (k : ℕ) (o : Op C) → size (rest k o) ≡ size o - k
 size-rest k (retain n) = refl
 size-rest k (insert x) = length-drop k x
 size-rest k (delete n) = refl

@@ -16,3 +16,9 @@ pub mod Outputs
 pub mod Examples
 pub mod Theorems
 pub mod Results
+pub mod Widths
+pub mod Over
+pub mod Emitting
+pub mod Adding
+pub mod Delivering
+pub mod Giving

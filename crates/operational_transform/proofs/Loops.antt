@@ -79,7 +79,7 @@ add-text r o = text-typed (reverse (add r o)) ∙ add-typed r o ∙ ap₂ _++_ (
 
 -- ---- the builders on a sequence and on its bytes
 
-empty-bytes : (o : Op Char) → size o ≡ 0 → size (inBytes o) ≡ 0
+pub empty-bytes : (o : Op Char) → size o ≡ 0 → size (inBytes o) ≡ 0
 unfolding inBytes bytes
 empty-bytes (retain n) e = e
 empty-bytes (insert []) e = refl

@@ -124,7 +124,7 @@ pub record Rep (n : ℕ) (out0 : List ℕ) (acc : Seq) (e : Emitter) (out : List
 -- the emitter takes operations as the builders do
 pub record Adds (n : ℕ) (ops : Seq) (e : Emitter) (o : List ℕ) (e′ : Emitter) (o′ : List ℕ) : Type 0 where
   pub keeps : (out0 : List ℕ) (acc : Seq) → Rep n out0 acc e o → Rep n out0 (addAll acc ops) e′ o′
-  pub under : (k : ℕ) → Under k e → Under (k + 70000 * length ops) e′
+  pub under : (k : ℕ) → Under k e → Under (k + 270000 * length ops) e′
 
 -- a retain writes nothing
 pub record Retains (k : ℕ) (e e′ : Emitter) : Type 0 where
@@ -146,11 +146,23 @@ pub record Done (n : ℕ) (s : Seq) (out0 : List ℕ) (e : Emitter) (out : List 
 pub record Finishes (n : ℕ) (e : Emitter) (o : List ℕ) (e′ : Emitter) (o′ : List ℕ) : Type 0 where
   pub done : (out0 : List ℕ) (acc : Seq) → Rep n out0 acc e o → Done n (reverse acc) out0 e′ o′
 
+-- with the sizes in front
+abbrev pub headed : Emitter → List ℕ → List ℕ
+headed e o = over 6 (bytes16 (e .target)) (over 4 (bytes16 (e .base)) (over 2 (bytes16 (e .text)) (over 0 (bytes16 (e .records)) o)))
+
+pub record Writes (n : ℕ) (s : Seq) (out0 out : List ℕ) : Type 0 where
+  pub emitter : Emitter
+  pub before : List ℕ
+  pub done : Done n s out0 emitter before
+  pub is : out ≡ headed emitter before
+
 -- ---- the answer of a call that would write a record of these sizes: 9, then 10
 
 abbrev pub within : Emitter → Bool
 within e = leb (e .records) 1024 && (leb (e .text) 32768 && (leb (e .base) 32768 && leb (e .target) 32768))
 
+abbrev pub sizeIn : Emitter → ℕ
+sizeIn e = textStart (e .records) + e .text
+
 unfoldable pub judged : Emitter → ℕ → Written
-judged e room =
-    cond (within e) (cond (leb (textStart (e .records) + e .text) room) (written.Bytes (textStart (e .records) + e .text)) (written.Refused Room)) (written.Refused Limit)
+judged e room = cond (within e) (cond (leb (sizeIn e) room) (written.Bytes (sizeIn e)) (written.Refused Room)) (written.Refused Limit)

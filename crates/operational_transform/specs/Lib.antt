@@ -8,3 +8,4 @@ pub mod Invert
 pub mod Output
 pub mod Calls
 pub mod Emit
+pub mod Given

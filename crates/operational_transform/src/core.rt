@@ -17,7 +17,7 @@ ghost use Rattle.utf8.specs.Chars.{numChars};
 ghost use Rattle.utf8.specs.Text.{chars};
 ghost use Rattle.operation.specs.Op.{insert, delete, cut};
 ghost use Rattle.operation.specs.Front.{frontOp, Stands, Cut};
-ghost use Rattle.operational_transform.specs.Emit.{over, bytes16, one, emitted, flushed, flushedRecords, Under, nothing, Adds, Retains, Finishes, judged};
+ghost use Rattle.operational_transform.specs.Emit.{over, bytes16, one, emitted, flushed, flushedRecords, Under, nothing, Adds, Retains, Finishes, headed, within, sizeIn, judged};
 
 pub struct Emitter {
     // the pending group: bytes of the insert, characters of the delete and of the retain
@@ -167,7 +167,7 @@ pub fn insert(
     to: usize,
     num: usize,
 ) -> Emitter
-    requires { ⌜ (n ≤ 2 ^ 40) × (from ≤ to) × (to ≤ length (now src)) × (to - from ≤ 65536) × T (wellFormed (take (to - from) (drop from (now src)))) × (num ≡ numChars (take (to - from) (drop from (now src)))) × Under (2 ^ 40) e ⌝ }
+    requires { ⌜ (n ≤ 2 ^ 40) × (from ≤ to) × (to ≤ length (now src)) × (to - from ≤ 2 ^ 18) × T (wellFormed (take (to - from) (drop from (now src)))) × (num ≡ numChars (take (to - from) (drop from (now src)))) × Under (2 ^ 40) e ⌝ }
     ensures { λ r. ⌜ Adds n (insert (chars (take (to - from) (drop from (now (src .entry))))) ∷ []) e (now (out .entry)) r (now (out .exit)) ⌝ }
 {
     let len = to - from;
@@ -239,34 +239,49 @@ pub fn finish(out: &mut [u8], n: usize, e: Emitter) -> Emitter
     }
 }
 
+// Whether what was emitted keeps the limits.
+pub fn keeps_limits(e: Emitter) -> bool
+    ensures { λ r. ⌜ r ≡ within e ⌝ }
+{
+    if 1024 < e.records {
+        return false;
+    }
+    if 32768 < e.text {
+        return false;
+    }
+    if 32768 < e.base {
+        return false;
+    }
+    e.target <= 32768
+}
+
+// How many bytes the record has.
+pub fn size(e: Emitter) -> usize
+    requires { ⌜ Under (2 ^ 40) e ⌝ }
+    ensures { λ r. ⌜ r ≡ sizeIn e ⌝ }
+{
+    8 + 3 * e.records + e.text
+}
+
 // The answer of a call that would write what was emitted: 9, then 10.
 pub fn judge(e: Emitter, room: usize) -> Written
     requires { ⌜ Under (2 ^ 40) e ⌝ }
     ensures { λ r. ⌜ r ≡ judged e room ⌝ }
 {
-    if 1024 < e.records {
+    if !keeps_limits(e) {
         return Written::Refused(Refusal::Limit);
     }
-    if 32768 < e.text {
-        return Written::Refused(Refusal::Limit);
-    }
-    if 32768 < e.base {
-        return Written::Refused(Refusal::Limit);
-    }
-    if 32768 < e.target {
-        return Written::Refused(Refusal::Limit);
-    }
-    let size = 8 + 3 * e.records + e.text;
-    if room < size {
+    let bytes = size(e);
+    if room < bytes {
         return Written::Refused(Refusal::Room);
     }
-    Written::Bytes(size)
+    Written::Bytes(bytes)
 }
 
 // The sizes, at the front of the record.
 pub fn header(out: &mut [u8], e: Emitter)
     requires { ⌜ Under (2 ^ 40) e ⌝ }
-    ensures { λ _. ⌜ now (out .exit) ≡ over 6 (bytes16 (e .target)) (over 4 (bytes16 (e .base)) (over 2 (bytes16 (e .text)) (over 0 (bytes16 (e .records)) (now (out .entry))))) ⌝ }
+    ensures { λ _. ⌜ now (out .exit) ≡ headed e (now (out .entry)) ⌝ }
 {
     put16(out, 0, e.records);
     put16(out, 2, e.text);

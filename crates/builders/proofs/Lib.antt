@@ -1,0 +1,3 @@
+-- builders
+pub mod Repeating
+pub mod Extending

@@ -1,0 +1,139 @@
+// The Rust's `retain`, `delete` and `insert`, on records.
+use operation::Fact;
+use operation::Refusal;
+use operational_transform::Written;
+use operational_transform::core::Emitter;
+ghost use mathlib.Core.Path.{_≡_};
+ghost use mathlib.Core.List.{[], _∷_};
+ghost use Prim.Native.Nat.{_^_, _≤_};
+ghost use lib.Dec.{T};
+ghost use Rattle.utf8.specs.Form.{wellFormed};
+ghost use Rattle.operation.specs.Layout.{recordsOf};
+ghost use Rattle.operation.specs.Record.{ops, recordFault};
+ghost use Rattle.operational_transform.specs.Build.{extend};
+ghost use Rattle.operational_transform.specs.Calls.{deliver, retainCall, deleteCall, insertCall};
+ghost use Rattle.operational_transform.specs.Emit.{writtenOf, Under, Adds, Done, Writes};
+ghost use Rattle.operational_transform.specs.Given.{Gives};
+ghost use Rattle.builders.specs.Extending.{opOf, countOf, Repeats};
+
+// The operation that is added: an insert's text goes with it.
+enum Added {
+    Retain(u64),
+    Insert,
+    Delete(u64),
+}
+
+// As a record would count it: an insert in bytes.
+fn count(x: Added, text: &[u8]) -> u64
+    ensures { λ r. ⌜ r ≡ countOf x (now (text .entry)) ⌝ }
+{
+    match x {
+        Added::Retain(n) => n,
+        Added::Insert => text.len() as u64,
+        Added::Delete(n) => n,
+    }
+}
+
+// The operations that the record has already.
+fn repeat(rec: &[u8], records: usize, out: &mut [u8], n: usize) -> Emitter
+    requires { ⌜ (recordFault (now rec) ≡ 0) × (records ≡ recordsOf (now rec)) × (records ≤ 1024) × (n ≤ 2 ^ 40) ⌝ }
+    ensures { λ r. ⌜ Repeats n (now (rec .entry)) (now (out .entry)) r (now (out .exit)) ⌝ }
+{
+    let mut e = operational_transform::core::start();
+    let mut f = operation::core::first(rec, records);
+    while f.kind != 0 {
+        e = operational_transform::core::part(out, n, e, rec, f, f.left, f.to);
+        f = operation::core::load(rec, records, f.next, f.to);
+    }
+    e
+}
+
+fn add(out: &mut [u8], n: usize, e: Emitter, text: &[u8], x: Added) -> Emitter
+    requires { ⌜ (n ≤ 2 ^ 40) × Under (2 ^ 38) e × T (wellFormed (now text)) × (countOf x (now text) ≤ 32768) ⌝ }
+    ensures { λ r. ⌜ Adds n (opOf x (now (text .entry)) ∷ []) e (now (out .entry)) r (now (out .exit)) ⌝ }
+{
+    match x {
+        Added::Retain(k) => operational_transform::core::retain(e, k as usize),
+        Added::Insert => {
+            let chars = utf8::num_chars(text);
+            operational_transform::core::insert(out, n, e, text, 0, text.len(), chars)
+        }
+        Added::Delete(k) => operational_transform::core::delete(out, n, e, k as usize),
+    }
+}
+
+// The record and the operation, for a result of n records.
+fn run(rec: &[u8], records: usize, text: &[u8], x: Added, out: &mut [u8], n: usize) -> Emitter
+    requires { ⌜ (recordFault (now rec) ≡ 0) × (records ≡ recordsOf (now rec)) × (records ≤ 1024) × T (wellFormed (now text)) × (countOf x (now text) ≤ 32768) × (n ≤ 2 ^ 40) ⌝ }
+    ensures { λ r. ⌜ Done n (extend (ops (now (rec .entry))) (opOf x (now (text .entry)))) (now (out .entry)) r (now (out .exit)) ⌝ }
+{
+    let e = repeat(rec, records, out, n);
+    let f = add(out, n, e, text, x);
+    operational_transform::core::finish(out, n, f)
+}
+
+// The record of a result of n records.
+fn write(rec: &[u8], records: usize, text: &[u8], x: Added, out: &mut [u8], n: usize)
+    requires { ⌜ (recordFault (now rec) ≡ 0) × (records ≡ recordsOf (now rec)) × (records ≤ 1024) × T (wellFormed (now text)) × (countOf x (now text) ≤ 32768) × (n ≤ 2 ^ 40) ⌝ }
+    ensures { λ _. ⌜ Writes n (extend (ops (now (rec .entry))) (opOf x (now (text .entry)))) (now (out .entry)) (now (out .exit)) ⌝ }
+{
+    let e = run(rec, records, text, x, out, n);
+    operational_transform::core::header(out, e);
+}
+
+// Of a record and a text that were checked. What counts more than a limit lets no result within the limits.
+fn extended(rec: &[u8], text: &[u8], x: Added, out: &mut [u8]) -> Written
+    requires { ⌜ (recordFault (now rec) ≡ 0) × T (wellFormed (now text)) ⌝ }
+    ensures { λ r. ⌜ Gives (deliver 0 (extend (ops (now (rec .entry))) (opOf x (now (text .entry)))) (now (out .entry))) r (now (out .exit)) ⌝ }
+{
+    let size = count(x, text);
+    if 32768 < size {
+        return Written::Refused(Refusal::Limit);
+    }
+    let records = operation::core::records(rec);
+    let mut none = [0u8; 1];
+    let e = run(rec, records, text, x, &mut none, 0);
+    let n = e.records;
+    match operational_transform::core::judge(e, out.len()) {
+        Written::Refused(y) => Written::Refused(y),
+        Written::Bytes(k) => {
+            write(rec, records, text, x, out, n);
+            Written::Bytes(k)
+        }
+    }
+}
+
+// The record with a retain of n characters behind it.
+pub fn retain(rec: &[u8], n: u64, out: &mut [u8]) -> Written
+    ensures { λ r. ⌜ (writtenOf r ≡ retainCall (now (rec .entry)) n (now (out .entry)) .answer) × (now (out .exit) ≡ retainCall (now (rec .entry)) n (now (out .entry)) .out) ⌝ }
+{
+    match operation::check(rec) {
+        Fact::Refused(x) => Written::Refused(x),
+        Fact::Is(_) => extended(rec, b"", Added::Retain(n), out),
+    }
+}
+
+// The record with a delete of n characters behind it.
+pub fn delete(rec: &[u8], n: u64, out: &mut [u8]) -> Written
+    ensures { λ r. ⌜ (writtenOf r ≡ deleteCall (now (rec .entry)) n (now (out .entry)) .answer) × (now (out .exit) ≡ deleteCall (now (rec .entry)) n (now (out .entry)) .out) ⌝ }
+{
+    match operation::check(rec) {
+        Fact::Refused(x) => Written::Refused(x),
+        Fact::Is(_) => extended(rec, b"", Added::Delete(n), out),
+    }
+}
+
+// The record with the text inserted: behind its last operation, or before it where that is a delete.
+pub fn insert(rec: &[u8], text: &[u8], out: &mut [u8]) -> Written
+    ensures { λ r. ⌜ (writtenOf r ≡ insertCall (now (rec .entry)) (now (text .entry)) (now (out .entry)) .answer) × (now (out .exit) ≡ insertCall (now (rec .entry)) (now (text .entry)) (now (out .entry)) .out) ⌝ }
+{
+    match operation::check(rec) {
+        Fact::Refused(x) => Written::Refused(x),
+        Fact::Is(_) => {
+            if !utf8::well_formed(text) {
+                return Written::Refused(Refusal::Utf8);
+            }
+            extended(rec, text, Added::Insert, out)
+        }
+    }
+}

@@ -1,0 +1,116 @@
+-- The loop of compose, and its answers.
+use Prim.Native.Nat.{ℕ, suc, _+_, _*_, _^_, _≤_, _<_}
+use native.Mathlib.Omega.{arith}
+use mathlib.Core.Path.{_≡_, refl, sym, ap, ap₂, _∙_}
+use mathlib.Core.Bool.{false}
+use mathlib.Core.List.{List, [], _∷_, reverse}
+use lib.Dec.{eqb}
+use lib.ListN.{length}
+use borrow.Author.Tests.{eq-eqb, ne-eqb}
+use Rattle.operation.specs.declared.Refusal.{Refusal}
+use Rattle.operation.specs.declared.Refusal.the-variants.{IncompatibleLengths}
+use Rattle.operation.specs.declared.Fact.{Fact}
+use Rattle.operation.specs.declared.Fact.the-variants as fact
+use Rattle.operation.specs.declared.core.Front.{Front}
+use Rattle.operation.specs.Answer.{number, factOf, needs, first}
+use Rattle.operation.specs.Layout.{recordsOf, baseOf, targetOf}
+use Rattle.operation.specs.Record.{Seq, ops, recordFault}
+use Rattle.operation.specs.Calls.{checkCall}
+use Rattle.operation.specs.Front.{ahead, Stands}
+use Rattle.operation.proofs.Fronts.{ended-ahead, fault-few}
+use Rattle.operation.proofs.Records.{ops-length}
+use Rattle.operation.proofs.Answers.{Stopped, stopped}
+use Rattle.operational_transform.specs.declared.Written.{Written}
+use Rattle.operational_transform.specs.declared.Written.the-variants as written
+use Rattle.operational_transform.specs.declared.core.Emitter.{Emitter}
+use Rattle.operational_transform.specs.Compose.{composeTurn, made, compose}
+use Rattle.operational_transform.specs.Calls.{recordsFault, deliver, composeCall}
+use Rattle.operational_transform.specs.Emit.{Under, nothing, Rep, Done, Finishes, Writes, judged}
+use Rattle.operational_transform.proofs.Loops.{run-end, compose-runs}
+use Rattle.operational_transform.proofs.Adding.{rep-start, under-start, under-more}
+use Rattle.operational_transform.specs.Given.{Gives}
+use Rattle.operational_transform.proofs.Giving.{refuses, gives-refused, gives-written}
+use Rattle.turns.specs.Turns.{liveIs}
+use Rattle.turns.proofs.Turning.{both-ended}
+use Rattle.compose.specs.declared.State.{State}
+use Rattle.compose.specs.Composing.{still, Went}
+
+pub record Going (n : ℕ) (a b out0 : List ℕ) (s : State) (o : List ℕ) : Type 0 where
+  pub stands-x : Stands a (s .x)
+  pub stands-y : Stands b (s .y)
+  pub turns : ℕ
+  pub bound : turns + (length (ahead a (s .x)) + length (ahead b (s .y))) ≤ 2048
+  pub under : Under (270000 * turns) (s .e)
+  pub acc : Seq
+  pub rep : Rep n out0 acc (s .e) o
+  pub left : still acc (ahead a (s .x)) (ahead b (s .y)) ≡ still [] (ops a) (ops b)
+
+pub going-start : (n : ℕ) (a b o : List ℕ) (x y : Front) (e : Emitter) → recordFault a ≡ 0 → recordFault b ≡ 0 → Stands a x → ahead a x ≡ ops a → Stands b y → ahead b y ≡ ops b → e ≡ nothing
+    → Going n a b o (record { x = x; y = y; e = e }) o
+going-start n a b o x y e za zb sx hx sy hy p =
+    rw p (record {
+      stands-x = sx;
+      stands-y = sy;
+      turns = 0;
+      bound = omega (arith, ap length hx, ap length hy, ops-length a za, ops-length b zb, fault-few a (recordsOf a) za refl, fault-few b (recordsOf b) zb refl);
+      under = under-start;
+      acc = [];
+      rep = rep-start n o;
+      left = ap₂ (still []) hx hy;
+    })
+
+pub going-under : (n : ℕ) (a b out0 : List ℕ) (s : State) (o : List ℕ) → Going n a b out0 s o → Under (2 ^ 39) (s .e)
+going-under n a b out0 s o g = under-more (270000 * g .turns) (2 ^ 39) (s .e) (omega (arith, g .bound)) (g .under)
+
+pub going-more : (n : ℕ) (a b out0 : List ℕ) (s : State) (o : List ℕ) (r : State) (o′ : List ℕ) → Going n a b out0 s o → Went n a b s o r o′ → Going n a b out0 r o′
+going-more n a b out0 s o r o′ g w =
+    record {
+      stands-x = w .stands-x;
+      stands-y = w .stands-y;
+      turns = suc (g .turns);
+      bound = omega (arith, g .bound, w .less);
+      under = under-more (270000 * g .turns + 270000 * length (w .given)) (270000 * suc (g .turns)) (r .e) (omega (arith, w .few)) (w .adds .under (270000 * g .turns) (g .under));
+      acc = _;
+      rep = w .adds .keeps out0 (g .acc) (g .rep);
+      left = sym (w .goes (g .acc)) ∙ g .left;
+    }
+
+pub going-done : (n : ℕ) (a b out0 : List ℕ) (s : State) (o : List ℕ) (r : Emitter) (o′ : List ℕ) → liveIs (s .x) (s .y) ≡ false → Going n a b out0 s o → Finishes n (s .e) o r o′
+    → Done n (compose (ops a) (ops b)) out0 r o′
+going-done n a b out0 s o r o′ l g f =
+    let (p, q) = both-ended (s .x) (s .y) l in
+    let e : g .acc ≡ still [] (ops a) (ops b) =
+    sym (ap₂ (still (g .acc)) (ended-ahead a (s .x) (g .stands-x) p) (ended-ahead b (s .y) (g .stands-y) q) ∙ run-end composeTurn made (g .acc)) ∙ g .left in
+    rw (compose-runs (ops a) (ops b), ← e) (f .done out0 (g .acc) (g .rep))
+
+-- ---- the answers
+
+-- what stands in front of 9 and 10
+abbrev faults : List ℕ → List ℕ → ℕ
+faults a b = first (recordsFault a b) (needs (eqb (targetOf a) (baseOf b)) 8 0)
+
+fault-is : (a b o : List ℕ) (x : Refusal) (k : ℕ) → number x ≡ suc k → faults a b ≡ suc k → Gives (composeCall a b o) (written.Refused x) o
+unfolding composeCall
+fault-is a b o x k n e = rw e (refuses (compose (ops a) (ops b)) o k x n)
+
+module _ (a b o : List ℕ) (za : recordFault a ≡ 0) (zb : recordFault b ≡ 0) (t s : ℕ) (pt : t ≡ targetOf a) (ps : s ≡ baseOf b) where
+  pub composes-lengths : (t ≡ s → ⊥) → Gives (composeCall a b o) (written.Refused IncompatibleLengths) o
+  composes-lengths h = fault-is a b o IncompatibleLengths 7 refl (rw (za, zb, ne-eqb (targetOf a) (baseOf b) (λ z. h (pt ∙ z ∙ sym ps))))
+
+  module _ (h : t ≡ s) (e : Emitter) (m q : List ℕ) (d : Done 0 (compose (ops a) (ops b)) m e q) (v : Written) (j : v ≡ judged e (length o)) where
+    passes : (w : Written) (o′ : List ℕ) → Gives (deliver 0 (compose (ops a) (ops b)) o) w o′ → Gives (composeCall a b o) w o′
+    unfolding composeCall
+    passes w o′ g = rw (za, zb, eq-eqb (targetOf a) (baseOf b) (sym pt ∙ h ∙ ps)) g
+
+    pub composes-refused : (x : Refusal) → v ≡ written.Refused x → Gives (composeCall a b o) (written.Refused x) o
+    composes-refused x z = passes (written.Refused x) o (gives-refused (compose (ops a) (ops b)) o e m q d v j x z)
+
+    pub composes-written : (k : ℕ) (o′ : List ℕ) → v ≡ written.Bytes k → Writes (e .records) (compose (ops a) (ops b)) o o′ → Gives (composeCall a b o) (written.Bytes k) o′
+    composes-written k o′ z u = passes (written.Bytes k) o′ (gives-written (compose (ops a) (ops b)) o e m q d v j k o′ z u)
+
+module _ (a b o : List ℕ) (f : Fact) where
+  pub composes-second : recordFault a ≡ 0 → factOf f ≡ checkCall b → (x : Refusal) → f ≡ fact.Refused x → Gives (composeCall a b o) (written.Refused x) o
+  composes-second za p x q = let s = stopped b f p x q in fault-is a b o x (s .less) (s .number-is) (rw (za, s .fault))
+
+  pub composes-first : factOf f ≡ checkCall a → (x : Refusal) → f ≡ fact.Refused x → Gives (composeCall a b o) (written.Refused x) o
+  composes-first p x q = let s = stopped a f p x q in fault-is a b o x (s .less) (s .number-is) (rw (s .fault))

@@ -1,0 +1,3 @@
+-- invert
+pub mod Passing
+pub mod Undoing

@@ -1,0 +1,106 @@
+-- Places in the text, and what undoes an operation there.
+use Prim.Native.Nat.{ℕ, _+_, _-_, _^_, _≤_, _<_}
+use native.Mathlib.Omega.{arith}
+use mathlib.Core.Path.{_≡_, refl, sym, ap, ap₂, _∙_}
+use mathlib.Core.List.{List, [], _∷_, _++_}
+use lib.Dec.{T}
+use lib.ListN.{length, take, drop, length-append, length-take, length-drop}
+use lib.Seq.{drop-drop, take-at, drop-at, length-take-le}
+use borrow.Author.Tests.{eq-eqb, ne-eqb}
+use Rattle.utf8.specs.Form.{wellFormed}
+use Rattle.utf8.specs.Chars.{charsOf, concat, takeChars}
+use Rattle.utf8.specs.Text.{Char, chars, bytes}
+use Rattle.utf8.proofs.Tests.{holds}
+use Rattle.utf8.proofs.Chars.{well-all}
+use Rattle.utf8.proofs.Texts.{chars-bytes, bytes-well, bytes-take, bytes-split}
+use Rattle.operation.specs.declared.core.Front.{Front}
+use Rattle.operation.specs.Op.{insert, delete, size, takes}
+use Rattle.operation.specs.Front.{frontOp, Stands}
+use Rattle.operation.proofs.Fronts.{Kinds, retains, inserts, deletes, kinds, front-size}
+use Rattle.operational_transform.specs.declared.core.Emitter.{Emitter}
+use Rattle.operational_transform.specs.Invert.{undo}
+use Rattle.operational_transform.specs.Emit.{Under, Adds, Retains}
+use Rattle.operational_transform.proofs.Adding.{under-more}
+use Rattle.operational_transform.proofs.Widths.{bytes-most}
+use Rattle.invert.specs.Inverting.{taken, undone, Passes}
+
+-- ---- places
+
+module _ (t : List ℕ) (at : ℕ) (h : at ≤ length t) (w : T (wellFormed (drop at t))) where
+  -- behind the bytes of k characters
+  place : (k to : ℕ) → to ≡ at + length (bytes (take k (chars (drop at t)))) → Passes t at k to
+  place k to e =
+      let x = drop at t in
+      let p = bytes (take k (chars x)) in
+      let q = bytes (drop k (chars x)) in
+      let pq : p ++ q ≡ x = bytes-split k x w in
+      let d : to - at ≡ length p = omega arith in
+      let i : drop to t ≡ q = ap (λ j. drop j t) e ∙ sym (drop-drop (length p) at t) ∙ ap (drop (length p)) (sym pq) ∙ drop-at p q (length p) refl in
+      record {
+        above = omega arith;
+        below = omega (arith, ap length pq, length-append p q, length-drop at t);
+        part = ap₂ take d (sym pq) ∙ take-at p q (length p) refl;
+        left = ap chars i ∙ chars-bytes (drop k (chars x));
+        well = rw i (bytes-well (drop k (chars x)));
+      }
+
+  pub stays : (f : Front) → f .kind ≡ 2 → Passes t at (taken f) at
+  unfolding bytes
+  stays f e = rw (eq-eqb (f .kind) 2 e) (place 0 at (omega arith))
+
+  pub moves : (f : Front) (to : ℕ) → (f .kind ≡ 2 → ⊥) → to ≡ at + length (takeChars (f .left) (drop at t)) → Passes t at (taken f) to
+  moves f to e p = rw (ne-eqb (f .kind) 2 e) (place (f .left) to (p ∙ ap (λ l. at + length l) skipped))
+    where
+      skipped : takeChars (f .left) (drop at t) ≡ bytes (take (f .left) (chars (drop at t)))
+      skipped = ap (λ l. l ++ concat (take (f .left) (charsOf (drop at t)))) (well-all (drop at t) (holds (wellFormed (drop at t)) w) .0) ∙ sym (bytes-take (f .left) (drop at t) w)
+
+-- ---- what is given
+
+pub under-room : (e : Emitter) → Under (2 ^ 39) e → Under (2 ^ 40) e
+under-room e u = under-more (2 ^ 39) (2 ^ 40) e (omega arith) u
+
+module _ (t : List ℕ) (f : Front) (at to : ℕ) (p : Passes t at (taken f) to) where
+  pub part-well : T (wellFormed (take (to - at) (drop at t)))
+  part-well = rw (p .part) (bytes-well (take (taken f) (chars (drop at t))))
+
+  -- at most four bytes for each character
+  pub part-few : f .left < 65536 → (f .kind ≡ 2 → ⊥) → to - at ≤ 2 ^ 18
+  part-few s e =
+      let x = take (taken f) (chars (drop at t)) in
+      let l : length (take (to - at) (drop at t)) ≡ to - at = length-take-le (to - at) (drop at t) (omega (arith, p .below, length-drop at t)) in
+      let k : taken f ≡ f .left = rw (ne-eqb (f .kind) 2 e) in
+      omega (arith, l, ap length (p .part), bytes-most x, length-take (taken f) (chars (drop at t)))
+
+  module _ (n : ℕ) (e : Emitter) (o : List ℕ) (r : Emitter) where
+    pub gives-retain : f .kind ≡ 1 → Retains (f .left) e r → Adds n (undone f (chars (drop at t)) ∷ []) e o r o
+    gives-retain z a = rw (eq-eqb (f .kind) 1 z) (a .adds n o)
+
+    module _ (y : f .kind ≡ 1 → ⊥) (o′ : List ℕ) where
+      pub gives-delete : f .kind ≡ 2 → Adds n (delete (f .left) ∷ []) e o r o′ → Adds n (undone f (chars (drop at t)) ∷ []) e o r o′
+      gives-delete z a = rw (ne-eqb (f .kind) 1 y, eq-eqb (f .kind) 2 z) a
+
+      pub gives-insert : (f .kind ≡ 2 → ⊥) → Adds n (insert (chars (take (to - at) (drop at t))) ∷ []) e o r o′ → Adds n (undone f (chars (drop at t)) ∷ []) e o r o′
+      gives-insert z a =
+          let k : taken f ≡ f .left = rw (ne-eqb (f .kind) 2 z) in
+          let x : chars (take (to - at) (drop at t)) ≡ take (f .left) (chars (drop at t)) =
+          ap chars (p .part) ∙ chars-bytes (take (taken f) (chars (drop at t))) ∙ ap (λ j. take j (chars (drop at t))) k in
+          rw (ne-eqb (f .kind) 1 y, ne-eqb (f .kind) 2 z) (rw x at a)
+
+-- ---- a front's operation
+
+module _ (r : List ℕ) (f : Front) (s : Stands r f) where
+  pub taken-is : taken f ≡ takes (frontOp r f)
+  taken-is = go (kinds r f)
+    where
+      go : Kinds r f → taken f ≡ takes (frontOp r f)
+      go (retains e p) = rw (eq-eqb (f .kind) 1 e, ne-eqb (f .kind) 2 (λ z. absurd (omega arith)))
+      go (inserts e p) = rw (ne-eqb (f .kind) 1 (λ z. absurd (omega arith)), eq-eqb (f .kind) 2 e)
+      go (deletes d e p) = rw (ne-eqb (f .kind) 1 d, ne-eqb (f .kind) 2 e)
+
+  pub undone-is : (t : List Char) → undone f t ≡ undo (frontOp r f) t
+  undone-is t = go (kinds r f)
+    where
+      go : Kinds r f → undone f t ≡ undo (frontOp r f) t
+      go (retains e p) = rw (eq-eqb (f .kind) 1 e)
+      go (inserts e p) = rw (ne-eqb (f .kind) 1 (λ z. absurd (omega arith)), eq-eqb (f .kind) 2 e) (ap delete (sym (front-size r f s) ∙ ap size p))
+      go (deletes d e p) = rw (ne-eqb (f .kind) 1 d, ne-eqb (f .kind) 2 e)

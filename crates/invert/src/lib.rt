@@ -1,0 +1,114 @@
+// The Rust's `invert`, on records.
+use operation::Fact;
+use operation::Refusal;
+use operation::core::Front;
+use operational_transform::Written;
+use operational_transform::core::Emitter;
+ghost use mathlib.Core.Path.{_≡_};
+ghost use mathlib.Core.List.{[], _∷_};
+ghost use Prim.Native.Nat.{_^_, _≤_, _<_};
+ghost use lib.Dec.{T};
+ghost use lib.ListN.{length, drop};
+ghost use Rattle.utf8.specs.Form.{wellFormed};
+ghost use Rattle.utf8.specs.Text.{chars};
+ghost use Rattle.operation.specs.Layout.{recordsOf};
+ghost use Rattle.operation.specs.Record.{ops, recordFault};
+ghost use Rattle.operational_transform.specs.Invert.{invert as invertOf};
+ghost use Rattle.operational_transform.specs.Calls.{deliver, invertCall};
+ghost use Rattle.operational_transform.specs.Emit.{writtenOf, Under, Adds, Done, Writes};
+ghost use Rattle.operational_transform.specs.Given.{Gives};
+ghost use Rattle.invert.specs.Inverting.{taken, undone, Passes};
+
+// The place in the text behind what the operation takes from it, or the end where the characters run out.
+fn past(text: &[u8], at: usize, f: Front) -> usize
+    requires { ⌜ (at ≤ length (now text)) × T (wellFormed (drop at (now text))) ⌝ }
+    ensures { λ to. ⌜ Passes (now (text .entry)) at (taken f) to ⌝ }
+{
+    if f.kind == 2 {
+        return at;
+    }
+    utf8::core::skip(text, at, f.left)
+}
+
+// What undoes the operation, which takes text[at..to].
+fn give(
+    text: &[u8],
+    out: &mut [u8],
+    n: usize,
+    e: Emitter,
+    f: Front,
+    at: usize,
+    to: usize,
+) -> Emitter
+    requires { ⌜ (n ≤ 2 ^ 40) × Under (2 ^ 39) e × (f .left < 65536) × Passes (now text) at (taken f) to ⌝ }
+    ensures { λ r. ⌜ Adds n (undone f (chars (drop at (now (text .entry)))) ∷ []) e (now (out .entry)) r (now (out .exit)) ⌝ }
+{
+    let kind = f.kind;
+    if kind == 1 {
+        return operational_transform::core::retain(e, f.left);
+    }
+    if kind == 2 {
+        return operational_transform::core::delete(out, n, e, f.left);
+    }
+    let num = utf8::num_chars(&text[at..to]);
+    operational_transform::core::insert(out, n, e, text, at, to, num)
+}
+
+// All of invert, for a result of n records.
+fn run(rec: &[u8], records: usize, text: &[u8], out: &mut [u8], n: usize) -> Emitter
+    requires { ⌜ (recordFault (now rec) ≡ 0) × (records ≡ recordsOf (now rec)) × (records ≤ 1024) × T (wellFormed (now text)) × (n ≤ 2 ^ 40) ⌝ }
+    ensures { λ r. ⌜ Done n (invertOf (ops (now (rec .entry))) (chars (now (text .entry)))) (now (out .entry)) r (now (out .exit)) ⌝ }
+{
+    let mut e = operational_transform::core::start();
+    let mut f = operation::core::first(rec, records);
+    let mut at = 0;
+    while f.kind != 0 {
+        let to = past(text, at, f);
+        e = give(text, out, n, e, f, at, to);
+        f = operation::core::load(rec, records, f.next, f.to);
+        at = to;
+    }
+    operational_transform::core::finish(out, n, e)
+}
+
+// The record of a result of n records.
+fn write(rec: &[u8], records: usize, text: &[u8], out: &mut [u8], n: usize)
+    requires { ⌜ (recordFault (now rec) ≡ 0) × (records ≡ recordsOf (now rec)) × (records ≤ 1024) × T (wellFormed (now text)) × (n ≤ 2 ^ 40) ⌝ }
+    ensures { λ _. ⌜ Writes n (invertOf (ops (now (rec .entry))) (chars (now (text .entry)))) (now (out .entry)) (now (out .exit)) ⌝ }
+{
+    let e = run(rec, records, text, out, n);
+    operational_transform::core::header(out, e);
+}
+
+// Of a record and a text that were checked.
+fn inverted(rec: &[u8], text: &[u8], out: &mut [u8]) -> Written
+    requires { ⌜ (recordFault (now rec) ≡ 0) × T (wellFormed (now text)) ⌝ }
+    ensures { λ r. ⌜ Gives (deliver 0 (invertOf (ops (now (rec .entry))) (chars (now (text .entry)))) (now (out .entry))) r (now (out .exit)) ⌝ }
+{
+    let records = operation::core::records(rec);
+    let mut none = [0u8; 1];
+    let e = run(rec, records, text, &mut none, 0);
+    let n = e.records;
+    match operational_transform::core::judge(e, out.len()) {
+        Written::Refused(x) => Written::Refused(x),
+        Written::Bytes(k) => {
+            write(rec, records, text, out, n);
+            Written::Bytes(k)
+        }
+    }
+}
+
+// The sequence that undoes the record's on the text that it was applied to.
+pub fn invert(rec: &[u8], text: &[u8], out: &mut [u8]) -> Written
+    ensures { λ r. ⌜ (writtenOf r ≡ invertCall (now (rec .entry)) (now (text .entry)) (now (out .entry)) .answer) × (now (out .exit) ≡ invertCall (now (rec .entry)) (now (text .entry)) (now (out .entry)) .out) ⌝ }
+{
+    match operation::check(rec) {
+        Fact::Refused(x) => Written::Refused(x),
+        Fact::Is(_) => {
+            if !utf8::well_formed(text) {
+                return Written::Refused(Refusal::Utf8);
+            }
+            inverted(rec, text, out)
+        }
+    }
+}

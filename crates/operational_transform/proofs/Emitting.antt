@@ -1,0 +1,162 @@
+-- The emitter's records and text, at their places in the buffer.
+use Prim.Native.Nat.{ℕ, zero, suc, _+_, _*_, _≤_, _<_}
+use native.Mathlib.Omega.{arith}
+use mathlib.Core.Path.{_≡_, refl, sym, ap, _∙_}
+use mathlib.Core.List.{List, [], _∷_, _++_, append-nil}
+use lib.ListN.{length, length-append}
+use Rattle.utf8.specs.Text.{Char, bytes}
+use Rattle.operation.specs.Op.{Op, retain, insert, delete, size}
+use Rattle.operation.specs.Layout.{kindsStart, countsStart, textStart}
+use Rattle.operation.specs.Record.{Seq, inBytes, code, inserted}
+use Rattle.operation.proofs.Sequences.{inBytes-size}
+use Rattle.operational_transform.specs.declared.core.Emitter.{Emitter}
+use Rattle.operational_transform.specs.Emit.{over, bytes16, one, emitted, flushedRecords, flushed, kindsOf, countsOf, textsOf, laid, kept, group}
+use Rattle.operational_transform.proofs.Meaning.{ifZero-elim}
+use Rattle.operational_transform.proofs.Loops.{empty-bytes}
+use Rattle.operational_transform.proofs.Over.{over-join, over-swap}
+
+one-none : (c : ℕ) → c ≡ 0 → one c ≡ 0
+one-none c e = ap one e
+
+one-some : (c : ℕ) → 0 < c → one c ≡ 1
+one-some zero h = absurd (omega arith)
+one-some (suc c) h = refl
+
+module _ (n k kind c : ℕ) (o : List ℕ) where
+  emitted-none : c ≡ 0 → emitted n k kind c o ≡ o
+  unfolding emitted
+  emitted-none e = rw e
+
+  emitted-some : 0 < c → emitted n k kind c o ≡ over (countsStart n + 2 * k) (bytes16 c) (over (kindsStart + k) (kind ∷ []) o)
+  unfolding emitted
+  emitted-some h = ifZero-elim (λ q. q ≡ over (countsStart n + 2 * k) (bytes16 c) (over (kindsStart + k) (kind ∷ []) o)) c (λ e. absurd (omega arith)) (λ _. refl)
+
+  -- ---- `emit`
+
+  pub emit-none : c ≡ 0 → o ≡ emitted n k kind c o
+  emit-none e = sym (emitted-none e)
+
+  pub emit-some : {o₁ o₂ : List ℕ} → (c ≡ 0 → ⊥) → o₁ ≡ over (kindsStart + k) (kind ∷ []) o → o₂ ≡ over (countsStart n + 2 * k) (bytes16 c) o₁ → o₂ ≡ emitted n k kind c o
+  emit-some z p q = q ∙ ap (over (countsStart n + 2 * k) (bytes16 c)) p ∙ sym (emitted-some (omega arith))
+
+pub count-none : (k c : ℕ) → c ≡ 0 → k ≡ k + one c
+count-none k c e = omega (arith, one-none c e)
+
+pub count-some : (k c : ℕ) → (c ≡ 0 → ⊥) → k + 1 ≡ k + one c
+count-some k c z = omega (arith, one-some c (omega arith))
+
+-- ---- `flush`
+
+module _ (e : Emitter) {x y : ℕ} (p : x ≡ e .records + one (e .ins)) (q : y ≡ x + one (e .del)) where
+  pub count-all : {z : ℕ} → z ≡ y + one (e .ret) → z ≡ flushedRecords e
+  count-all r = simp (r, q, p)
+
+  pub flush-all : (n : ℕ) (o : List ℕ) {o₁ o₂ o₃ : List ℕ} → o₁ ≡ emitted n (e .records) 2 (e .ins) o → o₂ ≡ emitted n x 3 (e .del) o₁ → o₃ ≡ emitted n y 1 (e .ret) o₂
+      → o₃ ≡ flushed n e o
+  unfolding flushed
+  flush-all n o f g h = simp (h, g, f, q, p)
+
+-- ---- the parts of a record
+
+pub length-kinds : (r : Seq) → length (kindsOf r) ≡ length r
+unfolding kindsOf
+length-kinds [] = refl
+length-kinds (o ∷ r) = omega (arith, length-append (kindsOf r) (code (inBytes o) ∷ []), length-kinds r)
+
+pub length-counts : (r : Seq) → length (countsOf r) ≡ 2 * length r
+unfolding countsOf
+length-counts [] = refl
+length-counts (o ∷ r) = omega (arith, length-append (countsOf r) (bytes16 (size (inBytes o))), length-counts r)
+
+module _ (n : ℕ) (s : Seq) (t out : List ℕ) where
+  -- one record more
+  lay-record : (o : Op Char) → length s < n
+      → over (countsStart n + 2 * length s) (bytes16 (size (inBytes o))) (over (kindsStart + length s) (code (inBytes o) ∷ []) (laid n s t out)) ≡ laid n (o ∷ s) t out
+  unfolding laid kindsOf countsOf
+  lay-record o h =
+      let k = code (inBytes o) ∷ [] in
+      let c = bytes16 (size (inBytes o)) in
+      let y = over (textStart n) t out in
+      let x = over (countsStart n) (countsOf s) y in
+      let a : over (kindsStart + length s) k (over kindsStart (kindsOf s) x) ≡ over kindsStart (kindsOf s ++ k) x =
+      rw (← length-kinds s) (over-join kindsStart (kindsOf s) k x) in
+      let b : over (countsStart n + 2 * length s) c x ≡ over (countsStart n) (countsOf s ++ c) y =
+      rw (← length-counts s) (over-join (countsStart n) (countsOf s) c y) in
+      ap (over (countsStart n + 2 * length s) c) a
+      ∙ over-swap kindsStart (countsStart n + 2 * length s) (kindsOf s ++ k) c x (omega (arith, length-append (kindsOf s) k, length-kinds s))
+      ∙ ap (over kindsStart (kindsOf s ++ k)) b
+
+  -- more text
+  pub lay-text : (u : List ℕ) → length s ≤ n → over (textStart n + length t) u (laid n s t out) ≡ laid n s (t ++ u) out
+  unfolding laid
+  lay-text u h =
+      let q = textStart n + length t in
+      let y = over (textStart n) t out in
+      over-swap kindsStart q (kindsOf s) u (over (countsStart n) (countsOf s) y) (omega (arith, length-kinds s))
+      ∙ ap (over kindsStart (kindsOf s)) (over-swap (countsStart n) q (countsOf s) u y (omega (arith, length-counts s)) ∙ ap (over (countsStart n) (countsOf s)) (over-join (textStart n) t u out))
+
+-- ---- an operation in front, unless it is empty
+
+kept-elim : (P : Seq → Type 0) (o : Op Char) (s : Seq) → (size (inBytes o) ≡ 0 → P s) → (0 < size (inBytes o) → P (o ∷ s)) → P (kept o s)
+kept-elim P o s f g = ifZero-elim P (size o) (λ e. f (empty-bytes o e)) (λ h. g (inBytes-size o h))
+
+module _ (o : Op Char) (s : Seq) where
+  length-kept : length (kept o s) ≡ length s + one (size (inBytes o))
+  length-kept =
+      let c = size (inBytes o) in
+      kept-elim (λ u. length u ≡ length s + one c) o s (λ e. omega (arith, one-none c e)) (λ h. omega (arith, one-some c h))
+
+  text-kept : textsOf (kept o s) ≡ textsOf s ++ inserted (inBytes o)
+  unfolding textsOf
+  text-kept = kept-elim (λ u. textsOf u ≡ textsOf s ++ inserted (inBytes o)) o s (λ e. rw (none (inBytes o) e) (sym (append-nil (textsOf s)))) (λ h. refl)
+    where
+      none : (o : Op ℕ) → size o ≡ 0 → inserted o ≡ []
+      none (retain n) e = refl
+      none (insert []) e = refl
+      none (insert (b ∷ t)) e = absurd (omega arith)
+      none (delete n) e = refl
+
+  lay-kept : (n : ℕ) (t out : List ℕ) → length s + one (size (inBytes o)) ≤ n
+      → emitted n (length s) (code (inBytes o)) (size (inBytes o)) (laid n s t out) ≡ laid n (kept o s) t out
+  lay-kept n t out h =
+      let c = size (inBytes o) in
+      let k = code (inBytes o) in
+      kept-elim (λ u. emitted n (length s) k c (laid n s t out) ≡ laid n u t out) o s (λ e. emitted-none n (length s) k c _ e)
+      (λ p. emitted-some n (length s) k c _ p ∙ lay-record n s t out o (omega (arith, one-some c p)))
+
+-- ---- the pending group
+
+pub group-text : (x : List Char) (d r : ℕ) (s : Seq) → textsOf (group x d r s) ≡ textsOf s ++ bytes x
+unfolding inBytes
+group-text x d r s =
+    text-kept (retain r) (kept (delete d) (kept (insert x) s)) ∙ append-nil _
+    ∙ text-kept (delete d) (kept (insert x) s) ∙ append-nil _
+    ∙ text-kept (insert x) s
+
+module _ (e : Emitter) (x : List Char) (s : Seq) (p : length s ≡ e .records) (q : length (bytes x) ≡ e .ins) where
+  abbrev s₁ : Seq
+  s₁ = kept (insert x) s
+
+  abbrev s₂ : Seq
+  s₂ = kept (delete (e .del)) s₁
+
+  length-s₁ : length s₁ ≡ e .records + one (e .ins)
+  unfolding inBytes
+  length-s₁ = rw (← p, ← q) (length-kept (insert x) s)
+
+  length-s₂ : length s₂ ≡ e .records + one (e .ins) + one (e .del)
+  unfolding inBytes
+  length-s₂ = rw (← length-s₁) (length-kept (delete (e .del)) s₁)
+
+  pub group-length : length (group x (e .del) (e .ret) s) ≡ flushedRecords e
+  unfolding inBytes
+  group-length = rw (← length-s₂) (length-kept (retain (e .ret)) s₂)
+
+  pub lay-group : (n : ℕ) (t out o : List ℕ) → flushedRecords e ≤ n → o ≡ laid n s t out → flushed n e o ≡ laid n (group x (e .del) (e .ret) s) t out
+  unfolding flushed inBytes
+  lay-group n t out o h w =
+      let a : emitted n (e .records) 2 (e .ins) o ≡ laid n s₁ t out = rw (w, ← p, ← q) (lay-kept (insert x) s n t out (omega (arith, ap one q))) in
+      let b : emitted n (e .records + one (e .ins)) 3 (e .del) (laid n s₁ t out) ≡ laid n s₂ t out = rw (← length-s₁) (lay-kept (delete (e .del)) s₁ n t out (omega (arith, length-s₁))) in
+      let d : emitted n (e .records + one (e .ins) + one (e .del)) 1 (e .ret) (laid n s₂ t out) ≡ laid n (kept (retain (e .ret)) s₂) t out =
+      rw (← length-s₂) (lay-kept (retain (e .ret)) s₂ n t out (omega (arith, length-s₂))) in
+      rw (a, b) d

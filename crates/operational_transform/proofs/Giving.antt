@@ -1,0 +1,72 @@
+-- The answers of a call that delivers a sequence, as the code finds them.
+use Prim.Native.Nat.{ℕ, suc}
+use native.Mathlib.Omega.{arith}
+use mathlib.Core.Path.{_≡_, refl, sym, ap, _∙_}
+use mathlib.Core.Bool.{Bool, true, false, not}
+use mathlib.Core.List.{List}
+use lib.Dec.{T}
+use lib.ListN.{length}
+use borrow.Author.Tests.{not-true, not-false}
+use Rattle.utf8.specs.Form.{wellFormed}
+use Rattle.utf8.proofs.Tests.{known}
+use Rattle.operation.specs.declared.Refusal.{Refusal}
+use Rattle.operation.specs.declared.Refusal.the-variants.{Utf8, Limit}
+use Rattle.operation.specs.declared.Fact.{Fact}
+use Rattle.operation.specs.declared.Fact.the-variants as fact
+use Rattle.operation.specs.Answer.{number, refused, factOf}
+use Rattle.operation.specs.Record.{Seq, encode, fits, recordFault}
+use Rattle.operation.specs.Calls.{checkCall}
+use Rattle.operation.proofs.Answers.{stopped}
+use Rattle.operational_transform.specs.declared.Written.{Written}
+use Rattle.operational_transform.specs.declared.Written.the-variants as written
+use Rattle.operational_transform.specs.declared.core.Emitter.{Emitter}
+use Rattle.operational_transform.specs.Calls.{textFault, deliver}
+use Rattle.operational_transform.specs.Emit.{writtenOf, Done, Writes, judged}
+use Rattle.operational_transform.specs.Given.{Gives}
+use Rattle.operational_transform.proofs.Delivering.{answered, left-alone, delivered, writing-refused, deliver-refused}
+
+module _ (s : Seq) (o : List ℕ) where
+  -- a fault in front
+  pub refuses : (k : ℕ) (x : Refusal) → number x ≡ suc k → Gives (deliver (suc k) s o) (written.Refused x) o
+  refuses k x n = rw (deliver-refused (suc k) s o (λ z. absurd (omega arith))) (record { answer = ap refused n; out = refl })
+
+  -- 9
+  pub gives-limit : fits s ≡ false → Gives (deliver 0 s o) (written.Refused Limit) o
+  unfolding deliver
+  gives-limit p = rw p (rw (writing-refused 9 (encode s) o (λ z. absurd (omega arith))) (record { answer = refl; out = refl }))
+
+  -- 9 and 10 as judged after a run that finds the sizes, and what a second run writes
+  module _ (e : Emitter) (m q : List ℕ) (d : Done 0 s m e q) (v : Written) (j : v ≡ judged e (length o)) where
+    pub gives-refused : (y : Refusal) → v ≡ written.Refused y → Gives (deliver 0 s o) (written.Refused y) o
+    gives-refused y z = record { answer = ap writtenOf (sym z) ∙ answered s e o (d .sizes) v j; out = left-alone s e o (d .sizes) v j y z }
+
+    pub gives-written : (k : ℕ) (o′ : List ℕ) → v ≡ written.Bytes k → Writes (e .records) s o o′ → Gives (deliver 0 s o) (written.Bytes k) o′
+    gives-written k o′ z u =
+        record {
+          answer = ap writtenOf (sym z) ∙ answered s e o (d .sizes) v j;
+          out = delivered s e o (d .sizes) v j k z (e .records) (u .emitter) (u .before) o′ (u .done) refl (u .is);
+        }
+
+  -- a record that is refused, of a call that takes it alone or with a text
+  module _ (r : List ℕ) where
+    module _ (f : Fact) (p : factOf f ≡ checkCall r) (x : Refusal) (q : f ≡ fact.Refused x) where
+      pub record-refused : Gives (deliver (recordFault r) s o) (written.Refused x) o
+      record-refused = let v = stopped r f p x q in rw (v .fault) (refuses (v .less) x (v .number-is))
+
+      pub text-refused : (t : List ℕ) → Gives (deliver (textFault r t) s o) (written.Refused x) o
+      text-refused t = let v = stopped r f p x q in rw (v .fault) (refuses (v .less) x (v .number-is))
+
+    -- a record that passes
+    module _ (z : recordFault r ≡ 0) where
+      pub record-passed : (w : Written) (o′ : List ℕ) → Gives (deliver 0 s o) w o′ → Gives (deliver (recordFault r) s o) w o′
+      record-passed w o′ g = rw z g
+
+      module _ (t : List ℕ) (b : Bool) (p : b ≡ wellFormed t) where
+        pub text-ill : not b ≡ true → Gives (deliver (textFault r t) s o) (written.Refused Utf8) o
+        text-ill h = rw (z, sym p ∙ not-true b h) (refuses 2 Utf8 refl)
+
+        pub text-passed : not b ≡ false → (w : Written) (o′ : List ℕ) → Gives (deliver 0 s o) w o′ → Gives (deliver (textFault r t) s o) w o′
+        text-passed h w o′ g = rw (z, sym p ∙ not-false b h) g
+
+pub text-well : (t : List ℕ) (b : Bool) → b ≡ wellFormed t → not b ≡ false → T (wellFormed t)
+text-well t b p h = known (sym p ∙ not-false b h)

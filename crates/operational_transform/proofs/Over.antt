@@ -1,0 +1,113 @@
+-- Bytes laid over a buffer from a place on. What does not fit falls away, so these laws ask for no room.
+use Prim.Native.Nat.{ℕ, zero, suc, _+_, _-_, _%_, _/_, _≤_, _<_, min}
+use native.Mathlib.Nat.{zero-add, suc-add, le-of-suc-le-suc, not-suc-le-zero}
+use native.Mathlib.Numerals.{add-one}
+use native.Mathlib.Omega.{arith}
+use mathlib.Core.Path.{_≡_, refl, sym, ap, _∙_}
+use mathlib.Core.List.{List, [], _∷_, _++_}
+use lib.ListN.{length, take, drop, set, getD, length-take, length-drop}
+use lib.Seq.{length-take-le, take-take, take-suc, getD-drop}
+use Rattle.operational_transform.specs.Output.{atFront}
+use Rattle.operational_transform.specs.Emit.{over, bytes16}
+
+pub length-over : (p : ℕ) (xs o : List ℕ) → length (over p xs o) ≡ length o
+unfolding over
+length-over zero [] o = refl
+length-over zero (x ∷ xs) [] = refl
+length-over zero (x ∷ xs) (y ∷ o) = ap suc (length-over zero xs o)
+length-over (suc p) xs [] = refl
+length-over (suc p) xs (y ∷ o) = ap suc (length-over p xs o)
+
+pub over-nil : (p : ℕ) (o : List ℕ) → over p [] o ≡ o
+unfolding over
+over-nil zero o = refl
+over-nil (suc p) [] = refl
+over-nil (suc p) (y ∷ o) = ap (λ r. y ∷ r) (over-nil p o)
+
+-- over an empty buffer
+pub over-none : (p : ℕ) (xs : List ℕ) → over p xs [] ≡ []
+unfolding over
+over-none zero [] = refl
+over-none zero (x ∷ xs) = refl
+over-none (suc p) xs = refl
+
+-- a second run that begins where the first ends
+pub over-join : (p : ℕ) (xs ys o : List ℕ) → over (p + length xs) ys (over p xs o) ≡ over p (xs ++ ys) o
+unfolding over
+over-join zero [] ys o = refl
+over-join zero (x ∷ xs) ys [] = rw (zero-add (suc (length xs)))
+over-join zero (x ∷ xs) ys (y ∷ o) = rw (zero-add (suc (length xs))) (ap (λ r. x ∷ r) (rw (zero-add (length xs)) at (over-join zero xs ys o)))
+over-join (suc p) xs ys [] = rw suc-add
+over-join (suc p) xs ys (y ∷ o) = rw suc-add (ap (λ r. y ∷ r) (over-join p xs ys o))
+
+-- two runs that do not meet
+pub over-swap : (p q : ℕ) (xs ys o : List ℕ) → p + length xs ≤ q → over q ys (over p xs o) ≡ over p xs (over q ys o)
+unfolding over
+over-swap zero q [] ys o h = refl
+over-swap zero zero (x ∷ xs) ys o h = absurd (not-suc-le-zero (rw (zero-add (suc (length xs))) at h))
+over-swap zero (suc q) (x ∷ xs) ys [] h = refl
+over-swap zero (suc q) (x ∷ xs) ys (y ∷ o) h = ap (λ r. x ∷ r) (over-swap zero q xs ys o (omega arith))
+over-swap (suc p) zero xs ys o h = absurd (omega arith)
+over-swap (suc p) (suc q) xs ys [] h = refl
+over-swap (suc p) (suc q) xs ys (y ∷ o) h = ap (λ r. y ∷ r) (over-swap p q xs ys o (omega arith))
+
+-- where there is room, bytes laid over the front stand there
+pub over-front : (xs o : List ℕ) → length xs ≤ length o → over 0 xs o ≡ atFront xs o
+unfolding over atFront
+over-front [] o h = refl
+over-front (x ∷ xs) [] h = absurd (not-suc-le-zero h)
+over-front (x ∷ xs) (y ∷ o) h = ap (λ r. x ∷ r) (over-front xs o (le-of-suc-le-suc h))
+
+-- bytes behind the buffer's end count for nothing
+over-room : (p k : ℕ) (xs o : List ℕ) → min (length o) (p + length xs) ≤ p + k → over p (take k xs) o ≡ over p xs o
+unfolding over
+over-room zero zero [] o h = refl
+over-room zero zero (x ∷ xs) [] h = refl
+over-room zero zero (x ∷ xs) (y ∷ o) h = absurd (omega arith)
+over-room zero (suc k) [] o h = refl
+over-room zero (suc k) (x ∷ xs) [] h = refl
+over-room zero (suc k) (x ∷ xs) (y ∷ o) h = ap (λ r. x ∷ r) (over-room zero k xs o (omega arith))
+over-room (suc p) k xs [] h = refl
+over-room (suc p) k xs (y ∷ o) h = ap (λ r. y ∷ r) (over-room p k xs o (omega arith))
+
+-- ---- `put`, `put16`, `copy`
+
+pub put-in : (o : List ℕ) (i v : ℕ) → set o i v ≡ over i (v ∷ []) o
+unfolding over
+put-in [] zero v = refl
+put-in [] (suc i) v = refl
+put-in (x ∷ o) zero v = refl
+put-in (x ∷ o) (suc i) v = ap (λ r. x ∷ r) (put-in o i v)
+
+pub put-out : (o : List ℕ) (i v : ℕ) → length o ≤ i → o ≡ over i (v ∷ []) o
+put-out o i v h = sym (over-nil i o) ∙ over-room i 0 (v ∷ []) o (omega arith)
+
+pub put16-both : (at v : ℕ) (o : List ℕ) {o₁ o₂ : List ℕ} → o₁ ≡ over at (v % 256 ∷ []) o → o₂ ≡ over (at + 1) (v / 256 % 256 ∷ []) o₁ → o₂ ≡ over at (bytes16 v) o
+put16-both at v o h k = k ∙ ap (over (at + 1) (v / 256 % 256 ∷ [])) h ∙ over-join at (v % 256 ∷ []) (v / 256 % 256 ∷ []) o
+
+module _ (at from to room len : ℕ) (s o : List ℕ) where
+  pub copy-none : o ≡ over at (take 0 (drop from s)) o
+  copy-none = sym (over-nil at o)
+
+  -- one byte more
+  pub copy-more : (i : ℕ) {o₁ : List ℕ} → to ≤ length s → len ≡ min (to - from) room → i < len → o₁ ≡ over at (take i (drop from s)) o
+      → set o₁ (at + i) (getD s (from + i) 0) ≡ over at (take (i + 1) (drop from s)) o
+  copy-more i {o₁} t≤ e h p =
+      let x = getD s (from + i) 0 ∷ [] in
+      let t = take i (drop from s) in
+      let l : i < length (drop from s) = omega (arith, length-drop from s) in
+      let m : length t ≡ i = length-take-le i (drop from s) (omega arith) in
+      let more : take (i + 1) (drop from s) ≡ t ++ x = rw (add-one, take-suc (drop from s) i 0 l, getD-drop from s i 0) in
+      put-in o₁ (at + i) (getD s (from + i) 0)
+      ∙ ap (over (at + i) x) p
+      ∙ ap (λ k. over (at + k) x (over at t o)) (sym m)
+      ∙ over-join at t x o
+      ∙ ap (λ t. over at t o) (sym more)
+
+  pub copy-end : (i : ℕ) {o₁ : List ℕ} → room ≡ length o - at → len ≡ min (to - from) room → i ≤ len → len ≤ i
+      → o₁ ≡ over at (take i (drop from s)) o → o₁ ≡ over at (take (to - from) (drop from s)) o
+  copy-end i r e h g p =
+      let t = take (to - from) (drop from s) in
+      p
+      ∙ ap (λ t. over at t o) (sym (take-take i (to - from) (drop from s) (omega arith)))
+      ∙ over-room at i t o (omega (arith, length-take (to - from) (drop from s)))

@@ -1,0 +1,120 @@
+-- From what the code finds to the answer of apply.
+use Prim.Native.Nat.{ℕ, zero, suc, _≤_, _<_}
+use native.Mathlib.Omega.{arith}
+use mathlib.Core.Path.{_≡_, refl, sym, ap, _∙_}
+use mathlib.Core.Bool.{Bool, true, false, not}
+use mathlib.Core.List.{List, [], _∷_, _++_}
+use lib.Dec.{T, eqb, leb}
+use lib.ListN.{length}
+use borrow.Author.Tests.{eq-eqb, ne-eqb, le-leb, lt-leb, not-true, not-false}
+use Rattle.utf8.specs.Form.{wellFormed}
+use Rattle.utf8.specs.Chars.{numChars}
+use Rattle.utf8.proofs.Tests.{known, holds}
+use Rattle.operation.specs.declared.Refusal.{Refusal}
+use Rattle.operation.specs.declared.Fact.{Fact}
+use Rattle.operation.specs.declared.Fact.the-variants as fact
+use Rattle.operation.specs.Answer.{number, gives, refused, factOf, needs, first, settle}
+use Rattle.operation.specs.Layout.{baseOf}
+use Rattle.operation.specs.Record.{recordFault}
+use Rattle.operation.specs.Calls.{checkCall}
+use Rattle.operation.proofs.Answers.{same-refusal, passed}
+use Rattle.operational_transform.specs.Output.{atFront, Out, writing}
+use Rattle.operational_transform.specs.Calls.{textFault, applyCall}
+use Rattle.operational_transform.specs.Emit.{over}
+use Rattle.playing.specs.Steps.{played}
+use Rattle.playing.proofs.Overs.{over-empty, over-front}
+
+-- ---- a result that is written unless there is a fault
+
+module _ (fault : ℕ) (w o : List ℕ) where
+  stops : (n : ℕ) → fault ≡ suc n → refused (suc n) ≡ writing fault w o .answer
+  unfolding writing
+  stops n e = rw e
+
+  short : fault ≡ 0 → length o < length w → refused 10 ≡ writing fault w o .answer
+  unfolding writing
+  short e h = rw (e, lt-leb (length w) (length o) h)
+
+  goes : fault ≡ 0 → length w ≤ length o → record { answer = gives (length w ∷ []); out = atFront w o } ≡ writing fault w o
+  unfolding writing
+  goes e h = rw (e, le-leb (length w) (length o) h)
+
+  abbrev result : ℕ → Out
+  result k = settle k (λ j. record { answer = refused j; out = o }) (record { answer = gives (length w ∷ []); out = atFront w o })
+
+  -- a refusal changes no output
+  untouched : (n : ℕ) → refused n ≡ writing fault w o .answer → o ≡ writing fault w o .out
+  unfolding writing
+  untouched n = go (first fault (needs (leb (length w) (length o)) 10 0))
+    where
+      go : (k : ℕ) → refused n ≡ result k .answer → o ≡ result k .out
+      go zero e = absurd (let z : _≡_ {A = ℕ} 0 1 = cc e in omega arith)
+      go (suc k) e = refl
+
+-- ---- apply
+
+abbrev faultOf : List ℕ → List ℕ → ℕ
+faultOf r t = first (textFault r t) (needs (eqb (numChars t) (baseOf r)) 8 0)
+
+-- the answer is a refusal, and the output is as it was
+pub stopped : (r t o : List ℕ) {o₁ : List ℕ} (n : ℕ) → o₁ ≡ o → refused n ≡ applyCall r t o .answer → (refused n ≡ applyCall r t o .answer) × (o₁ ≡ applyCall r t o .out)
+unfolding applyCall played
+stopped r t o n e h = (h, e ∙ untouched (faultOf r t) (played r t) o n h)
+
+-- a run on no output leaves it
+pub unchanged : (r t o e : List ℕ) → e ≡ over 0 (played r t) [] → e ++ o ≡ o
+unchanged r t o e p = ap (λ l. l ++ o) (p ∙ over-empty 0 (played r t))
+
+-- after all checks but that of the room
+module _ (r t o : List ℕ) (z : recordFault r ≡ 0) (w : T (wellFormed t)) (a : numChars t ≡ baseOf r) where
+  no-fault : faultOf r t ≡ 0
+  no-fault = rw (z, holds (wellFormed t) w, eq-eqb (numChars t) (baseOf r) a)
+
+  -- the run on no output leaves e
+  module _ (e : List ℕ) (pe : e ≡ over 0 (played r t) []) (size : ℕ) (ps : size ≡ length (played r t)) where
+    same : e ++ o ≡ o
+    same = unchanged r t o e pe
+
+    pub apply-10 : length (e ++ o) < size → refused 10 ≡ applyCall r t o .answer
+    unfolding applyCall played
+    apply-10 l = short (faultOf r t) (played r t) o no-fault (omega (arith, ap length same))
+
+    module _ (l : size ≤ length (e ++ o)) where
+      room : length (played r t) ≤ length o
+      room = omega (arith, ap length same)
+
+      whole : record { answer = gives (length (played r t) ∷ []); out = atFront (played r t) o } ≡ applyCall r t o
+      unfolding applyCall played
+      whole = goes (faultOf r t) (played r t) o no-fault room
+
+      pub apply-0 : (k : ℕ) → k ≡ length (played r t) → gives (k ∷ []) ≡ applyCall r t o .answer
+      apply-0 k p = ap (λ i. gives (i ∷ [])) p ∙ ap (λ x. x .answer) whole
+
+      pub apply-out : (c : List ℕ) → c ≡ over 0 (played r t) (e ++ o) → c ≡ applyCall r t o .out
+      apply-out c p = p ∙ ap (over 0 (played r t)) same ∙ over-front (played r t) o room ∙ ap (λ x. x .out) whole
+
+-- what the checks find
+module _ (r t o : List ℕ) (f : Fact) (p : factOf f ≡ checkCall r) where
+  pub apply-refused : (x : Refusal) → f ≡ fact.Refused x → refused (number x) ≡ applyCall r t o .answer
+  unfolding applyCall played
+  apply-refused x q = go (recordFault r) refl (same-refusal r f p x (gives []) q)
+    where
+      go : (k : ℕ) → recordFault r ≡ k → refused (number x) ≡ settle k refused (gives []) → refused (number x) ≡ applyCall r t o .answer
+      go zero z e = absurd (let y : _≡_ {A = ℕ} 0 1 = cc e in omega arith)
+      go (suc k) z e = e ∙ stops (faultOf r t) (played r t) o k (rw z)
+
+  module _ (s : ℕ) (q : f ≡ fact.Is s) (v : Bool) (pv : v ≡ wellFormed t) where
+    pub apply-3 : not v ≡ true → refused 3 ≡ applyCall r t o .answer
+    unfolding applyCall played
+    apply-3 h = stops (faultOf r t) (played r t) o 2 (rw (passed r f p s q, sym pv ∙ not-true v h))
+
+    pub apply-8 : (n b : ℕ) → not v ≡ false → n ≡ numChars t → b ≡ baseOf r → (n ≡ b → ⊥) → refused 8 ≡ applyCall r t o .answer
+    unfolding applyCall played
+    apply-8 n b h pn pb d =
+        stops (faultOf r t) (played r t) o 7 (rw (passed r f p s q, sym pv ∙ not-false v h, ne-eqb (numChars t) (baseOf r) (λ z. d (pn ∙ z ∙ sym pb))))
+
+pub well : (t : List ℕ) (v : Bool) → v ≡ wellFormed t → not v ≡ false → T (wellFormed t)
+well t v e h = known (sym e ∙ not-false v h)
+
+pub agree : (r t : List ℕ) (n b : ℕ) → n ≡ numChars t → b ≡ baseOf r → n ≡ b → numChars t ≡ baseOf r
+agree r t n b pn pb m = sym pn ∙ m ∙ pb

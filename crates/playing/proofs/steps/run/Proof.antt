@@ -1,0 +1,79 @@
+use mathlib.Core.Path.{_≡_, refl, sym}
+use lib.ListN.{length, take}
+use borrow.Author.Needs.{needs}
+use Rattle.operation.specs.Front.{ahead}
+use Rattle.operation.proofs.Fronts.{place-start}
+use Rattle.operational_transform.specs.Emit.{over}
+use Rattle.playing.specs.Steps.{played, Stage}
+use Rattle.playing.proofs.Overs.{over-nil, laid-more, laid-all}
+use Rattle.playing.proofs.Playing.{has-count, stage-start, stage-end}
+use Rattle.playing.proofs.steps.run.Statement.{statement}
+use Rattle.playing.proofs.steps.run.Tie as tie
+use Rattle.playing.proofs.steps.run.Reads as reads
+use Rattle.playing.proofs.steps.run.Lts as lts
+use Rattle.operation.proofs.core.load.Reads as load-reads
+use Rattle.playing.proofs.steps.word.Reads as word-reads
+use Rattle.playing.proofs.steps.step.Reads as step-reads
+
+abbrev Inv-loop : tie.InvT-loop
+Inv-loop out₀ rec text n s₀ out s = Stage rec text s × (out ≡ over 0 (take (s .len) (played rec text)) out₀) × (length out ≡ length out₀)
+
+abbrev μ-loop : tie.MeasureT-loop
+μ-loop out₀ rec text n s₀ out s = length (ahead rec (s .place .front))
+
+-- src/steps.rt:93:9
+word-requires : tie.Need-word-requires Inv-loop μ-loop
+word-requires c κs = search has-count
+
+-- src/steps.rt:94:54
+mul-load : tie.Need-mul-load Inv-loop μ-loop
+mul-load c = search needs
+
+-- src/steps.rt:94:50
+add-load : tie.Need-add-load Inv-loop μ-loop
+add-load c = search needs
+
+-- src/steps.rt:94:9
+load-requires : tie.Need-load-requires Inv-loop μ-loop
+load-requires c κs = search (place-start, needs)
+
+-- src/steps.rt:97:5
+loop-holds : tie.Need-loop-holds Inv-loop μ-loop
+loop-holds c = (search stage-start, sym (over-nil 0 _), refl)
+
+-- src/steps.rt:98:9
+step-requires : tie.Need-step-requires Inv-loop μ-loop
+step-requires c κs = search needs
+
+-- src/steps.rt:97:5
+loop-less : tie.Need-loop-less Inv-loop μ-loop
+loop-less c = search needs
+
+-- src/steps.rt:97:5
+loop-again : tie.Need-loop-again Inv-loop μ-loop
+loop-again c = (search needs, search laid-more, search needs)
+
+-- src/steps.rt:89:1
+same-length : tie.Need-same-length Inv-loop μ-loop
+same-length c = search needs
+
+-- src/steps.rt:89:1
+returns : tie.Need-returns Inv-loop μ-loop
+returns c = (search stage-end, search (laid-all, stage-end))
+
+pub run-spec : {M : Type 1} → statement M
+run-spec =
+    tie.close
+    (tie.spec
+    Inv-loop
+    μ-loop
+    word-requires
+    mul-load
+    add-load
+    load-requires
+    loop-holds
+    step-requires
+    loop-less
+    loop-again
+    same-length
+    returns)

@@ -1,0 +1,2 @@
+-- playing
+pub mod Steps

@@ -1,0 +1,46 @@
+// Playing an edit: what a sequence makes of a text.
+use operation::Fact;
+use operation::Refusal;
+use operational_transform::Written;
+ghost use mathlib.Core.Path.{_≡_};
+ghost use lib.Dec.{T};
+ghost use Rattle.utf8.specs.Form.{wellFormed};
+ghost use Rattle.utf8.specs.Chars.{numChars};
+ghost use Rattle.operation.specs.Layout.{baseOf};
+ghost use Rattle.operation.specs.Record.{recordFault};
+ghost use Rattle.operational_transform.specs.Emit.{writtenOf};
+ghost use Rattle.operational_transform.specs.Calls.{applyCall};
+
+mod steps;
+
+// The text after the edit: retain copies, delete skips, insert writes.
+pub fn apply(rec: &[u8], text: &[u8], out: &mut [u8]) -> Written
+    ensures { λ r. ⌜ (writtenOf r ≡ applyCall (now (rec .entry)) (now (text .entry)) (now (out .entry)) .answer) × (now (out .exit) ≡ applyCall (now (rec .entry)) (now (text .entry)) (now (out .entry)) .out) ⌝ }
+{
+    match operation::check(rec) {
+        Fact::Refused(x) => Written::Refused(x),
+        Fact::Is(_) => {
+            if !utf8::well_formed(text) {
+                return Written::Refused(Refusal::Utf8);
+            }
+            let base = steps::word(rec, 4);
+            let chars = utf8::num_chars(text);
+            if chars != base {
+                return Written::Refused(Refusal::IncompatibleLengths);
+            }
+            write(rec, text, out)
+        }
+    }
+}
+
+// A first run yields the size and writes nothing.
+fn write(rec: &[u8], text: &[u8], out: &mut [u8]) -> Written
+    requires { ⌜ (recordFault (now rec) ≡ 0) × T (wellFormed (now text)) × (numChars (now text) ≡ baseOf (now rec)) ⌝ }
+    ensures { λ r. ⌜ (writtenOf r ≡ applyCall (now (rec .entry)) (now (text .entry)) (now (out .entry)) .answer) × (now (out .exit) ≡ applyCall (now (rec .entry)) (now (text .entry)) (now (out .entry)) .out) ⌝ }
+{
+    let size = steps::run(&mut out[..0], rec, text);
+    if out.len() < size {
+        return Written::Refused(Refusal::Room);
+    }
+    Written::Bytes(steps::run(out, rec, text))
+}

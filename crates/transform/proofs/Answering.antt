@@ -1,0 +1,139 @@
+-- The answers of transform.
+use Prim.Native.Nat.{ℕ, suc, _≤_, _<_}
+use native.Mathlib.Omega.{arith}
+use mathlib.Core.Path.{_≡_, refl, sym, ap, ap₂, _∙_}
+use mathlib.Core.Bool.{Bool, true, false, cond, not, _&&_, and-false, and-eq-true-iff}
+use mathlib.Core.List.{List, [], _∷_, reverse}
+use lib.Dec.{leb, eqb}
+use lib.ListN.{length}
+use borrow.Author.Tests.{eq-eqb, ne-eqb, le-leb, lt-leb, leb-true, not-true, not-false}
+use Rattle.utf8.specs.Text.{Char}
+use Rattle.utf8.specs.Order.{order}
+use Rattle.operation.specs.declared.Refusal.{Refusal}
+use Rattle.operation.specs.declared.Refusal.the-variants.{IncompatibleLengths, Limit, Room}
+use Rattle.operation.specs.declared.Fact.{Fact}
+use Rattle.operation.specs.declared.Fact.the-variants as fact
+use Rattle.operation.specs.Answer.{number, gives, refused, factOf, needs, first}
+use Rattle.operation.specs.Layout.{baseOf}
+use Rattle.operation.specs.Record.{Seq, encode, fits, ops, recordFault}
+use Rattle.operation.specs.Calls.{checkCall}
+use Rattle.utf8.proofs.Tests.{known}
+use Rattle.operation.proofs.Sequences.{fits-limits}
+use Rattle.operation.proofs.Answers.{Stopped, stopped}
+use Rattle.operational_transform.specs.declared.core.Emitter.{Emitter}
+use Rattle.operational_transform.specs.Output.{atFront, writingBoth}
+use Rattle.operational_transform.specs.Transform.{Sides, transform}
+use Rattle.operational_transform.specs.Calls.{recordsFault, transformCall}
+use Rattle.operational_transform.specs.Emit.{Sizes, Done, Writes, within, sizeIn}
+use Rattle.operational_transform.proofs.Delivering.{sized-fits, sized-length, written-front}
+use Rattle.transform.specs.declared.WrittenPair.{WrittenPair}
+use Rattle.transform.specs.declared.WrittenPair.the-variants as written
+use Rattle.transform.specs.declared.Pair.{Pair}
+use Rattle.transform.specs.Pairs.{pairOf, judgedBoth, DoneBoth, SizedBoth, Transforms}
+
+-- ---- `judge`
+
+module _ (e f : Emitter) (x y : ℕ) (u : Bool) (pu : u ≡ within e) where
+  pub judge-first : not u ≡ true → written.Refused Limit ≡ judgedBoth e f x y
+  unfolding judgedBoth
+  judge-first h = rw (sym pu ∙ not-true u h)
+
+  module _ (hu : not u ≡ false) (v : Bool) (pv : v ≡ within f) where
+    pub judge-second : not v ≡ true → written.Refused Limit ≡ judgedBoth e f x y
+    unfolding judgedBoth
+    judge-second h = rw (sym pu ∙ not-false u hu, sym pv ∙ not-true v h)
+
+    module _ (hv : not v ≡ false) (p q : ℕ) (pp : p ≡ sizeIn e) (pq : q ≡ sizeIn f) where
+      pub judge-short : x < p → written.Refused Room ≡ judgedBoth e f x y
+      unfolding judgedBoth
+      judge-short h = rw (sym pu ∙ not-false u hu, sym pv ∙ not-false v hv, lt-leb (sizeIn e) x (omega arith))
+
+      pub judge-shorter : p ≤ x → y < q → written.Refused Room ≡ judgedBoth e f x y
+      unfolding judgedBoth
+      judge-shorter g h = rw (sym pu ∙ not-false u hu, sym pv ∙ not-false v hv, lt-leb (sizeIn f) y (omega arith), and-false (leb (sizeIn e) x))
+
+      pub judge-bytes : p ≤ x → q ≤ y → written.Bytes p q ≡ judgedBoth e f x y
+      unfolding judgedBoth
+      judge-bytes g h = rw (sym pu ∙ not-false u hu, sym pv ∙ not-false v hv, le-leb (sizeIn e) x (omega arith), le-leb (sizeIn f) y (omega arith), pp, pq)
+
+-- ---- the call
+
+pub sized-both : (n m : ℕ) (s : Sides Char) (x y : List ℕ) (r : Pair) (x′ y′ : List ℕ) → DoneBoth n m s x y r x′ y′ → SizedBoth s r
+sized-both n m s x y r x′ y′ d = record { left = d .left .sizes; right = d .right .sizes; under-left = d .left .small; under-right = d .right .small }
+
+-- where the lengths differ, or a record is refused
+fault-is : (a b x y : List ℕ) (k : ℕ) → first (recordsFault a b) (needs (eqb (baseOf a) (baseOf b)) 8 (needs (fits (transform order (ops a) (ops b) .left) && fits (transform order (ops a) (ops b) .right)) 9 0)) ≡ suc k
+    → transformCall a b x y ≡ record { answer = refused (suc k); outA = x; outB = y }
+unfolding transformCall writingBoth
+fault-is a b x y k e = rw e
+
+refuses : (a b x y : List ℕ) (r : Refusal) (k : ℕ) → number r ≡ suc k → transformCall a b x y ≡ record { answer = refused (suc k); outA = x; outB = y } → Transforms a b x y (written.Refused r) x y
+refuses a b x y r k n e = record { answer = ap refused n ∙ sym (ap (λ c. c .answer) e); out-a = sym (ap (λ c. c .outA) e); out-b = sym (ap (λ c. c .outB) e) }
+
+module _ (a b x y : List ℕ) (za : recordFault a ≡ 0) (zb : recordFault b ≡ 0) (t s : ℕ) (pt : t ≡ baseOf a) (ps : s ≡ baseOf b) where
+  pub transforms-lengths : (t ≡ s → ⊥) → Transforms a b x y (written.Refused IncompatibleLengths) x y
+  transforms-lengths h = refuses a b x y IncompatibleLengths 7 refl (fault-is a b x y 7 (rw (za, zb, ne-eqb (baseOf a) (baseOf b) (λ z. h (pt ∙ z ∙ sym ps)))))
+
+  module _ (h : t ≡ s) (r : Pair) (d : SizedBoth (transform order (ops a) (ops b)) r) (v : WrittenPair) (w : v ≡ judgedBoth (r .e) (r .f) (length x) (length y)) where
+    abbrev sides : Sides Char
+    sides = transform order (ops a) (ops b)
+
+    abbrev keep : Bool
+    keep = fits (sides .left) && fits (sides .right)
+
+    abbrev room : Bool
+    room = leb (length (encode (sides .left))) (length x) && leb (length (encode (sides .right))) (length y)
+
+    is : transformCall a b x y ≡ writingBoth (needs keep 9 0) (encode (sides .left)) (encode (sides .right)) x y
+    unfolding transformCall
+    is = rw (za, zb, eq-eqb (baseOf a) (baseOf b) (sym pt ∙ h ∙ ps))
+
+    judged-is : v ≡ cond keep (cond room (written.Bytes (length (encode (sides .left))) (length (encode (sides .right)))) (written.Refused Room)) (written.Refused Limit)
+    unfolding judgedBoth
+    judged-is =
+        w
+        ∙ rw (sized-fits (sides .left) (r .e) (d .left), sized-fits (sides .right) (r .f) (d .right), sized-length (sides .left) (r .e) (d .left), sized-length (sides .right) (r .f) (d .right))
+
+    -- a call is refused, or both records are written
+    data Outcome : Type 0 where
+      stops : (z : Refusal) → v ≡ written.Refused z → transformCall a b x y ≡ record { answer = refused (number z); outA = x; outB = y } → Outcome
+      writes : keep ≡ true → room ≡ true → v ≡ written.Bytes (length (encode (sides .left))) (length (encode (sides .right)))
+          → transformCall a b x y ≡ record { answer = gives (length (encode (sides .left)) ∷ length (encode (sides .right)) ∷ []); outA = atFront (encode (sides .left)) x; outB = atFront (encode (sides .right)) y } → Outcome
+
+    outcome : Outcome
+    unfolding writingBoth
+    outcome = go keep room refl refl
+      where
+        go : (p q : Bool) → keep ≡ p → room ≡ q → Outcome
+        go true true e f = writes e f (judged-is ∙ rw (e, f)) (is ∙ rw (e, f))
+        go true false e f = stops Room (judged-is ∙ rw (e, f)) (is ∙ rw (e, f))
+        go false q e f = stops Limit (judged-is ∙ rw e) (is ∙ rw e)
+
+    pub transforms-refused : (z : Refusal) → v ≡ written.Refused z → Transforms a b x y (written.Refused z) x y
+    transforms-refused z e = go outcome
+      where
+        go : Outcome → Transforms a b x y (written.Refused z) x y
+        go (stops u p q) = let k : u ≡ z = cc (p, e) in record { answer = ap (λ k. refused (number k)) (sym k) ∙ sym (ap (λ c. c .answer) q); out-a = sym (ap (λ c. c .outA) q); out-b = sym (ap (λ c. c .outB) q) }
+        go (writes f g p q) = absurd (let k : _≡_ {A = ℕ} 0 1 = cc (p, e) in omega arith)
+
+    pub transforms-written : (k l : ℕ) (x′ y′ : List ℕ) → v ≡ written.Bytes k l → Writes (r .e .records) (transform order (ops a) (ops b) .left) x x′ → Writes (r .f .records) (transform order (ops a) (ops b) .right) y y′
+        → Transforms a b x y (written.Bytes k l) x′ y′
+    transforms-written k l x′ y′ e f g = go outcome
+      where
+        go : Outcome → Transforms a b x y (written.Bytes k l) x′ y′
+        go (stops u p q) = absurd (let z : _≡_ {A = ℕ} 0 1 = cc (p, e) in omega arith)
+        go (writes m n p q) =
+            let (fa, fb) = and-eq-true-iff (fits (sides .left)) (fits (sides .right)) .0 m in
+            let (ra, rb) = and-eq-true-iff (leb (length (encode (sides .left))) (length x)) (leb (length (encode (sides .right))) (length y)) .0 n in
+            record {
+              answer = ap pairOf (sym e ∙ p) ∙ sym (ap (λ c. c .answer) q);
+              out-a = written-front (sides .left) _ x (f .emitter) (f .before) x′ (fits-limits (sides .left) .0 (known fa)) (leb-true (length (encode (sides .left))) (length x) ra) (f .done) (d .left .records) (f .is) ∙ sym (ap (λ c. c .outA) q);
+              out-b = written-front (sides .right) _ y (g .emitter) (g .before) y′ (fits-limits (sides .right) .0 (known fb)) (leb-true (length (encode (sides .right))) (length y) rb) (g .done) (d .right .records) (g .is) ∙ sym (ap (λ c. c .outB) q);
+            }
+
+module _ (a b x y : List ℕ) (f : Fact) where
+  pub transforms-second : recordFault a ≡ 0 → factOf f ≡ checkCall b → (z : Refusal) → f ≡ fact.Refused z → Transforms a b x y (written.Refused z) x y
+  transforms-second za p z q = let s = stopped b f p z q in refuses a b x y z (s .less) (s .number-is) (fault-is a b x y (s .less) (rw (za, s .fault)))
+
+  pub transforms-first : factOf f ≡ checkCall a → (z : Refusal) → f ≡ fact.Refused z → Transforms a b x y (written.Refused z) x y
+  transforms-first p z q = let s = stopped a f p z q in refuses a b x y z (s .less) (s .number-is) (fault-is a b x y (s .less) (rw (s .fault)))

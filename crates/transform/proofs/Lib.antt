@@ -1,0 +1,4 @@
+-- transform
+pub mod Siding
+pub mod Looping
+pub mod Answering

@@ -1,0 +1,2 @@
+-- turns
+pub mod Turning

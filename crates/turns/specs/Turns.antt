@@ -1,0 +1,53 @@
+-- Steps over the fronts of two records. Only contracts of `core` and of the crates above cite this.
+use Prim.Native.Nat.{ℕ, min, _≤_, _<_}
+use mathlib.Core.Path.{_≡_}
+use mathlib.Core.Logic.{_⊎_}
+use mathlib.Core.Bool.{Bool, not, _&&_}
+use mathlib.Core.List.{List}
+use lib.Dec.{eqb}
+use Rattle.utf8.specs.Text.{Char}
+use Rattle.operation.specs.declared.core.Front.{Front}
+use Rattle.operation.specs.Op.{Op, cut}
+use Rattle.operation.specs.Front.{frontOp, Stands, Cut, Leaves}
+use Rattle.turns.specs.declared.core.Turn.{Turn}
+use Rattle.turns.specs.declared.core.Turn.the-variants.{First, Second, Together}
+use Rattle.turns.specs.declared.core.Plan.{Plan}
+use Rattle.turns.specs.declared.core.Fronts.{Fronts}
+use Rattle.operational_transform.specs.Align.{Step, one, two, both}
+use Rattle.operational_transform.specs.Align as align
+
+abbrev pub liveIs : Front → Front → Bool
+liveIs x y = not (eqb (x .kind) 0 && eqb (y .kind) 0)
+
+-- the step that is taken
+abbrev pub stepOf : List ℕ → List ℕ → Front → Front → Turn → ℕ → Step Char
+stepOf a b x y First k = one (frontOp a x)
+stepOf a b x y Second k = two (frontOp b y)
+stepOf a b x y Together k = both (cut k (frontOp a x)) (cut k (frontOp b y))
+
+-- what a rule `turn` chooses: where one record has ended, the other goes by itself
+abbrev pub Chosen : (Op Char → Op Char → align.Turn) → List ℕ → List ℕ → Front → Front → Turn → Type 0
+Chosen turn a b x y First = (0 < x .kind) × ((y .kind ≡ 0) ⊎ (turn (frontOp a x) (frontOp b y) ≡ align.first))
+Chosen turn a b x y Second = (0 < y .kind) × ((x .kind ≡ 0) ⊎ (turn (frontOp a x) (frontOp b y) ≡ align.second))
+Chosen turn a b x y Together = (0 < x .kind) × ((0 < y .kind) × (turn (frontOp a x) (frontOp b y) ≡ align.together))
+
+pub record Chooses (turn : Op Char → Op Char → align.Turn) (a b : List ℕ) (x y : Front) (t : Turn) : Type 0 where
+  pub chosen : Chosen turn a b x y t
+
+-- how many characters the step uses of either front, and where they end
+abbrev pub PlannedBy : List ℕ → List ℕ → Front → Front → Turn → Plan → Type 0
+PlannedBy a b x y First p = (p .k ≡ x .left) × Cut a x (p .k) (p .i)
+PlannedBy a b x y Second p = (p .k ≡ y .left) × Cut b y (p .k) (p .j)
+PlannedBy a b x y Together p = (p .k ≡ min (x .left) (y .left)) × (Cut a x (p .k) (p .i) × Cut b y (p .k) (p .j))
+
+pub record Planned (a b : List ℕ) (x y : Front) (t : Turn) (p : Plan) : Type 0 where
+  pub planned : PlannedBy a b x y t p
+
+-- the fronts afterwards
+abbrev pub AdvancedBy : List ℕ → List ℕ → Front → Front → Turn → Plan → Fronts → Type 0
+AdvancedBy a b x y First p r = Leaves a x (p .k) (r .x) × (r .y ≡ y)
+AdvancedBy a b x y Second p r = (r .x ≡ x) × Leaves b y (p .k) (r .y)
+AdvancedBy a b x y Together p r = Leaves a x (p .k) (r .x) × Leaves b y (p .k) (r .y)
+
+pub record Advances (a b : List ℕ) (x y : Front) (t : Turn) (p : Plan) (r : Fronts) : Type 0 where
+  pub advanced : AdvancedBy a b x y t p r
