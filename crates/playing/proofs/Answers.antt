@@ -22,7 +22,7 @@ use Rattle.operational_transform.specs.Output.{atFront, Out, writing}
 use Rattle.operational_transform.specs.Calls.{textFault, applyCall}
 use Rattle.operational_transform.specs.Emit.{over}
 use Rattle.playing.specs.Steps.{played}
-use Rattle.playing.proofs.Overs.{over-empty, over-front}
+use Rattle.operational_transform.proofs.Over.{over-none, over-front}
 
 -- ---- a result that is written unless there is a fault
 
@@ -63,7 +63,7 @@ stopped r t o n e h = (h, e ∙ untouched (faultOf r t) (played r t) o n h)
 
 -- a run on no output leaves it
 pub unchanged : (r t o e : List ℕ) → e ≡ over 0 (played r t) [] → e ++ o ≡ o
-unchanged r t o e p = ap (λ l. l ++ o) (p ∙ over-empty 0 (played r t))
+unchanged r t o e p = ap (λ l. l ++ o) (p ∙ over-none 0 (played r t))
 
 -- after all checks but that of the room
 module _ (r t o : List ℕ) (z : recordFault r ≡ 0) (w : T (wellFormed t)) (a : numChars t ≡ baseOf r) where

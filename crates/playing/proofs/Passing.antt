@@ -16,7 +16,7 @@ use Rattle.utf8.proofs.Texts.{chars-bytes, bytes-well, bytes-take, bytes-drop, 
 use Rattle.operation.specs.declared.core.Front.{Front}
 use Rattle.operation.specs.Op.{ifZero, takes}
 use Rattle.operation.specs.Front.{opsLeft, frontOp, ahead, Loads}
-use Rattle.operation.proofs.Fronts.{Kinds, kinds, retains, inserts, deletes, op-insert}
+use Rattle.operation.proofs.Fronts.{Kinds, kinds, retains, inserts, deletes, op-insert, some-ahead}
 use Rattle.playing.specs.declared.steps.Place.{Place}
 use Rattle.playing.specs.Steps.{Along, Passes}
 
@@ -39,14 +39,6 @@ module _ (t : List ℕ) (at k end : ℕ) (w : T (wellFormed (drop at t))) (e : e
 -- ---- what lies ahead of a front
 
 module _ (r : List ℕ) (f : Front) where
-  ahead-some : 0 < f .left → ahead r f ≡ frontOp r f ∷ opsLeft r (f .next) (f .to)
-  unfolding ahead
-  ahead-some h = go (f .left) h
-    where
-      go : (n : ℕ) → 0 < n → ifZero n [] (frontOp r f ∷ opsLeft r (f .next) (f .to)) ≡ frontOp r f ∷ opsLeft r (f .next) (f .to)
-      go zero h = absurd (omega arith)
-      go (suc n) h = refl
-
   pub ahead-none : f .left ≡ 0 → ahead r f ≡ []
   unfolding ahead
   ahead-none e = rw e
@@ -64,7 +56,7 @@ module _ (r : List ℕ) (f : Front) where
 
 module _ (r t : List ℕ) (p : Place) (a : Along r t p) (h : 0 < p .front .kind) (u : Front) (l : Loads r (p .front .next) (p .front .to) u) where
   goes-on : ahead r (p .front) ≡ frontOp r (p .front) ∷ ahead r u
-  goes-on = ahead-some r (p .front) (a .stands .some h) ∙ ap (λ s. frontOp r (p .front) ∷ s) (sym (l .has))
+  goes-on = some-ahead r (p .front) (a .stands .some h) ∙ ap (λ s. frontOp r (p .front) ∷ s) (sym (l .has))
 
   pub pass-insert : p .front .kind ≡ 2 → Passes r t p (record { front = u; at = p .at })
   unfolding bytes

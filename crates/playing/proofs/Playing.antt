@@ -15,7 +15,7 @@ use Rattle.operation.specs.declared.core.Front.{Front}
 use Rattle.operation.specs.Op.{Op, takes}
 use Rattle.operation.specs.Layout.{recordsOf, baseOf}
 use Rattle.operation.specs.Record.{ops, recordFault}
-use Rattle.operation.specs.Front.{frontText, frontOp, ahead, Loads}
+use Rattle.operation.specs.Front.{frontText, frontOp, ahead, Stands, Loads}
 use Rattle.operation.proofs.Sequences.{fits-limits}
 use Rattle.operation.proofs.Records.{ops-base, ops-good}
 use Rattle.operation.proofs.Answers.{no-fault}
@@ -26,8 +26,8 @@ use Rattle.operational_transform.proofs.Theorems.{apply-length}
 use Rattle.playing.specs.declared.steps.Place.{Place}
 use Rattle.playing.specs.declared.steps.State.{State}
 use Rattle.playing.specs.Steps.{Passes, played, Stage, Steps}
-use Rattle.playing.proofs.Overs.{over-nil}
-use Rattle.playing.proofs.Widths.{bytes-size}
+use Rattle.operational_transform.proofs.Over.{over-nil}
+use Rattle.operational_transform.proofs.Widths.{bytes-most}
 use Rattle.playing.proofs.Passing.{ahead-none}
 
 -- ---- one step
@@ -94,19 +94,16 @@ played-small : (r t : List ℕ) → recordFault r ≡ 0 → T (wellFormed t) →
 unfolding played
 played-small r t z w e =
     let s = ops r in
-    omega (arith, bytes-size (apply s (chars t)), apply-length s (chars t) (chars-length t w ∙ e ∙ sym (ops-base r z)), fits-limits s .0 (ops-good r z .in-limits))
+    omega (arith, bytes-most (apply s (chars t)), apply-length s (chars t) (chars-length t w ∙ e ∙ sym (ops-base r z)), fits-limits s .0 (ops-good r z .in-limits))
 
-pub has-count : (r : List ℕ) → recordFault r ≡ 0 → 0 + 1 < length r
-has-count r z = omega (arith, no-fault r z)
-
-pub stage-start : (r t : List ℕ) (n : ℕ) (u : Front) → recordFault r ≡ 0 → T (wellFormed t) → numChars t ≡ baseOf r → n ≡ recordsOf r → Loads r 0 (8 + 3 * n) u
+pub stage-start : (r t : List ℕ) (u : Front) → recordFault r ≡ 0 → T (wellFormed t) → numChars t ≡ baseOf r → Stands r u → ahead r u ≡ ops r
     → Stage r t (record { place = record { front = u; at = 0 }; len = 0 })
-stage-start r t n u z w e p l =
+stage-start r t u z w e s a =
     record {
-      along = record { stands = l .stands; inside = zero-le; well = w };
+      along = record { stands = s; inside = zero-le; well = w };
       small = played-small r t z w e;
       given = zero-le;
-      left = unfold played in ap (λ q. bytes (apply q (chars t))) (sym (l .has ∙ ops-start r n (8 + 3 * n) z p refl));
+      left = unfold played in ap (λ q. bytes (apply q (chars t))) (sym a);
     }
 
 pub stage-end : (r t : List ℕ) (s : State) → Stage r t s → s .place .front .kind ≤ 0 → s .len ≡ length (played r t)

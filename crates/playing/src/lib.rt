@@ -23,7 +23,7 @@ pub fn apply(rec: &[u8], text: &[u8], out: &mut [u8]) -> Written
             if !utf8::well_formed(text) {
                 return Written::Refused(Refusal::Utf8);
             }
-            let base = steps::word(rec, 4);
+            let base = operation::core::base(rec);
             let chars = utf8::num_chars(text);
             if chars != base {
                 return Written::Refused(Refusal::IncompatibleLengths);

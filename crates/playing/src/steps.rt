@@ -7,7 +7,7 @@ ghost use lib.Dec.{T};
 ghost use lib.ListN.{length};
 ghost use Rattle.utf8.specs.Form.{wellFormed};
 ghost use Rattle.utf8.specs.Chars.{numChars};
-ghost use Rattle.operation.specs.Layout.{wordAt, recordsOf, baseOf};
+ghost use Rattle.operation.specs.Layout.{recordsOf, baseOf};
 ghost use Rattle.operation.specs.Record.{recordFault};
 ghost use Rattle.operational_transform.specs.Emit.{over};
 ghost use Rattle.playing.specs.Steps.{Along, Passes, played, Stage, Steps};
@@ -22,20 +22,6 @@ pub(crate) struct Place {
 pub(crate) struct State {
     pub place: Place,
     pub len: usize,
-}
-
-fn wide(x: u8) -> usize
-    ensures { λ r. ⌜ (r ≡ x) × (r < 256) ⌝ }
-{
-    x as usize
-}
-
-// Low byte first.
-pub(crate) fn word(rec: &[u8], at: usize) -> usize
-    requires { ⌜ at + 1 < length (now rec) ⌝ }
-    ensures { λ r. ⌜ (r ≡ wordAt (now (rec .entry)) at) × (r < 65536) ⌝ }
-{
-    wide(rec[at]) + 256 * wide(rec[at + 1])
 }
 
 // The next front, and the place in the text behind the characters that this one takes.
@@ -90,8 +76,8 @@ pub(crate) fn run(out: &mut [u8], rec: &[u8], text: &[u8]) -> usize
     requires { ⌜ (recordFault (now rec) ≡ 0) × T (wellFormed (now text)) × (numChars (now text) ≡ baseOf (now rec)) ⌝ }
     ensures { λ r. ⌜ (r ≡ length (played (now (rec .entry)) (now (text .entry)))) × (now (out .exit) ≡ over 0 (played (now (rec .entry)) (now (text .entry))) (now (out .entry))) ⌝ }
 {
-    let n = word(rec, 0);
-    let front = operation::core::load(rec, n, 0, 8 + 3 * n);
+    let n = operation::core::records(rec);
+    let front = operation::core::first(rec, n);
     let place = Place { front, at: 0 };
     let mut s = State { place, len: 0 };
     while 0 < s.place.front.kind {

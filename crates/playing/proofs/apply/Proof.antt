@@ -1,7 +1,5 @@
-use Prim.Native.Nat.{_≤_}
-use lib.ListN.{length}
 use mathlib.Core.Path.{refl}
-use Rattle.operation.proofs.Answers.{passed, passed-header}
+use Rattle.operation.proofs.Answers.{passed}
 use Rattle.playing.proofs.Answers.{stopped, apply-refused, apply-3, apply-8, well, agree}
 use borrow.Author.Needs.{needs}
 use Rattle.playing.proofs.apply.Statement.{statement}
@@ -9,7 +7,7 @@ use Rattle.playing.proofs.apply.Tie as tie
 use Rattle.playing.proofs.apply.Reads as reads
 use Rattle.playing.proofs.apply.Lts as lts
 use Rattle.operation.proofs.check.Reads as check-reads
-use Rattle.playing.proofs.steps.word.Reads as word-reads
+use Rattle.operation.proofs.core.base.Reads as base-reads
 use Rattle.playing.proofs.write.Reads as write-reads
 use Rattle.utf8.proofs.num_chars.Reads as num-chars-reads
 use Rattle.utf8.proofs.well_formed.Reads as well-formed-reads
@@ -35,8 +33,8 @@ returns : tie.Need-returns
 returns c = stopped _ _ _ _ refl (search apply-3)
 
 -- src/lib.rt:26:17
-word-requires : tie.Need-word-requires
-word-requires c κs = let h : 8 ≤ length (c .before .before .before .before .before .before .before .before .args .rec .now) = search passed-header in search needs
+base-requires : tie.Need-base-requires
+base-requires c κs = search passed
 
 -- src/lib.rt:27:17
 num-chars-requires : tie.Need-num-chars-requires
@@ -71,7 +69,7 @@ apply-spec =
     enum-told
     well-formed-requires
     returns
-    word-requires
+    base-requires
     num-chars-requires
     returns-2
     write-requires

@@ -5,14 +5,15 @@ use Rattle.operation.specs.Front.{ahead}
 use Rattle.operation.proofs.Fronts.{place-start}
 use Rattle.operational_transform.specs.Emit.{over}
 use Rattle.playing.specs.Steps.{played, Stage}
-use Rattle.playing.proofs.Overs.{over-nil, laid-more, laid-all}
-use Rattle.playing.proofs.Playing.{has-count, stage-start, stage-end}
+use Rattle.operational_transform.proofs.Over.{over-nil}
+use Rattle.playing.proofs.Overs.{laid-more, laid-all}
+use Rattle.playing.proofs.Playing.{stage-start, stage-end}
 use Rattle.playing.proofs.steps.run.Statement.{statement}
 use Rattle.playing.proofs.steps.run.Tie as tie
 use Rattle.playing.proofs.steps.run.Reads as reads
 use Rattle.playing.proofs.steps.run.Lts as lts
-use Rattle.operation.proofs.core.load.Reads as load-reads
-use Rattle.playing.proofs.steps.word.Reads as word-reads
+use Rattle.operation.proofs.core.first.Reads as first-reads
+use Rattle.operation.proofs.core.records.Reads as records-reads
 use Rattle.playing.proofs.steps.step.Reads as step-reads
 
 abbrev Inv-loop : tie.InvT-loop
@@ -21,23 +22,12 @@ Inv-loop out₀ rec text n s₀ out s = Stage rec text s × (out ≡ over 0 (tak
 abbrev μ-loop : tie.MeasureT-loop
 μ-loop out₀ rec text n s₀ out s = length (ahead rec (s .place .front))
 
--- src/steps.rt:93:9
-word-requires : tie.Need-word-requires Inv-loop μ-loop
-word-requires c κs = search has-count
+records-requires : tie.Need-records-requires Inv-loop μ-loop
+records-requires c κs = search needs
 
--- src/steps.rt:94:54
-mul-load : tie.Need-mul-load Inv-loop μ-loop
-mul-load c = search needs
+first-requires : tie.Need-first-requires Inv-loop μ-loop
+first-requires c κs = search needs
 
--- src/steps.rt:94:50
-add-load : tie.Need-add-load Inv-loop μ-loop
-add-load c = search needs
-
--- src/steps.rt:94:9
-load-requires : tie.Need-load-requires Inv-loop μ-loop
-load-requires c κs = search (place-start, needs)
-
--- src/steps.rt:97:5
 loop-holds : tie.Need-loop-holds Inv-loop μ-loop
 loop-holds c = (search stage-start, sym (over-nil 0 _), refl)
 
@@ -67,10 +57,8 @@ run-spec =
     (tie.spec
     Inv-loop
     μ-loop
-    word-requires
-    mul-load
-    add-load
-    load-requires
+    records-requires
+    first-requires
     loop-holds
     step-requires
     loop-less
