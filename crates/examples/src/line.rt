@@ -1,20 +1,23 @@
 // One line of the list, taken a byte at a time: a call's name, then its operands as bytes.
 
-// Modes: 0 the name; 1 an operand; 2 text in quotes; 3, 4, 5 a decimal number behind `=`, `#` or `]`; 6 a remark.
+// Modes: 0 the name; 1 an operand; 2 text in quotes; 3 to 5 and 7 a decimal number behind `=`, `#`, `]` or `>`; 6 a remark.
 pub struct State {
     // where the line begins in the input
     pub start: usize,
     pub mode: u8,
-    // how long the name is, and the name with all operands
+    // where the name ends in the buffer, where the first operand ends (0 while it goes on), and all ends
     pub word: usize,
+    pub first: usize,
     pub len: usize,
     // where a group in brackets begins
     pub mark: usize,
     // a hexadecimal digit that waits for the second, or 16
     pub digit: u8,
-    // the number that is being read, and the one behind `#`
+    // the number that is being read, the one behind `#`, and the sizes of the outputs
     pub value: u64,
     pub number: u64,
+    pub room: u64,
+    pub rooms: u64,
 }
 
 pub(crate) fn fresh(start: usize) -> State {
@@ -22,25 +25,23 @@ pub(crate) fn fresh(start: usize) -> State {
         start,
         mode: 0,
         word: 0,
+        first: 0,
         len: 0,
         mark: 0,
         digit: 16,
         value: 0,
         number: 0,
+        room: 0,
+        rooms: 0,
     }
 }
 
 fn with_mode(s: State, mode: u8) -> State {
-    State {
-        start: s.start,
-        mode,
-        word: s.word,
-        len: s.len,
-        mark: s.mark,
-        digit: 16,
-        value: 0,
-        number: s.number,
-    }
+    let mut t = s;
+    t.mode = mode;
+    t.digit = 16;
+    t.value = 0;
+    t
 }
 
 fn pushed(s: State, b: u8, buf: &mut [u8]) -> State {
@@ -49,16 +50,10 @@ fn pushed(s: State, b: u8, buf: &mut [u8]) -> State {
         return s;
     }
     buf[at] = b;
-    State {
-        start: s.start,
-        mode: s.mode,
-        word: s.word,
-        len: at + 1,
-        mark: s.mark,
-        digit: 16,
-        value: s.value,
-        number: s.number,
-    }
+    let mut t = s;
+    t.len = at + 1;
+    t.digit = 16;
+    t
 }
 
 // One byte more, the same as `group` bytes before.
@@ -109,21 +104,22 @@ pub(crate) fn settled(s: State, buf: &mut [u8]) -> State {
         let u = pushed(t, (v / 256 % 256) as u8, buf);
         return with_mode(u, 1);
     }
-    if s.mode == 4 {
-        let t = with_mode(s, 1);
-        return State {
-            start: t.start,
-            mode: 1,
-            word: t.word,
-            len: t.len,
-            mark: t.mark,
-            digit: 16,
-            value: 0,
-            number: v,
-        };
-    }
     if s.mode == 5 {
         let t = repeated(s, v, buf);
+        return with_mode(t, 1);
+    }
+    noted(s, v)
+}
+
+fn noted(s: State, v: u64) -> State {
+    let mut t = s;
+    if s.mode == 4 {
+        t.number = v;
+        return with_mode(t, 1);
+    }
+    if s.mode == 7 {
+        t.room = s.rooms;
+        t.rooms = v;
         return with_mode(t, 1);
     }
     s
@@ -138,69 +134,51 @@ fn hex(c: u8) -> u8 {
     }
 }
 
+fn digits(s: State, c: u8, buf: &mut [u8]) -> State {
+    let h = hex(c);
+    if h == 16 {
+        return s;
+    }
+    let d = s.digit;
+    if d == 16 {
+        let mut t = s;
+        t.digit = h;
+        return t;
+    }
+    pushed(s, d % 16 * 16 + h % 16, buf)
+}
+
 fn operand(s: State, c: u8, buf: &mut [u8]) -> State {
+    let mut t = s;
     match c {
         b'"' => with_mode(s, 2),
         b'=' => with_mode(s, 3),
         b'#' => with_mode(s, 4),
-        b'[' => State {
-            start: s.start,
-            mode: 1,
-            word: s.word,
-            len: s.len,
-            mark: s.len,
-            digit: 16,
-            value: 0,
-            number: s.number,
-        },
         b']' => with_mode(s, 5),
-        _ => {
-            let h = hex(c);
-            if h == 16 {
-                return s;
-            }
-            let d = s.digit;
-            if d == 16 {
-                return State {
-                    start: s.start,
-                    mode: 1,
-                    word: s.word,
-                    len: s.len,
-                    mark: s.mark,
-                    digit: h,
-                    value: 0,
-                    number: s.number,
-                };
-            }
-            pushed(s, d % 16 * 16 + h % 16, buf)
+        b'>' => with_mode(s, 7),
+        b'[' => {
+            t.mark = s.len;
+            t
         }
+        b',' => {
+            if s.first == 0 {
+                t.first = s.len;
+            }
+            t
+        }
+        _ => digits(s, c, buf),
     }
 }
 
 fn counted(s: State, c: u8) -> State {
     let v = s.value;
+    let mut t = s;
     if v < 1844674407370955161 {
-        return State {
-            start: s.start,
-            mode: s.mode,
-            word: s.word,
-            len: s.len,
-            mark: s.mark,
-            digit: 16,
-            value: 10 * v + (c % 16) as u64,
-            number: s.number,
-        };
+        t.value = 10 * v + (c % 16) as u64;
+    } else {
+        t.value = u64::MAX;
     }
-    State {
-        start: s.start,
-        mode: s.mode,
-        word: s.word,
-        len: s.len,
-        mark: s.mark,
-        digit: 16,
-        value: u64::MAX,
-        number: s.number,
-    }
+    t
 }
 
 pub(crate) fn feed(s: State, c: u8, buf: &mut [u8]) -> State {
@@ -208,16 +186,10 @@ pub(crate) fn feed(s: State, c: u8, buf: &mut [u8]) -> State {
     match mode {
         0 => {
             if c == b' ' {
-                return State {
-                    start: s.start,
-                    mode: 1,
-                    word: s.len,
-                    len: s.len,
-                    mark: 0,
-                    digit: 16,
-                    value: 0,
-                    number: 0,
-                };
+                let mut t = s;
+                t.mode = 1;
+                t.word = s.len;
+                return t;
             }
             if c == b';' {
                 return with_mode(s, 6);

@@ -3,42 +3,11 @@
 ghost use Prim.Native.Nat.{_<_};
 ghost use lib.ListN.{length};
 
+mod calls;
 mod line;
 mod show;
 
 use line::State;
-
-fn answer(word: &[u8], a: &[u8], number: u64) {
-    if check::same(word, b"well_formed") {
-        show::yes_or_no(utf8::well_formed(a));
-        return;
-    }
-    if check::same(word, b"num_chars") {
-        show::number(utf8::num_chars(a) as u64);
-        return;
-    }
-    if check::same(word, b"check") {
-        show::fact(operation::check(a));
-        return;
-    }
-    if check::same(word, b"base_len") {
-        show::fact(operation::base_len(a));
-        return;
-    }
-    if check::same(word, b"target_len") {
-        show::fact(operation::target_len(a));
-        return;
-    }
-    if check::same(word, b"is_noop") {
-        show::noop(operation::is_noop(a));
-        return;
-    }
-    if check::same(word, b"insert_text") {
-        show::bytes(operation::insert_text(a, number as usize));
-        return;
-    }
-    show::text(b"no such call");
-}
 
 // A whole line: its answer is printed behind it.
 fn run(s: State, buf: &[u8]) {
@@ -47,10 +16,13 @@ fn run(s: State, buf: &[u8]) {
     if s.mode == 6 {
         return;
     }
-    if w <= e {
-        if e <= buf.len() {
-            show::text(b" -> ");
-            answer(&buf[0..w], &buf[w..e], s.number);
+    let f = calls::first_end(s.first, e);
+    if w <= f {
+        if f <= e {
+            if e <= buf.len() {
+                show::text(b" -> ");
+                calls::answer(&buf[0..w], &buf[w..f], &buf[f..e], s);
+            }
         }
     }
 }

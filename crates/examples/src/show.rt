@@ -3,6 +3,8 @@ ghost use Prim.Native.Nat.{_<_};
 use operation::Fact;
 use operation::Noop;
 use operation::Refusal;
+use operational_transform::Written;
+use transform::WrittenPair;
 
 pub(crate) fn text(t: &[u8]) {
     io::write_all(1, t);
@@ -52,6 +54,31 @@ pub(crate) fn noop(n: Noop) {
         Noop::Is(b) => yes_or_no(b),
         Noop::Refused(x) => refusal(x),
     }
+}
+
+// The answer, then the whole output.
+pub(crate) fn written(w: Written, out: &[u8]) {
+    match w {
+        Written::Bytes(n) => number(n as u64),
+        Written::Refused(x) => refusal(x),
+    }
+    text(b", ");
+    bytes(out);
+}
+
+pub(crate) fn pair(w: WrittenPair, out_a: &[u8], out_b: &[u8]) {
+    match w {
+        WrittenPair::Bytes(n, m) => {
+            number(n as u64);
+            text(b" ");
+            number(m as u64);
+        }
+        WrittenPair::Refused(x) => refusal(x),
+    }
+    text(b", ");
+    bytes(out_a);
+    text(b", ");
+    bytes(out_b);
 }
 
 // Short ones in hexadecimal; of long ones the length and a sum.
