@@ -2,58 +2,40 @@ use Rattle.builders.proofs.Extending.{under-room, few-retained, few-ins
 use borrow.Author.Needs.{needs}
 use Rattle.builders.proofs.add.Statement.{statement}
 use Rattle.builders.proofs.add.Tie as tie
-use Rattle.builders.proofs.add.Reads as reads
-use Rattle.builders.proofs.add.Lts as lts
-use Rattle.operational_transform.proofs.core.delete.Reads as delete-reads
-use Rattle.operational_transform.proofs.core.insert.Reads as insert-reads
-use Rattle.operational_transform.proofs.core.retain.Reads as retain-reads
-use Rattle.utf8.proofs.num_chars.Reads as num-chars-reads
 
--- src/lib.rt:55:23
 enum-known-x : tie.Need-enum-known-x
 enum-known-x c = search needs
 
--- src/lib.rt:55:29
 retain-requires : tie.Need-retain-requires
 retain-requires c κs = search (few-retained, under-room, needs)
 
--- src/lib.rt:57:17
 enum-told : tie.Need-enum-told
 enum-told c = search needs
 
--- src/lib.rt:57:17
 num-chars-requires : tie.Need-num-chars-requires
 num-chars-requires c κs = search needs
 
--- src/lib.rt:58:13
 insert-requires : tie.Need-insert-requires
 insert-requires c κs = search (few-inserted, whole-well, whole-chars, under-room, needs)
 
--- src/lib.rt:60:23
 enum-known-x-2 : tie.Need-enum-known-x-2
 enum-known-x-2 c = search needs
 
--- src/lib.rt:60:29
 delete-requires : tie.Need-delete-requires
 delete-requires c κs = search (few-deleted, under-room, needs)
 
--- src/lib.rt:50:1
 returns : tie.Need-returns
 returns c = search added-retain
 
--- src/lib.rt:50:1
 same-length : tie.Need-same-length
 same-length c = search needs
 
--- src/lib.rt:50:1
 returns-2 : tie.Need-returns-2
 returns-2 c = search added-insert
 
--- src/lib.rt:50:1
 same-length-2 : tie.Need-same-length-2
 same-length-2 c = search needs
 
--- src/lib.rt:50:1
 returns-3 : tie.Need-returns-3
 returns-3 c = search added-delete
 

@@ -2,30 +2,22 @@ use Rattle.builders.proofs.Extending.{count-inserted}
 use borrow.Author.Needs.{needs}
 use Rattle.builders.proofs.count.Statement.{statement}
 use Rattle.builders.proofs.count.Tie as tie
-use Rattle.builders.proofs.count.Reads as reads
-use Rattle.builders.proofs.count.Lts as lts
 
--- src/lib.rt:30:23
 enum-known-x : tie.Need-enum-known-x
 enum-known-x c = search needs
 
--- src/lib.rt:31:26
 enum-told : tie.Need-enum-told
 enum-told c = search needs
 
--- src/lib.rt:32:23
 enum-known-x-2 : tie.Need-enum-known-x-2
 enum-known-x-2 c = search needs
 
--- src/lib.rt:26:1
 returns : tie.Need-returns
 returns c = search needs
 
--- src/lib.rt:26:1
 returns-2 : tie.Need-returns-2
 returns-2 c = search count-inserted
 
--- src/lib.rt:26:1
 returns-3 : tie.Need-returns-3
 returns-3 c = search needs
 

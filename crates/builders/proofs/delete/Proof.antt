@@ -8,32 +8,22 @@ use Rattle.operational_transform.proofs.Giving.{record-refused, record-passed}
 use borrow.Author.Needs.{needs}
 use Rattle.builders.proofs.delete.Statement.{statement}
 use Rattle.builders.proofs.delete.Tie as tie
-use Rattle.builders.proofs.delete.Reads as reads
-use Rattle.builders.proofs.delete.Lts as lts
-use Rattle.builders.proofs.extended.Reads as extended-reads
-use Rattle.operation.proofs.check.Reads as check-reads
 
--- src/lib.rt:126:11
 check-requires : tie.Need-check-requires
 check-requires c κs = search needs
 
--- src/lib.rt:127:23
 enum-known-x : tie.Need-enum-known-x
 enum-known-x c = search needs
 
--- src/lib.rt:128:38
 enum-told : tie.Need-enum-told
 enum-told c = search needs
 
--- src/lib.rt:128:38
 slice-aggregate-extended : tie.Need-slice-aggregate-extended
 slice-aggregate-extended c = search needs
 
--- src/lib.rt:128:24
 extended-requires : tie.Need-extended-requires
 extended-requires c κs = search (passed, needs)
 
--- src/lib.rt:123:1
 returns : tie.Need-returns
 unfolding deleteCall
 returns c =
@@ -41,11 +31,9 @@ returns c =
     let w : Gives (deleteCall (a .rec .now) (a .n) (a .out .now)) (Refused (c .before .x .given .0 .0)) (a .out .now) = search record-refused in
     (w .answer, w .out)
 
--- src/lib.rt:123:1
 same-length : tie.Need-same-length
 same-length c = search needs
 
--- src/lib.rt:123:1
 returns-2 : tie.Need-returns-2
 unfolding deleteCall
 returns-2 c =

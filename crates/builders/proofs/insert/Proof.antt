@@ -9,29 +9,19 @@ use Rattle.operational_transform.proofs.Giving.{text-refused, text-ill, text-pa
 use borrow.Author.Needs.{needs}
 use Rattle.builders.proofs.insert.Statement.{statement}
 use Rattle.builders.proofs.insert.Tie as tie
-use Rattle.builders.proofs.insert.Reads as reads
-use Rattle.builders.proofs.insert.Lts as lts
-use Rattle.builders.proofs.extended.Reads as extended-reads
-use Rattle.operation.proofs.check.Reads as check-reads
-use Rattle.utf8.proofs.well_formed.Reads as well-formed-reads
 
--- src/lib.rt:136:11
 check-requires : tie.Need-check-requires
 check-requires c κs = search needs
 
--- src/lib.rt:137:23
 enum-known-x : tie.Need-enum-known-x
 enum-known-x c = search needs
 
--- src/lib.rt:139:17
 enum-told : tie.Need-enum-told
 enum-told c = search needs
 
--- src/lib.rt:139:17
 well-formed-requires : tie.Need-well-formed-requires
 well-formed-requires c κs = search needs
 
--- src/lib.rt:140:17
 returns : tie.Need-returns
 unfolding insertCall
 returns c =
@@ -40,11 +30,9 @@ returns c =
     let w : Gives (insertCall (a .rec .now) (a .text .now) (a .out .now)) (Refused Utf8) (a .out .now) = search text-ill in
     (w .answer, w .out)
 
--- src/lib.rt:142:13
 extended-requires : tie.Need-extended-requires
 extended-requires c κs = search (passed, text-well, needs)
 
--- src/lib.rt:133:1
 returns-2 : tie.Need-returns-2
 unfolding insertCall
 returns-2 c =
@@ -52,11 +40,9 @@ returns-2 c =
     let w : Gives (insertCall (a .rec .now) (a .text .now) (a .out .now)) (Refused (c .before .x .given .0 .0)) (a .out .now) = search text-refused in
     (w .answer, w .out)
 
--- src/lib.rt:133:1
 same-length : tie.Need-same-length
 same-length c = search needs
 
--- src/lib.rt:133:1
 returns-3 : tie.Need-returns-3
 unfolding insertCall
 returns-3 c =

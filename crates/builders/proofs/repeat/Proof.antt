@@ -5,12 +5,6 @@ use Rattle.builders.proofs.Repeating.{Going, going-start, going-room, g
 use borrow.Author.Needs.{needs}
 use Rattle.builders.proofs.repeat.Statement.{statement}
 use Rattle.builders.proofs.repeat.Tie as tie
-use Rattle.builders.proofs.repeat.Reads as reads
-use Rattle.builders.proofs.repeat.Lts as lts
-use Rattle.operation.proofs.core.first.Reads as first-reads
-use Rattle.operation.proofs.core.load.Reads as load-reads
-use Rattle.operational_transform.proofs.core.part.Reads as part-reads
-use Rattle.operational_transform.proofs.core.start.Reads as start-reads
 
 abbrev Inv-loop : tie.InvT-loop
 Inv-loop rec records out₀ n e₀ f₀ out e f = Going n rec out₀ f e out × (length out ≡ length out₀)
@@ -18,39 +12,30 @@ Inv-loop rec records out₀ n e₀ f₀ out e f = Going n rec out₀ f e out × 
 abbrev μ-loop : tie.MeasureT-loop
 μ-loop rec records out₀ n e₀ f₀ out e f = length (ahead rec f)
 
--- src/lib.rt:41:9
 start-requires : tie.Need-start-requires Inv-loop μ-loop
 start-requires c κs = search needs
 
--- src/lib.rt:42:9
 first-requires : tie.Need-first-requires Inv-loop μ-loop
 first-requires c κs = search needs
 
--- src/lib.rt:43:5
 loop-holds : tie.Need-loop-holds Inv-loop μ-loop
 loop-holds c = (search going-start, search needs)
 
--- src/lib.rt:44:9
 part-requires : tie.Need-part-requires Inv-loop μ-loop
 part-requires c κs = search (whole-cut, going-room, needs)
 
--- src/lib.rt:45:9
 load-requires : tie.Need-load-requires Inv-loop μ-loop
 load-requires c κs = search needs
 
--- src/lib.rt:43:5
 loop-less : tie.Need-loop-less Inv-loop μ-loop
 loop-less c = search going-less
 
--- src/lib.rt:43:5
 loop-again : tie.Need-loop-again Inv-loop μ-loop
 loop-again c = (search going-more, search needs)
 
--- src/lib.rt:37:1
 same-length : tie.Need-same-length Inv-loop μ-loop
 same-length c = search needs
 
--- src/lib.rt:37:1
 returns : tie.Need-returns Inv-loop μ-loop
 returns c = search going-done
 

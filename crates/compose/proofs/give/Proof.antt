@@ -4,56 +4,40 @@ use Rattle.turns.proofs.Turning.{Within}
 use borrow.Author.Needs.{needs}
 use Rattle.compose.proofs.give.Statement.{statement}
 use Rattle.compose.proofs.give.Tie as tie
-use Rattle.compose.proofs.give.Reads as reads
-use Rattle.compose.proofs.give.Lts as lts
-use Rattle.compose.proofs.meet.Reads as meet-reads
-use Rattle.operational_transform.proofs.core.part.Reads as part-reads
 
--- src/lib.rt:87:58
 enum-told : tie.Need-enum-told
 enum-told c = search needs
 
--- src/lib.rt:87:24
 part-requires : tie.Need-part-requires
 part-requires c κs = search (Within, needs)
 
--- src/lib.rt:88:59
 enum-told-2 : tie.Need-enum-told-2
 enum-told-2 c = search needs
 
--- src/lib.rt:88:25
 part-requires-2 : tie.Need-part-requires-2
 part-requires-2 c κs = search (Within, needs)
 
--- src/lib.rt:89:38
 enum-told-3 : tie.Need-enum-told-3
 enum-told-3 c = search needs
 
--- src/lib.rt:89:27
 meet-requires : tie.Need-meet-requires
 meet-requires c κs = search (chooses-as, planned-as, needs)
 
--- src/lib.rt:72:1
 same-length : tie.Need-same-length
 same-length c = search needs
 
--- src/lib.rt:72:1
 returns : tie.Need-returns
 returns c = search give-first
 
--- src/lib.rt:72:1
 same-length-2 : tie.Need-same-length-2
 same-length-2 c = search needs
 
--- src/lib.rt:72:1
 returns-2 : tie.Need-returns-2
 returns-2 c = search give-second
 
--- src/lib.rt:72:1
 same-length-3 : tie.Need-same-length-3
 same-length-3 c = search needs
 
--- src/lib.rt:72:1
 returns-3 : tie.Need-returns-3
 returns-3 c = search give-together
 

@@ -9,13 +9,6 @@ use Rattle.compose.proofs.Looping.{Going, going-done, going-more, going
 use borrow.Author.Needs.{needs}
 use Rattle.compose.proofs.run.Statement.{statement}
 use Rattle.compose.proofs.run.Tie as tie
-use Rattle.compose.proofs.run.Reads as reads
-use Rattle.compose.proofs.run.Lts as lts
-use Rattle.compose.proofs.live.Reads as live-reads
-use Rattle.compose.proofs.turn.Reads as turn-reads
-use Rattle.operation.proofs.core.first.Reads as first-reads
-use Rattle.operational_transform.proofs.core.finish.Reads as finish-reads
-use Rattle.operational_transform.proofs.core.start.Reads as start-reads
 
 abbrev Inv-loop : tie.InvT-loop
 Inv-loop a na b nb out₀ n s₀ out s = Going n a b out₀ s out × (length out ≡ length out₀)
@@ -23,47 +16,36 @@ Inv-loop a na b nb out₀ n s₀ out s = Going n a b out₀ s out × (length out
 abbrev μ-loop : tie.MeasureT-loop
 μ-loop a na b nb out₀ n s₀ out s = length (ahead a (s .x)) + length (ahead b (s .y))
 
--- src/lib.rt:123:9
 first-requires : tie.Need-first-requires Inv-loop μ-loop
 first-requires c κs = search needs
 
--- src/lib.rt:124:9
 first-requires-2 : tie.Need-first-requires-2 Inv-loop μ-loop
 first-requires-2 c κs = search needs
 
--- src/lib.rt:125:9
 start-requires : tie.Need-start-requires Inv-loop μ-loop
 start-requires c κs = search needs
 
--- src/lib.rt:127:5
 loop-holds : tie.Need-loop-holds Inv-loop μ-loop
 loop-holds c = (search going-start, search needs)
 
--- src/lib.rt:127:11
 live-requires : tie.Need-live-requires Inv-loop μ-loop
 live-requires c κs = search needs
 
--- src/lib.rt:128:9
 turn-requires : tie.Need-turn-requires Inv-loop μ-loop
 turn-requires c κs = search (going-under, live-is, needs)
 
--- src/lib.rt:127:5
 loop-less : tie.Need-loop-less Inv-loop μ-loop
 loop-less c = c .before .before .turn .ensures .less
 
--- src/lib.rt:127:5
 loop-again : tie.Need-loop-again Inv-loop μ-loop
 loop-again c = (search going-more, search needs)
 
--- src/lib.rt:131:5
 finish-requires : tie.Need-finish-requires Inv-loop μ-loop
 finish-requires c κs = search (going-under, needs)
 
--- src/lib.rt:119:1
 same-length : tie.Need-same-length Inv-loop μ-loop
 same-length c = search needs
 
--- src/lib.rt:119:1
 returns : tie.Need-returns Inv-loop μ-loop
 returns c =
     let l = c .before .before .before .before .before .before .before .loop in

@@ -4,34 +4,22 @@ use Rattle.compose.proofs.Steps.{went}
 use borrow.Author.Needs.{needs}
 use Rattle.compose.proofs.turn.Statement.{statement}
 use Rattle.compose.proofs.turn.Tie as tie
-use Rattle.compose.proofs.turn.Reads as reads
-use Rattle.compose.proofs.turn.Lts as lts
-use Rattle.compose.proofs.give.Reads as give-reads
-use Rattle.compose.proofs.whose.Reads as whose-reads
-use Rattle.turns.proofs.core.advance.Reads as advance-reads
-use Rattle.turns.proofs.core.measure.Reads as measure-reads
 
--- src/lib.rt:109:9
 whose-requires : tie.Need-whose-requires
 whose-requires c κs = search needs
 
--- src/lib.rt:110:9
 measure-requires : tie.Need-measure-requires
 measure-requires c κs = search needs
 
--- src/lib.rt:111:9
 give-requires : tie.Need-give-requires
 give-requires c κs = search (chooses-by, needs)
 
--- src/lib.rt:112:9
 advance-requires : tie.Need-advance-requires
 advance-requires c κs = search needs
 
--- src/lib.rt:102:1
 same-length : tie.Need-same-length
 same-length c = search needs
 
--- src/lib.rt:102:1
 returns : tie.Need-returns
 returns c =
     let start = c .before .before .before .before .before .before .before .before .before .before .before .before .before .before .before in

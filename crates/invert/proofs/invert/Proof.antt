@@ -9,29 +9,19 @@ use Rattle.operational_transform.proofs.Giving.{text-refused, text-ill, text-pa
 use borrow.Author.Needs.{needs}
 use Rattle.invert.proofs.invert.Statement.{statement}
 use Rattle.invert.proofs.invert.Tie as tie
-use Rattle.invert.proofs.invert.Reads as reads
-use Rattle.invert.proofs.invert.Lts as lts
-use Rattle.invert.proofs.inverted.Reads as inverted-reads
-use Rattle.operation.proofs.check.Reads as check-reads
-use Rattle.utf8.proofs.well_formed.Reads as well-formed-reads
 
--- src/lib.rt:104:11
 check-requires : tie.Need-check-requires
 check-requires c κs = search needs
 
--- src/lib.rt:105:23
 enum-known-x : tie.Need-enum-known-x
 enum-known-x c = search needs
 
--- src/lib.rt:107:17
 enum-told : tie.Need-enum-told
 enum-told c = search needs
 
--- src/lib.rt:107:17
 well-formed-requires : tie.Need-well-formed-requires
 well-formed-requires c κs = search needs
 
--- src/lib.rt:108:17
 returns : tie.Need-returns
 unfolding invertCall
 returns c =
@@ -40,11 +30,9 @@ returns c =
     let w : Gives (invertCall (a .rec .now) (a .text .now) (a .out .now)) (Refused Utf8) (a .out .now) = search text-ill in
     (w .answer, w .out)
 
--- src/lib.rt:110:13
 inverted-requires : tie.Need-inverted-requires
 inverted-requires c κs = search (passed, text-well, needs)
 
--- src/lib.rt:101:1
 returns-2 : tie.Need-returns-2
 unfolding invertCall
 returns-2 c =
@@ -52,11 +40,9 @@ returns-2 c =
     let w : Gives (invertCall (a .rec .now) (a .text .now) (a .out .now)) (Refused (c .before .x .given .0 .0)) (a .out .now) = search text-refused in
     (w .answer, w .out)
 
--- src/lib.rt:101:1
 same-length : tie.Need-same-length
 same-length c = search needs
 
--- src/lib.rt:101:1
 returns-3 : tie.Need-returns-3
 unfolding invertCall
 returns-3 c =

@@ -2,44 +2,31 @@ use Rattle.transform.proofs.Answering.{judge-bytes, judge-first, judge-
 use borrow.Author.Needs.{needs}
 use Rattle.transform.proofs.judge.Statement.{statement}
 use Rattle.transform.proofs.judge.Tie as tie
-use Rattle.transform.proofs.judge.Reads as reads
-use Rattle.transform.proofs.judge.Lts as lts
-use Rattle.operational_transform.proofs.core.keeps_limits.Reads as keeps-limits-reads
-use Rattle.operational_transform.proofs.core.size.Reads as size-reads
 
--- src/lib.rt:138:9
 keeps-limits-requires : tie.Need-keeps-limits-requires
 keeps-limits-requires c κs = search needs
 
--- src/lib.rt:139:9
 returns : tie.Need-returns
 returns c = search judge-first
 
--- src/lib.rt:141:9
 keeps-limits-requires-2 : tie.Need-keeps-limits-requires-2
 keeps-limits-requires-2 c κs = search needs
 
--- src/lib.rt:142:9
 returns-2 : tie.Need-returns-2
 returns-2 c = search judge-second
 
--- src/lib.rt:144:9
 size-requires : tie.Need-size-requires
 size-requires c κs = search needs
 
--- src/lib.rt:145:9
 size-requires-2 : tie.Need-size-requires-2
 size-requires-2 c κs = search needs
 
--- src/lib.rt:147:9
 returns-3 : tie.Need-returns-3
 returns-3 c = search judge-short
 
--- src/lib.rt:150:9
 returns-4 : tie.Need-returns-4
 returns-4 c = search judge-shorter
 
--- src/lib.rt:134:1
 returns-5 : tie.Need-returns-5
 returns-5 c = search judge-bytes
 

@@ -13,13 +13,6 @@ use Rattle.turns.proofs.Turning.{live-is}
 use borrow.Author.Needs.{needs}
 use Rattle.transform.proofs.run.Statement.{statement}
 use Rattle.transform.proofs.run.Tie as tie
-use Rattle.transform.proofs.run.Reads as reads
-use Rattle.transform.proofs.run.Lts as lts
-use Rattle.operation.proofs.core.first.Reads as first-reads
-use Rattle.operational_transform.proofs.core.finish.Reads as finish-reads
-use Rattle.operational_transform.proofs.core.start.Reads as start-reads
-use Rattle.transform.proofs.live.Reads as live-reads
-use Rattle.transform.proofs.turn.Reads as turn-reads
 
 abbrev Inv-loop : tie.InvT-loop
 Inv-loop a na b nb out-a₀ n out-b₀ m s₀ out-a out-b s = Going n m a b out-a₀ out-b₀ s out-a out-b × ((length out-a ≡ length out-a₀) × (length out-b ≡ length out-b₀))
@@ -27,55 +20,42 @@ Inv-loop a na b nb out-a₀ n out-b₀ m s₀ out-a out-b s = Going n m a b out-
 abbrev μ-loop : tie.MeasureT-loop
 μ-loop a na b nb out-a₀ n out-b₀ m s₀ out-a out-b s = length (ahead a (s .x)) + length (ahead b (s .y))
 
--- src/lib.rt:98:9
 first-requires : tie.Need-first-requires Inv-loop μ-loop
 first-requires c κs = search needs
 
--- src/lib.rt:99:9
 first-requires-2 : tie.Need-first-requires-2 Inv-loop μ-loop
 first-requires-2 c κs = search needs
 
--- src/lib.rt:100:9
 start-requires : tie.Need-start-requires Inv-loop μ-loop
 start-requires c κs = search needs
 
--- src/lib.rt:102:5
 loop-holds : tie.Need-loop-holds Inv-loop μ-loop
 loop-holds c = (search going-start, (search needs, search needs))
 
--- src/lib.rt:102:11
 live-requires : tie.Need-live-requires Inv-loop μ-loop
 live-requires c κs = search needs
 
--- src/lib.rt:103:9
 turn-requires : tie.Need-turn-requires Inv-loop μ-loop
 turn-requires c κs = search (going-under-e, going-under-f, live-is, needs)
 
--- src/lib.rt:102:5
 loop-less : tie.Need-loop-less Inv-loop μ-loop
 loop-less c = c .before .before .before .before .turn .ensures .less
 
--- src/lib.rt:102:5
 loop-again : tie.Need-loop-again Inv-loop μ-loop
 loop-again c = (search going-more, (search needs, search needs))
 
--- src/lib.rt:107:9
 finish-requires : tie.Need-finish-requires Inv-loop μ-loop
 finish-requires c κs = search (going-under-e, needs)
 
--- src/lib.rt:108:9
 finish-requires-2 : tie.Need-finish-requires-2 Inv-loop μ-loop
 finish-requires-2 c κs = (c .before .before .before .before .before .before .before .before .before .before .before .before .before .before .before .before .before .pre .5, under-more (2 ^ 38) (2 ^ 39) _ (omega arith) (going-under-f _ _ _ _ _ _ _ _ _ (c .before .before .before .before .before .before .before .before .before .loop .inv .0)))
 
--- src/lib.rt:85:1
 same-length : tie.Need-same-length Inv-loop μ-loop
 same-length c = search needs
 
--- src/lib.rt:85:1
 same-length-2 : tie.Need-same-length-2 Inv-loop μ-loop
 same-length-2 c = search needs
 
--- src/lib.rt:85:1
 returns : tie.Need-returns Inv-loop μ-loop
 returns c =
     let l = c .before .before .before .before .before .before .before .before .before .before .before .before .loop in

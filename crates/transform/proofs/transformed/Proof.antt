@@ -2,67 +2,46 @@ use Rattle.transform.proofs.Answering.{transforms-lengths, transforms-r
 use borrow.Author.Needs.{needs}
 use Rattle.transform.proofs.transformed.Statement.{statement}
 use Rattle.transform.proofs.transformed.Tie as tie
-use Rattle.transform.proofs.transformed.Reads as reads
-use Rattle.transform.proofs.transformed.Lts as lts
-use Rattle.operation.proofs.core.base.Reads as base-reads
-use Rattle.operation.proofs.core.records.Reads as records-reads
-use Rattle.transform.proofs.judge.Reads as judge-reads
-use Rattle.transform.proofs.sized.Reads as sized-reads
-use Rattle.transform.proofs.write.Reads as write-reads
 
--- src/lib.rt:195:9
 base-requires : tie.Need-base-requires
 base-requires c κs = search needs
 
--- src/lib.rt:196:9
 base-requires-2 : tie.Need-base-requires-2
 base-requires-2 c κs = search needs
 
--- src/lib.rt:198:9
 returns : tie.Need-returns
 returns c = search transforms-lengths
 
--- src/lib.rt:200:9
 records-requires : tie.Need-records-requires
 records-requires c κs = search needs
 
--- src/lib.rt:201:9
 records-requires-2 : tie.Need-records-requires-2
 records-requires-2 c κs = search needs
 
--- src/lib.rt:202:9
 sized-requires : tie.Need-sized-requires
 sized-requires c κs = search needs
 
--- src/lib.rt:205:11
 judge-requires : tie.Need-judge-requires
 judge-requires c κs = search needs
 
--- src/lib.rt:206:30
 enum-known-x : tie.Need-enum-known-x
 enum-known-x c = search needs
 
--- src/lib.rt:207:28
 enum-known-k : tie.Need-enum-known-k
 enum-known-k c = search needs
 
--- src/lib.rt:208:13
 write-requires : tie.Need-write-requires
 write-requires c κs = search needs
 
--- src/lib.rt:191:1
 returns-2 : tie.Need-returns-2
 returns-2 c = search transforms-refused
 
--- src/lib.rt:191:1
 same-length : tie.Need-same-length
 same-length c = search needs
 
--- src/lib.rt:191:1
 same-length-2 : tie.Need-same-length-2
 same-length-2 c = search needs
 
--- src/lib.rt:191:1
 returns-3 : tie.Need-returns-3
 returns-3 c =
     let start = c .before .before .before .before .before .before .before .before .before .before .before .before .before .before .before .before .before .before .before .before .before .before .before in

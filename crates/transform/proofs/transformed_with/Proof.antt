@@ -3,40 +3,28 @@ use Rattle.operation.proofs.Answers.{passed}
 use borrow.Author.Needs.{needs}
 use Rattle.transform.proofs.transformed_with.Statement.{statement}
 use Rattle.transform.proofs.transformed_with.Tie as tie
-use Rattle.transform.proofs.transformed_with.Reads as reads
-use Rattle.transform.proofs.transformed_with.Lts as lts
-use Rattle.operation.proofs.check.Reads as check-reads
-use Rattle.transform.proofs.transformed.Reads as transformed-reads
 
--- src/lib.rt:210:11
 check-requires : tie.Need-check-requires
 check-requires c κs = search needs
 
--- src/lib.rt:211:23
 enum-known-x : tie.Need-enum-known-x
 enum-known-x c = search needs
 
--- src/lib.rt:212:42
 enum-told : tie.Need-enum-told
 enum-told c = search needs
 
--- src/lib.rt:212:24
 transformed-requires : tie.Need-transformed-requires
 transformed-requires c κs = search (passed, needs)
 
--- src/lib.rt:206:1
 returns : tie.Need-returns
 returns c = search transforms-second
 
--- src/lib.rt:206:1
 same-length : tie.Need-same-length
 same-length c = search needs
 
--- src/lib.rt:206:1
 same-length-2 : tie.Need-same-length-2
 same-length-2 c = search needs
 
--- src/lib.rt:206:1
 returns-2 : tie.Need-returns-2
 returns-2 c = search needs
 

@@ -1,13 +1,9 @@
-use Prim.Native.Nat.{_-_, _≤_, _<_}
+use Prim.Native.Nat.{_-_, _≤_}
 use mathlib.Core.Path.{_≡_}
-use native.Mathlib.Omega.{arith}
 use lib.ListN.{length}
 use borrow.Author.Needs.{needs}
 use Rattle.examples.proofs.line.repeated.Statement.{statement}
 use Rattle.examples.proofs.line.repeated.Tie as tie
-use Rattle.examples.proofs.line.repeated.Reads as reads
-use Rattle.examples.proofs.line.repeated.Lts as lts
-use Rattle.examples.proofs.line.group_again.Reads as group-again-reads
 
 abbrev Inv-loop : tie.InvT-loop
 Inv-loop times buf₀ group more t₀ counter₀ buf t counter = (counter ≤ more) × (length buf ≡ length buf₀)
@@ -15,47 +11,36 @@ Inv-loop times buf₀ group more t₀ counter₀ buf t counter = (counter ≤ mo
 abbrev μ-loop : tie.MeasureT-loop
 μ-loop times buf₀ group more t₀ counter₀ buf t counter = more - counter
 
--- src/line.rt:90:9
 returns : tie.Need-returns Inv-loop μ-loop
 returns c = search needs
 
--- src/line.rt:93:9
 returns-2 : tie.Need-returns-2 Inv-loop μ-loop
 returns-2 c = search needs
 
--- src/line.rt:95:17
 sub-group : tie.Need-sub-group Inv-loop μ-loop
 sub-group c = search needs
 
--- src/line.rt:96:16
 sub-more : tie.Need-sub-more Inv-loop μ-loop
 sub-more c = search needs
 
--- src/line.rt:98:5
 loop-holds : tie.Need-loop-holds Inv-loop μ-loop
 loop-holds c = search needs
 
--- src/line.rt:99:9
 group-again-requires : tie.Need-group-again-requires Inv-loop μ-loop
 group-again-requires c κs = search needs
 
--- src/line.rt:98:9
 add-counter : tie.Need-add-counter Inv-loop μ-loop
 add-counter c = search needs
 
--- src/line.rt:98:5
 loop-less : tie.Need-loop-less Inv-loop μ-loop
 loop-less c = search needs
 
--- src/line.rt:98:5
 loop-again : tie.Need-loop-again Inv-loop μ-loop
 loop-again c = search needs
 
--- src/line.rt:88:1
 same-length : tie.Need-same-length Inv-loop μ-loop
 same-length c = search needs
 
--- src/line.rt:88:1
 returns-3 : tie.Need-returns-3 Inv-loop μ-loop
 returns-3 c = search needs
 

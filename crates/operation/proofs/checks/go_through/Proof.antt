@@ -1,5 +1,4 @@
 use Prim.Native.Nat.{_-_, _≤_}
-use native.Mathlib.Omega.{arith}
 use mathlib.Core.Path.{_≡_, _∙_}
 use mathlib.Core.Bool.{true}
 use borrow.Author.Needs.{needs}
@@ -7,10 +6,6 @@ use Rattle.operation.specs.Checks.{outcome, start, Passing}
 use Rattle.operation.proofs.Checking.{start-at, passing-start, passes-ill, passes-on, pass-end}
 use Rattle.operation.proofs.checks.go_through.Statement.{statement}
 use Rattle.operation.proofs.checks.go_through.Tie as tie
-use Rattle.operation.proofs.checks.go_through.Reads as reads
-use Rattle.operation.proofs.checks.go_through.Lts as lts
-use Rattle.operation.proofs.checks.step.Reads as step-reads
-use Rattle.operation.proofs.layout.text_start.Reads as text-start-reads
 
 abbrev Inv-loop : tie.InvT-loop
 Inv-loop rec n p₀ k₀ p k = (k ≤ n) × Passing rec k p × (outcome rec k p ≡ outcome rec 0 (start rec))
@@ -18,41 +13,32 @@ Inv-loop rec n p₀ k₀ p k = (k ≤ n) × Passing rec k p × (outcome rec k p 
 abbrev μ-loop : tie.MeasureT-loop
 μ-loop rec n p₀ k₀ p k = n - k
 
--- src/checks.rt:153:13
 text-start-requires : tie.Need-text-start-requires Inv-loop μ-loop
 text-start-requires c κs = search needs
 
--- src/checks.rt:160:5
 loop-holds : tie.Need-loop-holds Inv-loop μ-loop
 loop-holds c =
     let e : record { at = c .text-start .result; last = 0; linked = true; base = 0; target = 0 } ≡ start (c .before .before .args .rec .now) = search start-at in
     (search needs, rw e (search passing-start), rw e)
 
--- src/checks.rt:161:15
 step-requires : tie.Need-step-requires Inv-loop μ-loop
 step-requires c κs = search needs
 
--- src/checks.rt:162:34
 enum-told : tie.Need-enum-told Inv-loop μ-loop
 enum-told c = search needs
 
--- src/checks.rt:162:34
 returns : tie.Need-returns Inv-loop μ-loop
 returns c = search passes-ill
 
--- src/checks.rt:163:24
 enum-known-q : tie.Need-enum-known-q Inv-loop μ-loop
 enum-known-q c = search needs
 
--- src/checks.rt:167:9
 add-k : tie.Need-add-k Inv-loop μ-loop
 add-k c = search needs
 
--- src/checks.rt:160:5
 loop-less : tie.Need-loop-less Inv-loop μ-loop
 loop-less c = search needs
 
--- src/checks.rt:160:5
 loop-again : tie.Need-loop-again Inv-loop μ-loop
 loop-again c =
     let r = c .before .before .before .before .before .before .before .before .args .rec .now in
@@ -61,7 +47,6 @@ loop-again c =
     let w = passes-on r (l .k) (l .p) (c .before .before .before .step .result) q (c .before .before .before .step .ensures) (c .before .q .given .1) in
     (search needs, w .0, w .1 ∙ l .inv .2)
 
--- src/checks.rt:148:1
 returns-2 : tie.Need-returns-2 Inv-loop μ-loop
 returns-2 c = search pass-end
 

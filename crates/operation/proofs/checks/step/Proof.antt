@@ -3,79 +3,55 @@ use Rattle.operation.proofs.Checking.{pass-room, pass-ill, pass-chars, 
 use borrow.Author.Needs.{needs}
 use Rattle.operation.proofs.checks.step.Statement.{statement}
 use Rattle.operation.proofs.checks.step.Tie as tie
-use Rattle.operation.proofs.checks.step.Reads as reads
-use Rattle.operation.proofs.checks.step.Lts as lts
-use Rattle.operation.proofs.checks.link.Reads as link-reads
-use Rattle.operation.proofs.layout.count.Reads as count-reads
-use Rattle.operation.proofs.layout.kind.Reads as kind-reads
-use Rattle.utf8.proofs.num_chars.Reads as num-chars-reads
-use Rattle.utf8.proofs.well_formed.Reads as well-formed-reads
 
--- src/checks.rt:111:9
 kind-requires : tie.Need-kind-requires
 kind-requires c κs = search needs
 
--- src/checks.rt:112:9
 count-requires : tie.Need-count-requires
 count-requires c κs = search needs
 
--- src/checks.rt:113:9
 link-requires : tie.Need-link-requires
 link-requires c κs = search needs
 
--- src/checks.rt:116:18
 add-to : tie.Need-add-to
 add-to c = search needs
 
--- src/checks.rt:117:20
 sub-text : tie.Need-sub-text
 sub-text c = search needs
 
--- src/checks.rt:117:20
 part-text-start : tie.Need-part-text-start
 part-text-start c = search needs
 
--- src/checks.rt:117:20
 part-text-end : tie.Need-part-text-end
 part-text-end c = search (pass-room, needs)
 
--- src/checks.rt:118:13
 well-formed-requires : tie.Need-well-formed-requires
 well-formed-requires c κs = search needs
 
--- src/checks.rt:119:13
 returns : tie.Need-returns
 returns c = search pass-ill
 
--- src/checks.rt:121:13
 num-chars-requires : tie.Need-num-chars-requires
 num-chars-requires c κs = search needs
 
--- src/checks.rt:127:21
 add-t14 : tie.Need-add-t14
 add-t14 c = let h : c .before .num-chars .result < 65536 = search pass-chars in search needs
 
--- src/checks.rt:122:9
 returns-2 : tie.Need-returns-2
 returns-2 c = search pass-insert
 
--- src/checks.rt:135:19
 add-t19 : tie.Need-add-t19
 add-t19 c = search needs
 
--- src/checks.rt:136:21
 add-t20 : tie.Need-add-t20
 add-t20 c = search needs
 
--- src/checks.rt:131:9
 returns-3 : tie.Need-returns-3
 returns-3 c = search pass-retain
 
--- src/checks.rt:143:15
 add-t22 : tie.Need-add-t22
 add-t22 c = search needs
 
--- src/checks.rt:107:1
 returns-4 : tie.Need-returns-4
 returns-4 c = search pass-delete
 

@@ -7,10 +7,6 @@ use Rattle.operation.specs.Checks.{entriesOf}
 use Rattle.operation.proofs.Checking.{sumLeft, sum-start, sum-end, sum-low, sum-high, sum-none, sum-insert, sum-other}
 use Rattle.operation.proofs.checks.sum_inserts.Statement.{statement}
 use Rattle.operation.proofs.checks.sum_inserts.Tie as tie
-use Rattle.operation.proofs.checks.sum_inserts.Reads as reads
-use Rattle.operation.proofs.checks.sum_inserts.Lts as lts
-use Rattle.operation.proofs.layout.count.Reads as count-reads
-use Rattle.operation.proofs.layout.kind.Reads as kind-reads
 
 abbrev Inv-loop : tie.InvT-loop
 Inv-loop rec n sum₀ k₀ sum k = (k ≤ n) × (sum ≤ 65536 * k) × (sumLeft rec k sum ≡ entriesOf rec)
@@ -18,48 +14,37 @@ Inv-loop rec n sum₀ k₀ sum k = (k ≤ n) × (sum ≤ 65536 * k) × (sumLeft 
 abbrev μ-loop : tie.MeasureT-loop
 μ-loop rec n sum₀ k₀ sum k = n - k
 
--- src/checks.rt:45:5
 loop-holds : tie.Need-loop-holds Inv-loop μ-loop
 loop-holds c = (search needs, search needs, sum-start _)
 
--- src/checks.rt:46:13
 kind-requires : tie.Need-kind-requires Inv-loop μ-loop
 kind-requires c κs = search needs
 
--- src/checks.rt:47:13
 count-requires : tie.Need-count-requires Inv-loop μ-loop
 count-requires c κs = search needs
 
--- src/checks.rt:49:13
 returns : tie.Need-returns Inv-loop μ-loop
 returns c = search sum-low
 
--- src/checks.rt:52:13
 returns-2 : tie.Need-returns-2 Inv-loop μ-loop
 returns-2 c = search sum-high
 
--- src/checks.rt:55:13
 returns-3 : tie.Need-returns-3 Inv-loop μ-loop
 returns-3 c = search sum-none
 
--- src/checks.rt:58:13
 add-sum : tie.Need-add-sum Inv-loop μ-loop
 add-sum c = search needs
 
--- src/checks.rt:60:9
 add-k : tie.Need-add-k Inv-loop μ-loop
 add-k c = search needs
 
--- src/checks.rt:45:5
 loop-less : tie.Need-loop-less Inv-loop μ-loop
 loop-less c = search needs
 
--- src/checks.rt:45:5
 loop-again : tie.Need-loop-again Inv-loop μ-loop
 loop-again c =
     ⊎-elim (λ w. (omega arith, omega arith, rw (w .1) (search sum-insert))) (λ w. (omega arith, omega arith, rw (w .1) (search sum-other))) (c .if4 .came)
 
--- src/checks.rt:39:1
 returns-4 : tie.Need-returns-4 Inv-loop μ-loop
 returns-4 c = search sum-end
 

@@ -2,57 +2,40 @@ use Rattle.operation.proofs.Fronts.{load-end, load-insert, load-other, 
 use borrow.Author.Needs.{needs}
 use Rattle.operation.proofs.core.load.Statement.{statement}
 use Rattle.operation.proofs.core.load.Tie as tie
-use Rattle.operation.proofs.core.load.Reads as reads
-use Rattle.operation.proofs.core.load.Lts as lts
-use Rattle.operation.proofs.layout.count.Reads as count-reads
-use Rattle.operation.proofs.layout.kind.Reads as kind-reads
-use Rattle.utf8.proofs.num_chars.Reads as num-chars-reads
 
--- src/core.rt:25:9
 returns : tie.Need-returns
 returns c = search load-end
 
--- src/core.rt:33:9
 kind-requires : tie.Need-kind-requires
 kind-requires c κs = search needs
 
--- src/core.rt:34:9
 count-requires : tie.Need-count-requires
 count-requires c κs = search needs
 
--- src/core.rt:36:18
 add-to : tie.Need-add-to
 add-to c = search needs
 
--- src/core.rt:37:37
 sub-num-chars : tie.Need-sub-num-chars
 sub-num-chars c = search needs
 
--- src/core.rt:37:37
 part-num-chars-start : tie.Need-part-num-chars-start
 part-num-chars-start c = search needs
 
--- src/core.rt:37:37
 part-num-chars-end : tie.Need-part-num-chars-end
 part-num-chars-end c = search (load-room, needs)
 
--- src/core.rt:37:13
 num-chars-requires : tie.Need-num-chars-requires
 num-chars-requires c κs = search needs
 
--- src/core.rt:43:19
 add-t11 : tie.Need-add-t11
 add-t11 c = search needs
 
--- src/core.rt:38:9
 returns-2 : tie.Need-returns-2
 returns-2 c = search load-insert
 
--- src/core.rt:51:15
 add-t14 : tie.Need-add-t14
 add-t14 c = search needs
 
--- src/core.rt:20:1
 returns-3 : tie.Need-returns-3
 returns-3 c = search load-other
 

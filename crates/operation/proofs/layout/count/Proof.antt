@@ -4,27 +4,19 @@ use borrow.Author.Needs.{needs}
 use Rattle.operation.specs.Layout.{wordAt, countsStart}
 use Rattle.operation.proofs.layout.count.Statement.{statement}
 use Rattle.operation.proofs.layout.count.Tie as tie
-use Rattle.operation.proofs.layout.count.Reads as reads
-use Rattle.operation.proofs.layout.count.Lts as lts
-use Rattle.operation.proofs.layout.word.Reads as word-reads
 
--- src/layout.rt:69:15
 add-word : tie.Need-add-word
 add-word c = search needs
 
--- src/layout.rt:69:23
 mul-word : tie.Need-mul-word
 mul-word c = search needs
 
--- src/layout.rt:69:15
 add-word-2 : tie.Need-add-word-2
 add-word-2 c = search needs
 
--- src/layout.rt:69:5
 word-requires : tie.Need-word-requires
 word-requires c κs = search needs
 
--- src/layout.rt:65:1
 returns : tie.Need-returns
 returns c =
     let a = c .before .before .args in

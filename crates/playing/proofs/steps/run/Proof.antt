@@ -2,7 +2,6 @@ use mathlib.Core.Path.{_≡_, refl, sym}
 use lib.ListN.{length, take}
 use borrow.Author.Needs.{needs}
 use Rattle.operation.specs.Front.{ahead}
-use Rattle.operation.proofs.Fronts.{place-start}
 use Rattle.operational_transform.specs.Emit.{over}
 use Rattle.playing.specs.Steps.{played, Stage}
 use Rattle.operational_transform.proofs.Over.{over-nil}
@@ -10,11 +9,6 @@ use Rattle.playing.proofs.Overs.{laid-more, laid-all}
 use Rattle.playing.proofs.Playing.{stage-start, stage-end}
 use Rattle.playing.proofs.steps.run.Statement.{statement}
 use Rattle.playing.proofs.steps.run.Tie as tie
-use Rattle.playing.proofs.steps.run.Reads as reads
-use Rattle.playing.proofs.steps.run.Lts as lts
-use Rattle.operation.proofs.core.first.Reads as first-reads
-use Rattle.operation.proofs.core.records.Reads as records-reads
-use Rattle.playing.proofs.steps.step.Reads as step-reads
 
 abbrev Inv-loop : tie.InvT-loop
 Inv-loop out₀ rec text n s₀ out s = Stage rec text s × (out ≡ over 0 (take (s .len) (played rec text)) out₀) × (length out ≡ length out₀)
@@ -31,23 +25,18 @@ first-requires c κs = search needs
 loop-holds : tie.Need-loop-holds Inv-loop μ-loop
 loop-holds c = (search stage-start, sym (over-nil 0 _), refl)
 
--- src/steps.rt:98:9
 step-requires : tie.Need-step-requires Inv-loop μ-loop
 step-requires c κs = search needs
 
--- src/steps.rt:97:5
 loop-less : tie.Need-loop-less Inv-loop μ-loop
 loop-less c = search needs
 
--- src/steps.rt:97:5
 loop-again : tie.Need-loop-again Inv-loop μ-loop
 loop-again c = (search needs, search laid-more, search needs)
 
--- src/steps.rt:89:1
 same-length : tie.Need-same-length Inv-loop μ-loop
 same-length c = search needs
 
--- src/steps.rt:89:1
 returns : tie.Need-returns Inv-loop μ-loop
 returns c = (search stage-end, search (laid-all, stage-end))
 

@@ -2,56 +2,40 @@ use Rattle.playing.proofs.Playing.{step-insert, step-retain, step-delet
 use borrow.Author.Needs.{needs}
 use Rattle.playing.proofs.steps.step.Statement.{statement}
 use Rattle.playing.proofs.steps.step.Tie as tie
-use Rattle.playing.proofs.steps.step.Reads as reads
-use Rattle.playing.proofs.steps.step.Lts as lts
-use Rattle.operational_transform.proofs.core.copy.Reads as copy-reads
-use Rattle.playing.proofs.steps.next.Reads as next-reads
 
--- src/steps.rt:66:9
 next-requires : tie.Need-next-requires
 next-requires c κs = search needs
 
--- src/steps.rt:70:9
 copy-requires : tie.Need-copy-requires
 copy-requires c κs = search needs
 
--- src/steps.rt:73:25
 sub-t19 : tie.Need-sub-t19
 sub-t19 c = search needs
 
--- src/steps.rt:73:18
 add-t20 : tie.Need-add-t20
 add-t20 c = search needs
 
--- src/steps.rt:71:9
 same-length : tie.Need-same-length
 same-length c = search needs
 
--- src/steps.rt:71:9
 returns : tie.Need-returns
 returns c = search step-insert
 
--- src/steps.rt:79:9
 copy-requires-2 : tie.Need-copy-requires-2
 copy-requires-2 c κs = search needs
 
--- src/steps.rt:82:25
 sub-t24 : tie.Need-sub-t24
 sub-t24 c = search needs
 
--- src/steps.rt:82:18
 add-t25 : tie.Need-add-t25
 add-t25 c = search needs
 
--- src/steps.rt:80:9
 same-length-2 : tie.Need-same-length-2
 same-length-2 c = search needs
 
--- src/steps.rt:80:9
 returns-2 : tie.Need-returns-2
 returns-2 c = search step-retain
 
--- src/steps.rt:58:1
 returns-3 : tie.Need-returns-3
 returns-3 c = search step-delete
 

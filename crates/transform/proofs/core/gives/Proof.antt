@@ -2,14 +2,10 @@ use Rattle.transform.proofs.Siding.{gives-all, gives-none}
 use borrow.Author.Needs.{needs}
 use Rattle.transform.proofs.core.gives.Statement.{statement}
 use Rattle.transform.proofs.core.gives.Tie as tie
-use Rattle.transform.proofs.core.gives.Reads as reads
-use Rattle.transform.proofs.core.gives.Lts as lts
 
--- src/core.rt:70:9
 returns : tie.Need-returns
 returns c = (search gives-none, search needs)
 
--- src/core.rt:65:1
 returns-2 : tie.Need-returns-2
 returns-2 c = (search gives-all, search needs)
 

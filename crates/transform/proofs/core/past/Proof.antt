@@ -2,40 +2,28 @@ use Rattle.transform.proofs.Siding.{past-delete, past-insert, past-reta
 use borrow.Author.Needs.{needs}
 use Rattle.transform.proofs.core.past.Statement.{statement}
 use Rattle.transform.proofs.core.past.Tie as tie
-use Rattle.transform.proofs.core.past.Reads as reads
-use Rattle.transform.proofs.core.past.Lts as lts
-use Rattle.operational_transform.proofs.core.part.Reads as part-reads
-use Rattle.operational_transform.proofs.core.retain.Reads as retain-reads
 
--- src/core.rt:92:9
 part-requires : tie.Need-part-requires
 part-requires c κs = search needs
 
--- src/core.rt:92:9
 same-length : tie.Need-same-length
 same-length c = search needs
 
--- src/core.rt:92:9
 returns : tie.Need-returns
 returns c = search past-retain
 
--- src/core.rt:95:13
 part-requires-2 : tie.Need-part-requires-2
 part-requires-2 c κs = search needs
 
--- src/core.rt:96:9
 retain-requires : tie.Need-retain-requires
 retain-requires c κs = search (under-part, needs)
 
--- src/core.rt:96:9
 same-length-2 : tie.Need-same-length-2
 same-length-2 c = search needs
 
--- src/core.rt:96:9
 returns-2 : tie.Need-returns-2
 returns-2 c = search past-insert
 
--- src/core.rt:76:1
 returns-3 : tie.Need-returns-3
 returns-3 c = search past-delete
 

@@ -2,58 +2,40 @@ use Rattle.transform.proofs.Siding.{Side, side-first, side-second, side
 use borrow.Author.Needs.{needs}
 use Rattle.transform.proofs.core.side.Statement.{statement}
 use Rattle.transform.proofs.core.side.Tie as tie
-use Rattle.transform.proofs.core.side.Reads as reads
-use Rattle.transform.proofs.core.side.Lts as lts
-use Rattle.operational_transform.proofs.core.part.Reads as part-reads
-use Rattle.operational_transform.proofs.core.retain.Reads as retain-reads
-use Rattle.transform.proofs.core.gives.Reads as gives-reads
-use Rattle.transform.proofs.core.past.Reads as past-reads
 
--- src/core.rt:119:58
 enum-told : tie.Need-enum-told
 enum-told c = search needs
 
--- src/core.rt:119:24
 part-requires : tie.Need-part-requires
 part-requires c κs = search (Side, needs)
 
--- src/core.rt:120:64
 enum-told-2 : tie.Need-enum-told-2
 enum-told-2 c = search needs
 
--- src/core.rt:120:64
 gives-requires : tie.Need-gives-requires
 gives-requires c κs = search needs
 
--- src/core.rt:120:25
 retain-requires : tie.Need-retain-requires
 retain-requires c κs = search needs
 
--- src/core.rt:121:32
 enum-told-3 : tie.Need-enum-told-3
 enum-told-3 c = search needs
 
--- src/core.rt:121:27
 past-requires : tie.Need-past-requires
 past-requires c κs = search (Side, needs)
 
--- src/core.rt:102:1
 same-length : tie.Need-same-length
 same-length c = search needs
 
--- src/core.rt:102:1
 returns : tie.Need-returns
 returns c = search side-first
 
--- src/core.rt:102:1
 returns-2 : tie.Need-returns-2
 returns-2 c = search side-second
 
--- src/core.rt:102:1
 same-length-2 : tie.Need-same-length-2
 same-length-2 c = search needs
 
--- src/core.rt:102:1
 returns-3 : tie.Need-returns-3
 returns-3 c = search side-together
 

@@ -2,47 +2,34 @@ use Rattle.turns.proofs.Turning.{Within, advance-first, advance-second,
 use borrow.Author.Needs.{needs}
 use Rattle.turns.proofs.core.advance.Statement.{statement}
 use Rattle.turns.proofs.core.advance.Tie as tie
-use Rattle.turns.proofs.core.advance.Reads as reads
-use Rattle.turns.proofs.core.advance.Lts as lts
-use Rattle.operation.proofs.core.rest.Reads as rest-reads
 
--- src/core.rt:84:17
 enum-told : tie.Need-enum-told
 enum-told c = search needs
 
--- src/core.rt:84:17
 rest-requires : tie.Need-rest-requires
 rest-requires c κs = search (Within, needs)
 
--- src/core.rt:88:17
 enum-told-2 : tie.Need-enum-told-2
 enum-told-2 c = search needs
 
--- src/core.rt:88:17
 rest-requires-2 : tie.Need-rest-requires-2
 rest-requires-2 c κs = search (Within, needs)
 
--- src/core.rt:92:17
 enum-told-3 : tie.Need-enum-told-3
 enum-told-3 c = search needs
 
--- src/core.rt:92:17
 rest-requires-3 : tie.Need-rest-requires-3
 rest-requires-3 c κs = search (Within, needs)
 
--- src/core.rt:93:17
 rest-requires-4 : tie.Need-rest-requires-4
 rest-requires-4 c κs = search (Within, needs)
 
--- src/core.rt:69:1
 returns : tie.Need-returns
 returns c = search advance-first
 
--- src/core.rt:69:1
 returns-2 : tie.Need-returns-2
 returns-2 c = search advance-second
 
--- src/core.rt:69:1
 returns-3 : tie.Need-returns-3
 returns-3 c = search advance-together
 
