@@ -11,7 +11,7 @@ ghost use Rattle.utf8.specs.Form.{wellFormed};
 ghost use Rattle.operation.specs.Layout.{recordsOf};
 ghost use Rattle.operation.specs.Record.{ops, recordFault};
 ghost use Rattle.operational_transform.specs.Build.{extend};
-ghost use Rattle.operational_transform.specs.Calls.{deliver, retainCall, deleteCall, insertCall};
+ghost use Rattle.operational_transform.specs.Calls.{textFault, deliver, retainCall, deleteCall, insertCall};
 ghost use Rattle.operational_transform.specs.Emit.{writtenOf, Under, Adds, Done, Writes};
 ghost use Rattle.operational_transform.specs.Given.{Gives};
 ghost use Rattle.builders.specs.Extending.{opOf, countOf, Repeats};
@@ -82,7 +82,7 @@ fn write(rec: &[u8], records: usize, text: &[u8], x: Added, out: &mut [u8], n: u
 }
 
 // Of a record and a text that were checked. What counts more than a limit lets no result within the limits.
-fn extended(rec: &[u8], text: &[u8], x: Added, out: &mut [u8]) -> Written
+fn delivered(rec: &[u8], text: &[u8], x: Added, out: &mut [u8]) -> Written
     requires { ⌜ (recordFault (now rec) ≡ 0) × T (wellFormed (now text)) ⌝ }
     ensures { λ r. ⌜ Gives (deliver 0 (extend (ops (now (rec .entry))) (opOf x (now (text .entry)))) (now (out .entry))) r (now (out .exit)) ⌝ }
 {
@@ -103,37 +103,38 @@ fn extended(rec: &[u8], text: &[u8], x: Added, out: &mut [u8]) -> Written
     }
 }
 
+// Of any record and text, checked in this order.
+fn extended(rec: &[u8], text: &[u8], x: Added, out: &mut [u8]) -> Written
+    ensures { λ r. ⌜ Gives (deliver (textFault (now (rec .entry)) (now (text .entry))) (extend (ops (now (rec .entry))) (opOf x (now (text .entry)))) (now (out .entry))) r (now (out .exit)) ⌝ }
+{
+    match operation::check(rec) {
+        Fact::Refused(y) => Written::Refused(y),
+        Fact::Is(_) => {
+            if !utf8::well_formed(text) {
+                return Written::Refused(Refusal::Utf8);
+            }
+            delivered(rec, text, x, out)
+        }
+    }
+}
+
 // The record with a retain of n characters behind it.
 pub fn retain(rec: &[u8], n: u64, out: &mut [u8]) -> Written
     ensures { λ r. ⌜ (writtenOf r ≡ retainCall (now (rec .entry)) n (now (out .entry)) .answer) × (now (out .exit) ≡ retainCall (now (rec .entry)) n (now (out .entry)) .out) ⌝ }
 {
-    match operation::check(rec) {
-        Fact::Refused(x) => Written::Refused(x),
-        Fact::Is(_) => extended(rec, b"", Added::Retain(n), out),
-    }
+    extended(rec, b"", Added::Retain(n), out)
 }
 
 // The record with a delete of n characters behind it.
 pub fn delete(rec: &[u8], n: u64, out: &mut [u8]) -> Written
     ensures { λ r. ⌜ (writtenOf r ≡ deleteCall (now (rec .entry)) n (now (out .entry)) .answer) × (now (out .exit) ≡ deleteCall (now (rec .entry)) n (now (out .entry)) .out) ⌝ }
 {
-    match operation::check(rec) {
-        Fact::Refused(x) => Written::Refused(x),
-        Fact::Is(_) => extended(rec, b"", Added::Delete(n), out),
-    }
+    extended(rec, b"", Added::Delete(n), out)
 }
 
 // The record with the text inserted: behind its last operation, or before it where that is a delete.
 pub fn insert(rec: &[u8], text: &[u8], out: &mut [u8]) -> Written
     ensures { λ r. ⌜ (writtenOf r ≡ insertCall (now (rec .entry)) (now (text .entry)) (now (out .entry)) .answer) × (now (out .exit) ≡ insertCall (now (rec .entry)) (now (text .entry)) (now (out .entry)) .out) ⌝ }
 {
-    match operation::check(rec) {
-        Fact::Refused(x) => Written::Refused(x),
-        Fact::Is(_) => {
-            if !utf8::well_formed(text) {
-                return Written::Refused(Refusal::Utf8);
-            }
-            extended(rec, text, Added::Insert, out)
-        }
-    }
+    extended(rec, text, Added::Insert, out)
 }

@@ -1,9 +1,9 @@
 -- The answers of a call that delivers a sequence, as the code finds them.
-use Prim.Native.Nat.{ℕ, suc}
+use Prim.Native.Nat.{ℕ, zero, suc}
 use native.Mathlib.Omega.{arith}
 use mathlib.Core.Path.{_≡_, refl, sym, ap, _∙_}
 use mathlib.Core.Bool.{Bool, true, false, not}
-use mathlib.Core.List.{List}
+use mathlib.Core.List.{List, []}
 use lib.Dec.{T}
 use lib.ListN.{length}
 use borrow.Author.Tests.{not-true, not-false}
@@ -13,7 +13,7 @@ use Rattle.operation.specs.declared.Refusal.{Refusal}
 use Rattle.operation.specs.declared.Refusal.the-variants.{Utf8, Limit}
 use Rattle.operation.specs.declared.Fact.{Fact}
 use Rattle.operation.specs.declared.Fact.the-variants as fact
-use Rattle.operation.specs.Answer.{number, refused, factOf}
+use Rattle.operation.specs.Answer.{number, refused, factOf, first}
 use Rattle.operation.specs.Record.{Seq, encode, fits, recordFault}
 use Rattle.operation.specs.Calls.{checkCall}
 use Rattle.operation.proofs.Answers.{stopped}
@@ -47,26 +47,25 @@ module _ (s : Seq) (o : List ℕ) where
           out = delivered s e o (d .sizes) v j k z (e .records) (u .emitter) (u .before) o′ (u .done) refl (u .is);
         }
 
-  -- a record that is refused, of a call that takes it alone or with a text
-  module _ (r : List ℕ) where
-    module _ (f : Fact) (p : factOf f ≡ checkCall r) (x : Refusal) (q : f ≡ fact.Refused x) where
-      pub record-refused : Gives (deliver (recordFault r) s o) (written.Refused x) o
-      record-refused = let v = stopped r f p x q in rw (v .fault) (refuses (v .less) x (v .number-is))
+  -- a call that takes a record and a text
+  module _ (r t : List ℕ) where
+    pub text-refused : (f : Fact) → factOf f ≡ checkCall r → (x : Refusal) → f ≡ fact.Refused x → Gives (deliver (textFault r t) s o) (written.Refused x) o
+    text-refused f p x q = let v = stopped r f p x q in rw (v .fault) (refuses (v .less) x (v .number-is))
 
-      pub text-refused : (t : List ℕ) → Gives (deliver (textFault r t) s o) (written.Refused x) o
-      text-refused t = let v = stopped r f p x q in rw (v .fault) (refuses (v .less) x (v .number-is))
+    module _ (z : recordFault r ≡ 0) (b : Bool) (p : b ≡ wellFormed t) where
+      pub text-ill : not b ≡ true → Gives (deliver (textFault r t) s o) (written.Refused Utf8) o
+      text-ill h = rw (z, sym p ∙ not-true b h) (refuses 2 Utf8 refl)
 
-    -- a record that passes
-    module _ (z : recordFault r ≡ 0) where
-      pub record-passed : (w : Written) (o′ : List ℕ) → Gives (deliver 0 s o) w o′ → Gives (deliver (recordFault r) s o) w o′
-      record-passed w o′ g = rw z g
+      pub text-passed : not b ≡ false → (w : Written) (o′ : List ℕ) → Gives (deliver 0 s o) w o′ → Gives (deliver (textFault r t) s o) w o′
+      text-passed h w o′ g = rw (z, sym p ∙ not-false b h) g
 
-      module _ (t : List ℕ) (b : Bool) (p : b ≡ wellFormed t) where
-        pub text-ill : not b ≡ true → Gives (deliver (textFault r t) s o) (written.Refused Utf8) o
-        text-ill h = rw (z, sym p ∙ not-true b h) (refuses 2 Utf8 refl)
-
-        pub text-passed : not b ≡ false → (w : Written) (o′ : List ℕ) → Gives (deliver 0 s o) w o′ → Gives (deliver (textFault r t) s o) w o′
-        text-passed h w o′ g = rw (z, sym p ∙ not-false b h) g
+  -- a call that takes a record alone takes no text
+  pub no-text : (r : List ℕ) (w : Written) (o′ : List ℕ) → Gives (deliver (textFault r []) s o) w o′ → Gives (deliver (recordFault r) s o) w o′
+  no-text r w o′ g = rw (first-none (recordFault r)) at g
+    where
+      first-none : (k : ℕ) → first k 0 ≡ k
+      first-none zero = refl
+      first-none (suc k) = refl
 
 pub text-well : (t : List ℕ) (b : Bool) → b ≡ wellFormed t → not b ≡ false → T (wellFormed t)
 text-well t b p h = known (sym p ∙ not-false b h)

@@ -1,58 +1,46 @@
-use Rattle.builders.proofs.Extending.{over-limit}
-use Rattle.operational_transform.proofs.Giving.{gives-refused, gives-written}
+use Rattle.operation.proofs.Answers.{passed}
+use Rattle.operational_transform.proofs.Giving.{text-refused, text-ill, text-passed, text-well}
 use borrow.Author.Needs.{needs}
 use Rattle.builders.proofs.extended.Statement.{statement}
 use Rattle.builders.proofs.extended.Tie as tie
 
-count-requires : tie.Need-count-requires
-count-requires c κs = search needs
-
-returns : tie.Need-returns
-returns c = search over-limit
-
-records-requires : tie.Need-records-requires
-records-requires c κs = search needs
-
-slice-aggregate-run : tie.Need-slice-aggregate-run
-slice-aggregate-run c = search needs
-
-run-requires : tie.Need-run-requires
-run-requires c κs = search needs
-
-judge-requires : tie.Need-judge-requires
-judge-requires c κs = search needs
+check-requires : tie.Need-check-requires
+check-requires c κs = search needs
 
 enum-known-y : tie.Need-enum-known-y
 enum-known-y c = search needs
 
-enum-known-k : tie.Need-enum-known-k
-enum-known-k c = search needs
+enum-told : tie.Need-enum-told
+enum-told c = search needs
 
-write-requires : tie.Need-write-requires
-write-requires c κs = search needs
+well-formed-requires : tie.Need-well-formed-requires
+well-formed-requires c κs = search needs
+
+returns : tie.Need-returns
+returns c = search (passed, text-ill)
+
+delivered-requires : tie.Need-delivered-requires
+delivered-requires c κs = search (passed, text-well, needs)
 
 returns-2 : tie.Need-returns-2
-returns-2 c = search gives-refused
+returns-2 c = search text-refused
 
 same-length : tie.Need-same-length
 same-length c = search needs
 
 returns-3 : tie.Need-returns-3
-returns-3 c = search gives-written
+returns-3 c = search (passed, text-passed)
 
 pub extended-spec : {M : Type 1} → statement M
 extended-spec =
     tie.close
     (tie.spec
-    count-requires
-    returns
-    records-requires
-    slice-aggregate-run
-    run-requires
-    judge-requires
+    check-requires
     enum-known-y
-    enum-known-k
-    write-requires
+    enum-told
+    well-formed-requires
+    returns
+    delivered-requires
     returns-2
     same-length
     returns-3)

@@ -1,67 +1,17 @@
-use mathlib.Core.Path.{_≡_}
-use Rattle.operation.specs.Record.{recordFault}
-use Rattle.operation.proofs.Answers.{passed}
-use Rattle.operational_transform.specs.declared.Written.the-variants.{Refused}
-use Rattle.operation.specs.declared.Refusal.the-variants.{Utf8}
 use Rattle.operational_transform.specs.Calls.{insertCall}
-use Rattle.operational_transform.specs.Given.{Gives}
-use Rattle.operational_transform.proofs.Giving.{text-refused, text-ill, text-passed, text-well}
 use borrow.Author.Needs.{needs}
 use Rattle.builders.proofs.insert.Statement.{statement}
 use Rattle.builders.proofs.insert.Tie as tie
 
-check-requires : tie.Need-check-requires
-check-requires c κs = search needs
-
-enum-known-x : tie.Need-enum-known-x
-enum-known-x c = search needs
-
-enum-told : tie.Need-enum-told
-enum-told c = search needs
-
-well-formed-requires : tie.Need-well-formed-requires
-well-formed-requires c κs = search needs
-
-returns : tie.Need-returns
-unfolding insertCall
-returns c =
-    let a = c .before .before .before .before .before .before .before .before .args in
-    let z : recordFault (a .rec .now) ≡ 0 = search passed in
-    let w : Gives (insertCall (a .rec .now) (a .text .now) (a .out .now)) (Refused Utf8) (a .out .now) = search text-ill in
-    (w .answer, w .out)
-
 extended-requires : tie.Need-extended-requires
-extended-requires c κs = search (passed, text-well, needs)
-
-returns-2 : tie.Need-returns-2
-unfolding insertCall
-returns-2 c =
-    let a = c .before .before .before .before .before .before .before .args in
-    let w : Gives (insertCall (a .rec .now) (a .text .now) (a .out .now)) (Refused (c .before .x .given .0 .0)) (a .out .now) = search text-refused in
-    (w .answer, w .out)
+extended-requires c κs = search needs
 
 same-length : tie.Need-same-length
 same-length c = search needs
 
-returns-3 : tie.Need-returns-3
+returns : tie.Need-returns
 unfolding insertCall
-returns-3 c =
-    let a = c .before .before .before .before .before .before .before .before .before .before .before .before .args in
-    let r = c .before .before .extended in
-    let z : recordFault (a .rec .now) ≡ 0 = search passed in
-    let w : Gives (insertCall (a .rec .now) (a .text .now) (a .out .now)) (r .result) (r .last .1 .1 .1 .0) = search text-passed in
-    (w .answer, w .out)
+returns c = let w = c .before .before .extended .ensures in (w .answer, w .out)
 
 pub insert-spec : {M : Type 1} → statement M
-insert-spec =
-    tie.close
-    (tie.spec
-    check-requires
-    enum-known-x
-    enum-told
-    well-formed-requires
-    returns
-    extended-requires
-    returns-2
-    same-length
-    returns-3)
+insert-spec = tie.close (tie.spec extended-requires same-length returns)
