@@ -64,7 +64,25 @@ fn asked(word: &[u8], a: &[u8], k: usize) -> bool {
         show::bytes(operation::insert_text(a, k));
         return true;
     }
+    if check::same(word, b"step") {
+        show::step(walker::step(a, k));
+        return true;
+    }
+    if check::same(word, b"walk") {
+        walk(a);
+        return true;
+    }
     false
+}
+
+// Every step through a record, to the end.
+fn walk(rec: &[u8]) {
+    for at in 0..1025 {
+        if !show::step(walker::step(rec, at)) {
+            return;
+        }
+        show::text(b", ");
+    }
 }
 
 // Calls that write.

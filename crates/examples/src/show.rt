@@ -5,6 +5,7 @@ use operation::Noop;
 use operation::Refusal;
 use operational_transform::Written;
 use transform::WrittenPair;
+use walker::Found;
 
 pub(crate) fn text(t: &[u8]) {
     io::write_all(1, t);
@@ -53,6 +54,22 @@ pub(crate) fn noop(n: Noop) {
     match n {
         Noop::Is(b) => yes_or_no(b),
         Noop::Refused(x) => refusal(x),
+    }
+}
+
+// The numbers of what a step finds; false at the end.
+pub(crate) fn step(f: Found) -> bool {
+    match f {
+        Found::Op { kind, count } => {
+            number(kind as u64);
+            text(b":");
+            number(count as u64);
+            true
+        }
+        Found::End => {
+            text(b"end");
+            false
+        }
     }
 }
 

@@ -52,6 +52,9 @@ ops-start r n at z e p =
 pub fault-header : (r : List ℕ) → recordFault r ≡ 0 → 8 ≤ length r
 fault-header r z = limits r .0 (faultless r .0 z .in-limits) .header
 
+pub fault-kinds : (r : List ℕ) → recordFault r ≡ 0 → textStart (recordsOf r) ≤ length r
+fault-kinds r z = omega (arith, limits r .0 (faultless r .0 z .in-limits) .whole)
+
 pub fault-few : (r : List ℕ) (n : ℕ) → recordFault r ≡ 0 → n ≡ recordsOf r → n ≤ 1024
 fault-few r n z e = omega (arith, limits r .0 (faultless r .0 z .in-limits) .records)
 

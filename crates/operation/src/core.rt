@@ -1,7 +1,7 @@
 // What the layers above use to go through a record that was checked.
 ghost use mathlib.Core.Path.{_≡_};
-ghost use Prim.Native.Nat.{_≤_};
-ghost use Rattle.operation.specs.Layout.{recordsOf, baseOf, targetOf};
+ghost use Prim.Native.Nat.{_≤_, _<_};
+ghost use Rattle.operation.specs.Layout.{recordsOf, baseOf, targetOf, kindAt, countAt};
 ghost use Rattle.operation.specs.Record.{recordFault, ops};
 ghost use Rattle.operation.specs.Front.{Place, Stands, ahead, Loads, Leaves, Cut};
 
@@ -35,6 +35,21 @@ pub fn target(rec: &[u8]) -> usize
     ensures { λ r. ⌜ r ≡ targetOf (now (rec .entry)) ⌝ }
 {
     crate::layout::target(rec)
+}
+
+// What stands at record k: its kind, and its count of n.
+pub fn kind(rec: &[u8], k: usize) -> u8
+    requires { ⌜ (recordFault (now rec) ≡ 0) × (k < recordsOf (now rec)) ⌝ }
+    ensures { λ r. ⌜ r ≡ kindAt (now (rec .entry)) k ⌝ }
+{
+    crate::layout::kind(rec, k)
+}
+
+pub fn count(rec: &[u8], n: usize, k: usize) -> usize
+    requires { ⌜ (recordFault (now rec) ≡ 0) × (n ≡ recordsOf (now rec)) × (k < recordsOf (now rec)) ⌝ }
+    ensures { λ r. ⌜ (r ≡ countAt (now (rec .entry)) k) × (r < 65536) ⌝ }
+{
+    crate::layout::count(rec, n, k)
 }
 
 // The front of a whole record of n.

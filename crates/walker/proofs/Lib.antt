@@ -1,0 +1,2 @@
+-- walker
+pub mod Steps

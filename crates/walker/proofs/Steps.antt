@@ -1,0 +1,50 @@
+-- What a step finds, as the code comes upon it.
+use Prim.Native.Nat.{ℕ, zero, suc, _+_, _≤_, _<_}
+use native.Mathlib.Omega.{arith}
+use mathlib.Core.Path.{_≡_, refl, sym, ap, ap₂, _∙_}
+use mathlib.Core.Bool.{cond}
+use mathlib.Core.List.{List, [], _∷_}
+use lib.Dec.{ltb}
+use borrow.Author.Tests.{le-ltb, lt-ltb}
+use Rattle.operation.specs.Answer.{factOf, settle}
+use Rattle.operation.specs.Layout.{recordsOf, kindAt, countAt}
+use Rattle.operation.specs.Record.{recordFault}
+use Rattle.operation.specs.Calls.{checkCall}
+use Rattle.operation.specs.declared.Fact.{Fact}
+use Rattle.operation.specs.declared.Fact.the-variants as fact
+use Rattle.operation.specs.declared.Refusal.{Refusal}
+use Rattle.operation.proofs.Answers.{stopped, passed}
+use Rattle.walker.specs.declared.Found.{Found}
+use Rattle.walker.specs.declared.Found.the-variants.{Op, End}
+use Rattle.walker.specs.Walk.{stepAt, behind, nextAt}
+
+module _ (r : List ℕ) (at : ℕ) where
+  -- the position goes with what is found
+  goes : (s : Found) → s ≡ stepAt r at → behind s at ≡ nextAt r at
+  goes s e = ap (λ t. behind t at) e
+
+  module _ (f : Fact) (p : factOf f ≡ checkCall r) where
+    module _ (x : Refusal) (q : f ≡ fact.Refused x) where
+      pub refused-end : End ≡ stepAt r at
+      unfolding stepAt
+      refused-end = rw (stopped r f p x q .fault) refl
+
+      pub refused-stays : at ≡ nextAt r at
+      refused-stays = goes End refused-end
+
+    module _ (s : ℕ) (q : f ≡ fact.Is s) (n : ℕ) (e : n ≡ recordsOf r) where
+      module _ (h : n ≤ at) where
+        pub past-end : End ≡ stepAt r at
+        unfolding stepAt
+        past-end = rw (passed r f p s q, le-ltb at (recordsOf r) (omega arith)) refl
+
+        pub past-stays : at ≡ nextAt r at
+        past-stays = goes End past-end
+
+      module _ (h : at < n) (k c : ℕ) (a : k ≡ kindAt r at) (b : c ≡ countAt r at) where
+        pub finds : Op k c ≡ stepAt r at
+        unfolding stepAt
+        finds = rw (passed r f p s q, lt-ltb at (recordsOf r) (omega arith)) (ap₂ Op a b)
+
+        pub moves : at + 1 ≡ nextAt r at
+        moves = goes (Op k c) finds
