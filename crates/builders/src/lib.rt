@@ -91,7 +91,7 @@ fn delivered(rec: &[u8], text: &[u8], x: Added, out: &mut [u8]) -> Written
         return Written::Refused(Refusal::Limit);
     }
     let records = operation::core::records(rec);
-    let mut none = [0u8; 1];
+    let mut none = [0u8; 0];
     let e = run(rec, records, text, x, &mut none, 0);
     let n = e.records;
     match operational_transform::core::judge(e, out.len()) {

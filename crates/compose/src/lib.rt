@@ -153,7 +153,7 @@ fn composed(a: &[u8], b: &[u8], out: &mut [u8]) -> Written
     }
     let na = operation::core::records(a);
     let nb = operation::core::records(b);
-    let mut none = [0u8; 1];
+    let mut none = [0u8; 0];
     let e = run(a, na, b, nb, &mut none, 0);
     let n = e.records;
     match operational_transform::core::judge(e, out.len()) {

@@ -86,7 +86,7 @@ fn inverted(rec: &[u8], text: &[u8], out: &mut [u8]) -> Written
     ensures { λ r. ⌜ Gives (deliver 0 (invertOf (ops (now (rec .entry))) (chars (now (text .entry)))) (now (out .entry))) r (now (out .exit)) ⌝ }
 {
     let records = operation::core::records(rec);
-    let mut none = [0u8; 1];
+    let mut none = [0u8; 0];
     let e = run(rec, records, text, &mut none, 0);
     let n = e.records;
     match operational_transform::core::judge(e, out.len()) {

@@ -139,8 +139,8 @@ fn sized(a: &[u8], na: usize, b: &[u8], nb: usize) -> Pair
     requires { ⌜ (na ≡ recordsOf (now a)) × (na ≤ 1024) × (nb ≡ recordsOf (now b)) × (nb ≤ 1024) × (recordFault (now a) ≡ 0) × (recordFault (now b) ≡ 0) ⌝ }
     ensures { λ r. ⌜ SizedBoth (transformOf order (ops (now (a .entry))) (ops (now (b .entry)))) r ⌝ }
 {
-    let mut x = [0u8; 1];
-    let mut y = [0u8; 1];
+    let mut x = [0u8; 0];
+    let mut y = [0u8; 0];
     run(a, na, b, nb, &mut x, 0, &mut y, 0)
 }
 
