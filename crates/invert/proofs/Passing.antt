@@ -1,18 +1,18 @@
 -- Places in the text, and what undoes an operation there.
 use Prim.Native.Nat.{ℕ, _+_, _-_, _^_, _≤_, _<_}
 use native.Mathlib.Omega.{arith}
-use mathlib.Core.Path.{_≡_, refl, sym, ap, ap₂, _∙_}
-use mathlib.Core.List.{List, [], _∷_, _++_}
+use mathlib.Core.Path.{_≡_, sym, ap, _∙_}
+use mathlib.Core.List.{List, [], _∷_}
 use lib.Dec.{T}
-use lib.ListN.{length, take, drop, length-append, length-take, length-drop}
-use lib.Seq.{drop-drop, take-at, drop-at, length-take-le}
+use lib.ListN.{length, take, drop, length-take, length-drop}
+use lib.Seq.{length-take-le}
 use borrow.Author.Tests.{eq-eqb, ne-eqb}
 use Rattle.utf8.specs.Form.{wellFormed}
-use Rattle.utf8.specs.Chars.{charsOf, concat, takeChars}
-use Rattle.utf8.specs.Text.{Char, chars, bytes}
-use Rattle.utf8.proofs.Tests.{holds}
-use Rattle.utf8.proofs.Chars.{well-all}
-use Rattle.utf8.proofs.Texts.{chars-bytes, bytes-well, bytes-take, bytes-split}
+use Rattle.utf8.specs.Chars.{takeChars}
+use Rattle.utf8.specs.Text.{Char, chars}
+use Rattle.utf8.specs.Places.{Passes}
+use Rattle.utf8.proofs.Texts.{chars-bytes, bytes-well}
+use Rattle.utf8.proofs.Places.{skips, stays-there}
 use Rattle.operation.specs.declared.core.Front.{Front}
 use Rattle.operation.specs.Op.{insert, delete, size, takes}
 use Rattle.operation.specs.Front.{frontOp, Stands}
@@ -22,37 +22,16 @@ use Rattle.operational_transform.specs.Invert.{undo}
 use Rattle.operational_transform.specs.Emit.{Under, Adds, Retains}
 use Rattle.operational_transform.proofs.Adding.{under-more}
 use Rattle.operational_transform.proofs.Widths.{bytes-most}
-use Rattle.invert.specs.Inverting.{taken, undone, Passes}
+use Rattle.invert.specs.Inverting.{taken, undone}
 
 -- ---- places
 
 module _ (t : List ℕ) (at : ℕ) (h : at ≤ length t) (w : T (wellFormed (drop at t))) where
-  -- behind the bytes of k characters
-  place : (k to : ℕ) → to ≡ at + length (bytes (take k (chars (drop at t)))) → Passes t at k to
-  place k to e =
-      let x = drop at t in
-      let p = bytes (take k (chars x)) in
-      let q = bytes (drop k (chars x)) in
-      let pq : p ++ q ≡ x = bytes-split k x w in
-      let d : to - at ≡ length p = omega arith in
-      let i : drop to t ≡ q = ap (λ j. drop j t) e ∙ sym (drop-drop (length p) at t) ∙ ap (drop (length p)) (sym pq) ∙ drop-at p q (length p) refl in
-      record {
-        above = omega arith;
-        below = omega (arith, ap length pq, length-append p q, length-drop at t);
-        part = ap₂ take d (sym pq) ∙ take-at p q (length p) refl;
-        left = ap chars i ∙ chars-bytes (drop k (chars x));
-        well = rw i (bytes-well (drop k (chars x)));
-      }
-
   pub stays : (f : Front) → f .kind ≡ 2 → Passes t at (taken f) at
-  unfolding bytes
-  stays f e = rw (eq-eqb (f .kind) 2 e) (place 0 at (omega arith))
+  stays f e = rw (eq-eqb (f .kind) 2 e) (stays-there t at h w)
 
   pub moves : (f : Front) (to : ℕ) → (f .kind ≡ 2 → ⊥) → to ≡ at + length (takeChars (f .left) (drop at t)) → Passes t at (taken f) to
-  moves f to e p = rw (ne-eqb (f .kind) 2 e) (place (f .left) to (p ∙ ap (λ l. at + length l) skipped))
-    where
-      skipped : takeChars (f .left) (drop at t) ≡ bytes (take (f .left) (chars (drop at t)))
-      skipped = ap (λ l. l ++ concat (take (f .left) (charsOf (drop at t)))) (well-all (drop at t) (holds (wellFormed (drop at t)) w) .0) ∙ sym (bytes-take (f .left) (drop at t) w)
+  moves f to e p = rw (ne-eqb (f .kind) 2 e) (skips t at (f .left) h w to p)
 
 -- ---- what is given
 

@@ -7,6 +7,7 @@ use lib.Dec.{T}
 use lib.ListN.{length, drop, length-append}
 use Rattle.utf8.specs.Form.{wellFormed}
 use Rattle.utf8.specs.Text.{chars}
+use Rattle.utf8.specs.Places.{Passes}
 use Rattle.operation.specs.declared.core.Front.{Front}
 use Rattle.operation.specs.Layout.{recordsOf}
 use Rattle.operation.specs.Record.{Seq, ops, recordFault}
@@ -18,7 +19,7 @@ use Rattle.operational_transform.specs.Invert.{undoAll, invert}
 use Rattle.operational_transform.specs.Emit.{Under, nothing, Adds, Finishes, Done}
 use Rattle.operational_transform.proofs.Adding.{adds-nil, adds-append, under-start, under-more}
 use Rattle.operational_transform.proofs.Delivering.{builds}
-use Rattle.invert.specs.Inverting.{taken, undone, Passes}
+use Rattle.invert.specs.Inverting.{taken, undone}
 use Rattle.invert.proofs.Passing.{taken-is, undone-is}
 
 -- what was emitted, and what undoes all that lies ahead, undo the whole

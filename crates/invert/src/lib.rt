@@ -11,13 +11,14 @@ ghost use lib.Dec.{T};
 ghost use lib.ListN.{length, drop};
 ghost use Rattle.utf8.specs.Form.{wellFormed};
 ghost use Rattle.utf8.specs.Text.{chars};
+ghost use Rattle.utf8.specs.Places.{Passes};
 ghost use Rattle.operation.specs.Layout.{recordsOf};
 ghost use Rattle.operation.specs.Record.{ops, recordFault};
 ghost use Rattle.operational_transform.specs.Invert.{invert as invertOf};
 ghost use Rattle.operational_transform.specs.Calls.{deliver, invertCall};
 ghost use Rattle.operational_transform.specs.Emit.{writtenOf, Under, Adds, Done, Writes};
 ghost use Rattle.operational_transform.specs.Given.{Gives};
-ghost use Rattle.invert.specs.Inverting.{taken, undone, Passes};
+ghost use Rattle.invert.specs.Inverting.{taken, undone};
 
 // The place in the text behind what the operation takes from it, or the end where the characters run out.
 fn past(text: &[u8], at: usize, f: Front) -> usize

@@ -1,7 +1,7 @@
 // What the layers above use to go through a record that was checked.
 ghost use mathlib.Core.Path.{_≡_};
-ghost use Prim.Native.Nat.{_≤_, _<_};
-ghost use Rattle.operation.specs.Layout.{recordsOf, baseOf, targetOf, kindAt, countAt};
+ghost use Prim.Native.Nat.{_+_, _*_, _^_, _≤_, _<_};
+ghost use Rattle.operation.specs.Layout.{recordsOf, baseOf, targetOf, kindsStart, countsStart, textStart, kindAt, countAt};
 ghost use Rattle.operation.specs.Record.{recordFault, ops};
 ghost use Rattle.operation.specs.Front.{Place, Stands, ahead, Loads, Leaves, Cut};
 
@@ -35,6 +35,28 @@ pub fn target(rec: &[u8]) -> usize
     ensures { λ r. ⌜ r ≡ targetOf (now (rec .entry)) ⌝ }
 {
     crate::layout::target(rec)
+}
+
+// The places in a record of n: of the kind and of the count of record k, and where the text begins.
+pub fn kind_place(k: usize) -> usize
+    requires { ⌜ k ≤ 2 ^ 62 ⌝ }
+    ensures { λ r. ⌜ r ≡ kindsStart + k ⌝ }
+{
+    crate::layout::kind_place(k)
+}
+
+pub fn count_place(n: usize, k: usize) -> usize
+    requires { ⌜ (n ≤ 2 ^ 62) × (k ≤ 2 ^ 62) ⌝ }
+    ensures { λ r. ⌜ r ≡ countsStart n + 2 * k ⌝ }
+{
+    crate::layout::count_place(n, k)
+}
+
+pub fn text_start(n: usize) -> usize
+    requires { ⌜ n ≤ 2 ^ 62 ⌝ }
+    ensures { λ r. ⌜ r ≡ textStart n ⌝ }
+{
+    crate::layout::text_start(n)
 }
 
 // What stands at record k: its kind, and its count of n.

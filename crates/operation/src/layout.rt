@@ -1,8 +1,8 @@
 // Where everything stands in a record: the four sizes, the kinds, the counts, the inserted text.
 ghost use mathlib.Core.Path.{_≡_};
-ghost use Prim.Native.Nat.{_+_, _*_, _≤_, _<_};
+ghost use Prim.Native.Nat.{_+_, _*_, _^_, _≤_, _<_};
 ghost use lib.ListN.{length};
-ghost use Rattle.operation.specs.Layout.{wordAt, recordsOf, textBytesOf, baseOf, targetOf, textStart, kindAt, countAt};
+ghost use Rattle.operation.specs.Layout.{wordAt, recordsOf, textBytesOf, baseOf, targetOf, kindsStart, countsStart, textStart, kindAt, countAt};
 
 fn wide(x: u8) -> usize
     ensures { λ r. ⌜ (r ≡ x) × (r < 256) ⌝ }
@@ -46,9 +46,23 @@ pub(crate) fn target(rec: &[u8]) -> usize
     word(rec, 6)
 }
 
-// Where the text of n records begins.
+// The places of n records: of the kind and of the count of record k, and where the text begins.
+pub(crate) fn kind_place(k: usize) -> usize
+    requires { ⌜ k ≤ 2 ^ 62 ⌝ }
+    ensures { λ r. ⌜ r ≡ kindsStart + k ⌝ }
+{
+    8 + k
+}
+
+pub(crate) fn count_place(n: usize, k: usize) -> usize
+    requires { ⌜ (n ≤ 2 ^ 62) × (k ≤ 2 ^ 62) ⌝ }
+    ensures { λ r. ⌜ r ≡ countsStart n + 2 * k ⌝ }
+{
+    8 + n + 2 * k
+}
+
 pub(crate) fn text_start(n: usize) -> usize
-    requires { ⌜ n < 65536 ⌝ }
+    requires { ⌜ n ≤ 2 ^ 62 ⌝ }
     ensures { λ r. ⌜ r ≡ textStart n ⌝ }
 {
     8 + 3 * n
@@ -58,7 +72,7 @@ pub(crate) fn kind(rec: &[u8], k: usize) -> u8
     requires { ⌜ (textStart (recordsOf (now rec)) ≤ length (now rec)) × (k < recordsOf (now rec)) ⌝ }
     ensures { λ r. ⌜ r ≡ kindAt (now (rec .entry)) k ⌝ }
 {
-    rec[8 + k]
+    rec[kind_place(k)]
 }
 
 // The count of record k of n.
@@ -66,5 +80,5 @@ pub(crate) fn count(rec: &[u8], n: usize, k: usize) -> usize
     requires { ⌜ (n ≡ recordsOf (now rec)) × (textStart (recordsOf (now rec)) ≤ length (now rec)) × (k < recordsOf (now rec)) ⌝ }
     ensures { λ r. ⌜ (r ≡ countAt (now (rec .entry)) k) × (r < 65536) ⌝ }
 {
-    word(rec, 8 + n + 2 * k)
+    word(rec, count_place(n, k))
 }

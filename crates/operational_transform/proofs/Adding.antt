@@ -2,7 +2,7 @@
 use Prim.Native.Nat.{ℕ, zero, suc, _+_, _-_, _^_, _≤_, _<_}
 use native.Mathlib.Nat.{add-zero, zero-add, suc-add}
 use native.Mathlib.Omega.{arith}
-use mathlib.Core.Path.{_≡_, refl, sym, ap, _∙_}
+use mathlib.Core.Path.{_≡_, refl, sym, ap, ap₂, _∙_}
 use mathlib.Core.List.{List, [], _∷_, _++_, append-assoc, append-nil}
 use lib.Dec.{T}
 use lib.ListN.{length, take, drop, length-append, length-drop}
@@ -302,17 +302,20 @@ module _ (src : List ℕ) (from to num : ℕ) (room : to ≤ length src) (well :
   few-chars h = omega (arith, part-chars, part-bytes, bytes-length (chars part))
 
   module _ (n : ℕ) (e : Emitter) (o : List ℕ) where
+    placed : (x : List ℕ) {at : ℕ} {x′ : List ℕ} → at ≡ textStart n → x′ ≡ over (at + e .text) part x → x′ ≡ over (textStart n + e .text) (bytes (chars part)) x
+    placed x a p = p ∙ ap₂ (λ k l. over (k + e .text) l x) a (sym (bytes-chars part well))
+
     pub adds-insert-none : to - from ≡ 0 → Adds n (insert (chars (take (to - from) (drop from src))) ∷ []) e o e o
     adds-insert-none z = adds-none n (insert (chars part)) e o (omega (arith, part-bytes, bytes-length (chars part)))
 
-    pub adds-insert : to - from ≤ 2 ^ 18 → e .ret ≤ 0 → {o′ : List ℕ} → o′ ≡ over (textStart n + e .text) (take (to - from) (drop from src)) o
+    pub adds-insert : to - from ≤ 2 ^ 18 → e .ret ≤ 0 → {at : ℕ} {o′ : List ℕ} → at ≡ textStart n → o′ ≡ over (at + e .text) (take (to - from) (drop from src)) o
         → Adds n (insert (chars (take (to - from) (drop from src))) ∷ []) e o (record { ins = e .ins + (to - from); del = e .del; ret = e .ret; records = e .records; text = e .text + (to - from); base = e .base; target = e .target + num }) o′
-    adds-insert lw z {o′} oe = insert-on n (chars part) e o (to - from) num lw part-bytes part-chars z o′ (rw (bytes-chars part well) oe)
+    adds-insert lw z {at} {o′} a oe = insert-on n (chars part) e o (to - from) num lw part-bytes part-chars z o′ (placed o a oe)
 
-    pub adds-insert-new : to - from ≤ 2 ^ 18 → (to - from ≡ 0 → ⊥) → 0 < e .ret → {r : ℕ} {o₁ o′ : List ℕ} → r ≡ flushedRecords e → r ≤ e .records + 3 → o₁ ≡ flushed n e o
-        → o′ ≡ over (textStart n + e .text) (take (to - from) (drop from src)) o₁
+    pub adds-insert-new : to - from ≤ 2 ^ 18 → (to - from ≡ 0 → ⊥) → 0 < e .ret → {r at : ℕ} {o₁ o′ : List ℕ} → r ≡ flushedRecords e → r ≤ e .records + 3 → o₁ ≡ flushed n e o
+        → at ≡ textStart n → o′ ≡ over (at + e .text) (take (to - from) (drop from src)) o₁
         → Adds n (insert (chars (take (to - from) (drop from src))) ∷ []) e o (record { ins = to - from; del = 0; ret = 0; records = r; text = e .text + (to - from); base = e .base; target = e .target + num }) o′
-    adds-insert-new lw z p {r} {o₁} {o′} re rl oe oe′ = insert-new n (chars part) e o (to - from) num lw part-bytes part-chars z p r o₁ o′ re rl oe (rw (bytes-chars part well) oe′)
+    adds-insert-new lw z p {r} {at} {o₁} {o′} re rl oe a oe′ = insert-new n (chars part) e o (to - from) num lw part-bytes part-chars z p r o₁ o′ re rl oe (placed o₁ a oe′)
 
 -- ---- `part`
 

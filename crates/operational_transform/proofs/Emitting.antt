@@ -1,7 +1,7 @@
 -- The emitter's records and text, at their places in the buffer.
 use Prim.Native.Nat.{ℕ, zero, suc, _+_, _*_, _≤_, _<_}
 use native.Mathlib.Omega.{arith}
-use mathlib.Core.Path.{_≡_, refl, sym, ap, _∙_}
+use mathlib.Core.Path.{_≡_, refl, sym, ap, ap₂, _∙_}
 use mathlib.Core.List.{List, [], _∷_, _++_, append-nil}
 use lib.ListN.{length, length-append}
 use Rattle.utf8.specs.Text.{Char, bytes}
@@ -36,8 +36,9 @@ module _ (n k kind c : ℕ) (o : List ℕ) where
   pub emit-none : c ≡ 0 → o ≡ emitted n k kind c o
   emit-none e = sym (emitted-none e)
 
-  pub emit-some : {o₁ o₂ : List ℕ} → (c ≡ 0 → ⊥) → o₁ ≡ over (kindsStart + k) (kind ∷ []) o → o₂ ≡ over (countsStart n + 2 * k) (bytes16 c) o₁ → o₂ ≡ emitted n k kind c o
-  emit-some z p q = q ∙ ap (over (countsStart n + 2 * k) (bytes16 c)) p ∙ sym (emitted-some (omega arith))
+  pub emit-some : {i j : ℕ} {o₁ o₂ : List ℕ} → (c ≡ 0 → ⊥) → i ≡ kindsStart + k → j ≡ countsStart n + 2 * k → o₁ ≡ over i (kind ∷ []) o → o₂ ≡ over j (bytes16 c) o₁
+      → o₂ ≡ emitted n k kind c o
+  emit-some z f g p q = q ∙ ap₂ (λ j o. over j (bytes16 c) o) g (p ∙ ap (λ i. over i (kind ∷ []) o) f) ∙ sym (emitted-some (omega arith))
 
 pub count-none : (k c : ℕ) → c ≡ 0 → k ≡ k + one c
 count-none k c e = omega (arith, one-none c e)

@@ -58,6 +58,13 @@ over-front [] o h = refl
 over-front (x ∷ xs) [] h = absurd (not-suc-le-zero h)
 over-front (x ∷ xs) (y ∷ o) h = ap (λ r. x ∷ r) (over-front xs o (le-of-suc-le-suc h))
 
+-- and anywhere
+over-at : (p : ℕ) (xs o : List ℕ) → p + length xs ≤ length o → over p xs o ≡ take p o ++ xs ++ drop (p + length xs) o
+unfolding over atFront
+over-at zero xs o h = rw (zero-add (length xs)) (over-front xs o (omega arith))
+over-at (suc p) xs [] h = absurd (omega arith)
+over-at (suc p) xs (y ∷ o) h = rw suc-add (ap (λ r. y ∷ r) (over-at p xs o (omega arith)))
+
 -- bytes behind the buffer's end count for nothing
 over-room : (p k : ℕ) (xs o : List ℕ) → min (length o) (p + length xs) ≤ p + k → over p (take k xs) o ≡ over p xs o
 unfolding over
@@ -70,6 +77,9 @@ over-room zero (suc k) (x ∷ xs) (y ∷ o) h = ap (λ r. x ∷ r) (over-room ze
 over-room (suc p) k xs [] h = refl
 over-room (suc p) k xs (y ∷ o) h = ap (λ r. y ∷ r) (over-room p k xs o (omega arith))
 
+over-behind : (p : ℕ) (xs o : List ℕ) → length o ≤ p → o ≡ over p xs o
+over-behind p xs o h = sym (over-nil p o) ∙ over-room p 0 xs o (omega arith)
+
 -- ---- `put`, `put16`, `copy`
 
 pub put-in : (o : List ℕ) (i v : ℕ) → set o i v ≡ over i (v ∷ []) o
@@ -80,34 +90,24 @@ put-in (x ∷ o) zero v = refl
 put-in (x ∷ o) (suc i) v = ap (λ r. x ∷ r) (put-in o i v)
 
 pub put-out : (o : List ℕ) (i v : ℕ) → length o ≤ i → o ≡ over i (v ∷ []) o
-put-out o i v h = sym (over-nil i o) ∙ over-room i 0 (v ∷ []) o (omega arith)
+put-out o i v h = over-behind i (v ∷ []) o h
 
 pub put16-both : (at v : ℕ) (o : List ℕ) {o₁ o₂ : List ℕ} → o₁ ≡ over at (v % 256 ∷ []) o → o₂ ≡ over (at + 1) (v / 256 % 256 ∷ []) o₁ → o₂ ≡ over at (bytes16 v) o
 put16-both at v o h k = k ∙ ap (over (at + 1) (v / 256 % 256 ∷ [])) h ∙ over-join at (v % 256 ∷ []) (v / 256 % 256 ∷ []) o
 
-module _ (at from to room len : ℕ) (s o : List ℕ) where
-  pub copy-none : o ≡ over at (take 0 (drop from s)) o
-  copy-none = sym (over-nil at o)
+module _ (at from to : ℕ) (s o : List ℕ) where
+  pub copy-out : length o ≤ at → o ≡ over at (take (to - from) (drop from s)) o
+  copy-out h = over-behind at (take (to - from) (drop from s)) o h
 
-  -- one byte more
-  pub copy-more : (i : ℕ) {o₁ : List ℕ} → to ≤ length s → len ≡ min (to - from) room → i < len → o₁ ≡ over at (take i (drop from s)) o
-      → set o₁ (at + i) (getD s (from + i) 0) ≡ over at (take (i + 1) (drop from s)) o
-  copy-more i {o₁} t≤ e h p =
-      let x = getD s (from + i) 0 ∷ [] in
-      let t = take i (drop from s) in
-      let l : i < length (drop from s) = omega (arith, length-drop from s) in
-      let m : length t ≡ i = length-take-le i (drop from s) (omega arith) in
-      let more : take (i + 1) (drop from s) ≡ t ++ x = rw (add-one, take-suc (drop from s) i 0 l, getD-drop from s i 0) in
-      put-in o₁ (at + i) (getD s (from + i) 0)
-      ∙ ap (over (at + i) x) p
-      ∙ ap (λ k. over (at + k) x (over at t o)) (sym m)
-      ∙ over-join at t x o
-      ∙ ap (λ t. over at t o) (sym more)
-
-  pub copy-end : (i : ℕ) {o₁ : List ℕ} → room ≡ length o - at → len ≡ min (to - from) room → i ≤ len → len ≤ i
-      → o₁ ≡ over at (take i (drop from s)) o → o₁ ≡ over at (take (to - from) (drop from s)) o
-  copy-end i r e h g p =
-      let t = take (to - from) (drop from s) in
+  pub copy-in : (len : ℕ) {o₁ : List ℕ} → at < length o → from ≤ to → to ≤ length s → len ≡ min (to - from) (length o - at)
+      → o₁ ≡ take at o ++ take (from + len - from) (drop from s) ++ drop (at + length (take (from + len - from) (drop from s))) o
+      → o₁ ≡ over at (take (to - from) (drop from s)) o
+  copy-in len h f t≤ e p =
+      let k : from + len - from ≡ len = omega arith in
+      let t = take len (drop from s) in
+      let m : length t ≡ len = length-take-le len (drop from s) (omega (arith, length-drop from s)) in
       p
-      ∙ ap (λ t. over at t o) (sym (take-take i (to - from) (drop from s) (omega arith)))
-      ∙ over-room at i t o (omega (arith, length-take (to - from) (drop from s)))
+      ∙ ap (λ j. take at o ++ take j (drop from s) ++ drop (at + length (take j (drop from s))) o) k
+      ∙ sym (over-at at t o (omega arith))
+      ∙ ap (λ t. over at t o) (sym (take-take len (to - from) (drop from s) (omega arith)))
+      ∙ over-room at len (take (to - from) (drop from s)) o (omega (arith, length-take (to - from) (drop from s)))

@@ -54,19 +54,11 @@ pub fn copy(out: &mut [u8], at: usize, src: &[u8], from: usize, to: usize)
     requires { ⌜ (at ≤ 2 ^ 50) × (from ≤ to) × (to ≤ length (now src)) ⌝ }
     ensures { λ _. ⌜ now (out .exit) ≡ over at (take (to - from) (drop from (now (src .entry)))) (now (out .entry)) ⌝ }
 {
-    let room = room_behind(out.len(), at);
-    let len = lesser(to - from, room);
-    let mut i = 0;
-    while i < len {
-        out[at + i] = src[from + i];
-        i += 1;
+    if out.len() <= at {
+        return;
     }
-}
-
-fn room_behind(len: usize, at: usize) -> usize
-    ensures { λ r. ⌜ r ≡ len - at ⌝ }
-{
-    if at < len { len - at } else { 0 }
+    let len = lesser(to - from, out.len() - at);
+    utf8::core::copy_into(out, at, &src[from..from + len]);
 }
 
 pub fn lesser(a: usize, b: usize) -> usize
@@ -97,8 +89,8 @@ fn emit(out: &mut [u8], n: usize, records: usize, kind: u8, count: usize) -> usi
     if count == 0 {
         return records;
     }
-    put(out, 8 + records, kind);
-    put16(out, 8 + n + 2 * records, count);
+    put(out, operation::core::kind_place(records), kind);
+    put16(out, operation::core::count_place(n, records), count);
     records + 1
 }
 
@@ -174,9 +166,10 @@ pub fn insert(
     if len == 0 {
         return e;
     }
+    let at = operation::core::text_start(n) + e.text;
     if 0 < e.ret {
         let records = flush(out, n, e);
-        copy(out, 8 + 3 * n + e.text, src, from, to);
+        copy(out, at, src, from, to);
         return Emitter {
             ins: len,
             del: 0,
@@ -187,7 +180,7 @@ pub fn insert(
             target: e.target + num,
         };
     }
-    copy(out, 8 + 3 * n + e.text, src, from, to);
+    copy(out, at, src, from, to);
     Emitter {
         ins: e.ins + len,
         del: e.del,
@@ -260,7 +253,7 @@ pub fn size(e: Emitter) -> usize
     requires { ⌜ Under (2 ^ 40) e ⌝ }
     ensures { λ r. ⌜ r ≡ sizeIn e ⌝ }
 {
-    8 + 3 * e.records + e.text
+    operation::core::text_start(e.records) + e.text
 }
 
 // The answer of a call that would write what was emitted: 9, then 10.

@@ -1,7 +1,6 @@
 // A step of compose or transform over the two front records: whose turn it is, and what stays in front.
 use operation::core::Front;
 ghost use mathlib.Core.Path.{_≡_};
-ghost use Prim.Native.Nat.{min};
 ghost use Rattle.operation.specs.Layout.{recordsOf};
 ghost use Rattle.operation.specs.Front.{Stands};
 ghost use Rattle.turns.specs.Turns.{Planned, Advances, liveIs};
@@ -35,12 +34,6 @@ pub fn live(x: Front, y: Front) -> bool
     true
 }
 
-fn lesser(a: usize, b: usize) -> usize
-    ensures { λ r. ⌜ r ≡ min a b ⌝ }
-{
-    if a < b { a } else { b }
-}
-
 pub fn measure(a: &[u8], b: &[u8], x: Front, y: Front, t: Turn) -> Plan
     requires { ⌜ Stands (now a) x × Stands (now b) y ⌝ }
     ensures { λ p. ⌜ Planned (now (a .entry)) (now (b .entry)) x y t p ⌝ }
@@ -57,7 +50,7 @@ pub fn measure(a: &[u8], b: &[u8], x: Front, y: Front, t: Turn) -> Plan
             j: y.to,
         },
         Turn::Together => {
-            let k = lesser(x.left, y.left);
+            let k = operational_transform::core::lesser(x.left, y.left);
             let i = operation::core::cut(a, x, k);
             let j = operation::core::cut(b, y, k);
             Plan { k, i, j }

@@ -5,3 +5,4 @@ pub mod Leads
 pub mod Chars
 pub mod Cuts
 pub mod Texts
+pub mod Places

@@ -3,3 +3,4 @@ pub mod Form
 pub mod Chars
 pub mod Text
 pub mod Order
+pub mod Places

@@ -1,26 +1,20 @@
-use borrow.Author.Needs.{needs}
 use native.Mathlib.Omega.{arith}
 use Rattle.operational_transform.proofs.Emitting.{count-none, count-some, emit-none, emit-some}
+use borrow.Author.Needs.{needs}
 use Rattle.operational_transform.proofs.core.emit.Statement.{statement}
 use Rattle.operational_transform.proofs.core.emit.Tie as tie
 
 returns : tie.Need-returns
 returns c = (search count-none, omega arith, search emit-none)
 
-add-put : tie.Need-add-put
-add-put c = search needs
+kind-place-requires : tie.Need-kind-place-requires
+kind-place-requires c κs = search needs
 
 put-requires : tie.Need-put-requires
 put-requires c κs = search needs
 
-add-put16 : tie.Need-add-put16
-add-put16 c = search needs
-
-mul-put16 : tie.Need-mul-put16
-mul-put16 c = search needs
-
-add-put16-2 : tie.Need-add-put16-2
-add-put16-2 c = search needs
+count-place-requires : tie.Need-count-place-requires
+count-place-requires c κs = search needs
 
 put16-requires : tie.Need-put16-requires
 put16-requires c κs = search needs
@@ -39,11 +33,9 @@ emit-spec =
     tie.close
     (tie.spec
     returns
-    add-put
+    kind-place-requires
     put-requires
-    add-put16
-    mul-put16
-    add-put16-2
+    count-place-requires
     put16-requires
     add-result
     same-length
