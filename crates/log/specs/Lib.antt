@@ -1,0 +1,3 @@
+-- log
+pub mod Log
+pub mod Open

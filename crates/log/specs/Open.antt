@@ -1,0 +1,11 @@
+-- "Opening writes these four bytes with 0 revisions (9 if the length is over 32,768)."
+use Prim.Native.Nat.{ℕ}
+use mathlib.Core.List.{List, [], _∷_}
+use lib.Dec.{leb}
+use Rattle.operation.specs.Answer.{needs}
+use Rattle.operation.specs.Layout.{words}
+use Rattle.operational_transform.specs.Output.{Out, writing}
+
+unfoldable pub openCall : ℕ → List ℕ → Out
+unfolding writing
+openCall n log = writing (needs (leb n 32768) 9 0) (words (0 ∷ n ∷ [])) log

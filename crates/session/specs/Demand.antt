@@ -1,0 +1,131 @@
+-- Demand 3: what is to hold of every list of accept calls on a fresh session, as one claim.
+use Prim.Native.Nat.{ℕ, _-_}
+use mathlib.Core.Path.{_≡_}
+use mathlib.Core.Logic.{_↔_}
+use mathlib.Core.List.{List, [], _∷_, _++_}
+use lib.Dec.{T}
+use lib.ListN.{length, take}
+use Rattle.utf8.specs.Form.{wellFormed}
+use Rattle.utf8.specs.Chars.{numChars, allOf}
+use Rattle.operation.specs.Answer.{gives, goes}
+use Rattle.operational_transform.specs.Output.{atFront, Outs}
+use Rattle.log.specs.Log.{encodeAll, countOf, recordsIn, contents, revisions}
+use Rattle.log.specs.Open.{openCall}
+use Rattle.session.specs.Session.{acceptCall, summaryCall}
+use Rattle.session.specs.History.{History, fresh, logIn, Told, historyAccept, historySummary, historyPlay}
+
+-- ---- a session: a log that was just opened, and a list of accept calls
+
+-- `log` is what opening left
+pub record Fresh (n : ℕ) (log : List ℕ) : Type 0 where
+  pub buffer : List ℕ
+  pub opens : openCall n buffer .answer ≡ gives (4 ∷ [])
+  pub leaves : contents (openCall n buffer .out) ≡ log
+
+-- a call is lent a buffer with the log's contents and any bytes behind them, and any output
+pub record Call : Type 0 where
+  pub edit : List ℕ
+  pub rev : ℕ
+  pub behind : List ℕ
+  pub out : List ℕ
+
+abbrev pub accept : List ℕ → Call → Outs
+accept log c = acceptCall (c .edit) (c .rev) (log ++ c .behind) (c .out)
+
+-- "Each call gets the log as the call before left it": every answer, log and output, and the log after the list
+abbrev pub ran : List ℕ → List Call → List Outs
+ran log [] = []
+ran log (c ∷ cs) = accept log c ∷ ran (contents (accept log c .outA)) cs
+
+abbrev pub logAfter : List ℕ → List Call → List ℕ
+logAfter log [] = log
+logAfter log (c ∷ cs) = logAfter (contents (accept log c .outA)) cs
+
+-- ---- the history of such a list
+
+abbrev pub fed : History → Call → Told
+fed h c = historyAccept h (c .edit) (c .rev) (length (logIn h ++ c .behind)) (length (c .out))
+
+abbrev pub after : History → List Call → History
+after h [] = h
+after h (c ∷ cs) = after (fed h c .history) cs
+
+-- what the history gives: the answer, the log and the counterparts at the front of their buffers, all else as it was
+abbrev pub shown : History → Call → Outs
+shown h c = record {
+  answer = fed h c .answer;
+  outA = atFront (logIn (fed h c .history)) (logIn h ++ c .behind);
+  outB = atFront (encodeAll (fed h c .counterparts)) (c .out);
+}
+
+abbrev pub foretold : History → List Call → List Outs
+foretold h [] = []
+foretold h (c ∷ cs) = shown h c ∷ foretold (fed h c .history) cs
+
+-- ---- summaries that are given
+
+-- some call of summary on this log gives the bytes `s`
+pub record Given (log s : List ℕ) : Type 0 where
+  pub behind : List ℕ
+  pub out : List ℕ
+  pub answers : summaryCall (log ++ behind) out .answer ≡ gives (length s ∷ [])
+  pub writes : take (length s) (summaryCall (log ++ behind) out .out) ≡ s
+
+-- ---- the second session
+
+-- none of these accepts is refused
+abbrev pub AllGo : List Outs → Type 0
+AllGo os = T (allOf (λ o. goes (o .answer)) os)
+
+-- what else a call is lent: the bytes behind the edit and behind the log, and the output
+pub record Lent : Type 0 where
+  pub behindEdit : List ℕ
+  pub behindLog : List ℕ
+  pub output : List ℕ
+
+-- records as calls, "each against the newest revision"
+abbrev pub againstNewest : List ℕ → List (List ℕ) → (ℕ → Lent) → List Call
+againstNewest log [] lent = []
+againstNewest log (e ∷ es) lent =
+    let b = lent (length es) in
+    let c : Call = record { edit = e ++ b .behindEdit; rev = countOf log; behind = b .behindLog; out = b .output } in
+    c ∷ againstNewest (contents (accept log c .outA)) es lent
+
+-- the counterparts that a call handed out
+abbrev pub handedOut : List ℕ → Call → List (List ℕ)
+handedOut log c = recordsIn (countOf log - c .rev) (accept log c .outB)
+
+-- the same edit as another session's call
+abbrev pub again : Call → Lent → Call
+again c b = record { edit = c .edit; rev = c .rev; behind = b .behindLog; out = b .output }
+
+-- ---- the claim
+
+-- "each answer, refusal, log and counterpart is just what document 01's history of that list gives, and so is a summary at
+-- any point"
+pub record AsForetold (n : ℕ) (log : List ℕ) (cs : List Call) : Type 0 where
+  pub calls : ran log cs ≡ foretold (fresh n) cs
+  pub summaries : (behind out : List ℕ) → summaryCall (logAfter log cs ++ behind) out ≡ historySummary (after (fresh n) cs) out
+
+-- "the summaries after them, where both are given, agree byte for byte exactly when on every text of that length playing one
+-- history and playing the other give the same text"
+abbrev pub SummariesTell : ℕ → (log log′ : List ℕ) (cs ds : List Call) → Type 0
+SummariesTell n log log′ cs ds =
+    (s t : List ℕ) → Given (logAfter log cs) s → Given (logAfter log′ ds) t
+    → (s ≡ t) ↔ ((text : List ℕ) → T (wellFormed text) → numChars text ≡ n → historyPlay (after (fresh n) cs) text ≡ historyPlay (after (fresh n) ds) text)
+
+-- "the copies meet": a session accepts an edit against r; another one that holds "just the same first r revisions" accepts it
+-- too, "then the counterparts that the first handed out for this edit"
+abbrev pub CopiesMeet : (here there : List ℕ) → Type 0
+CopiesMeet here there =
+    (c : Call) (mine : Lent) (lent : ℕ → Lent) →
+    let edited = again c mine in
+    let then = againstNewest (contents (accept there edited .outA)) (handedOut here c) lent in
+    revisions there ≡ take (c .rev) (revisions here)
+    → AllGo (ran here (c ∷ [])) → AllGo (ran there (edited ∷ then))
+    → (s t : List ℕ) → Given (logAfter here (c ∷ [])) s → Given (logAfter there (edited ∷ then)) t → s ≡ t
+
+pub record Demand3 : Type 0 where
+  pub as-foretold : (n : ℕ) (log : List ℕ) → Fresh n log → (cs : List Call) → AsForetold n log cs
+  pub summaries-tell : (n : ℕ) (log log′ : List ℕ) → Fresh n log → Fresh n log′ → (cs ds : List Call) → SummariesTell n log log′ cs ds
+  pub copies-meet : (n : ℕ) (log log′ : List ℕ) → Fresh n log → Fresh n log′ → (cs ds : List Call) → CopiesMeet (logAfter log cs) (logAfter log′ ds)

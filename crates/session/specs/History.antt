@@ -1,0 +1,94 @@
+-- Document 01, the paragraph "A list's history is ..". It speaks of sequences and sizes alone, and takes from the calls
+-- nothing but the rule by which one edit is transformed past another.
+use Prim.Native.Nat.{ℕ, zero, suc}
+use mathlib.Core.Bool.{_&&_}
+use mathlib.Core.List.{List, [], _∷_, _++_, map}
+use lib.ListN.{length}
+use lib.Dec.{leb, ltb, eqb}
+use Rattle.utf8.specs.Chars.{allOf}
+use Rattle.utf8.specs.Text.{Char, chars, bytes}
+use Rattle.operation.specs.Answer.{Answer, first, gives, needs, refused, settle}
+use Rattle.operation.specs.Op.{base, target}
+use Rattle.operation.specs.Record.{Seq, encode, fits, ops, recordFault}
+use Rattle.operational_transform.specs.Compose.{compose}
+use Rattle.operational_transform.specs.Transform.{Sides}
+use Rattle.operational_transform.specs.Output.{Out, writing}
+use Rattle.log.specs.Log.{encodeAll, logOf}
+use Rattle.session.specs.Rows.{playAll, still, rule}
+
+-- "the starting length and a row of edits, its revisions: none at first"
+pub record History : Type 0 where
+  pub start : ℕ
+  pub edits : List Seq
+
+abbrev pub fresh : ℕ → History
+fresh n = record { start = n; edits = [] }
+
+-- "The log's contents are the number of edits, the starting length and the row's records."
+abbrev pub logIn : History → List ℕ
+logIn h = logOf (h .start) (h .edits)
+
+-- "edit r's target, or for r = 0 the starting length"
+abbrev pub targetAfter : ℕ → List Seq → ℕ → ℕ
+targetAfter n es zero = n
+targetAfter n [] (suc r) = n
+targetAfter n (e ∷ es) (suc r) = targetAfter (target e) es r
+
+-- edits r + 1 to the last
+abbrev pub later : ℕ → List Seq → List Seq
+later zero es = es
+later (suc r) [] = []
+later (suc r) (e ∷ es) = later r es
+
+-- "what comes out of one going into the next": the transforms, and what comes out of the last
+abbrev pub transforms : Seq → List Seq → List (Sides Char)
+transforms e [] = []
+transforms e (v ∷ vs) = rule e v ∷ transforms (rule e v .left) vs
+
+abbrev pub comesOut : Seq → List (Sides Char) → Seq
+comesOut e [] = e
+comesOut e (s ∷ ss) = comesOut (s .left) ss
+
+-- a call's answer, the counterparts, and the history after it
+pub record Told : Type 0 where
+  pub answer : Answer
+  pub counterparts : List Seq
+  pub history : History
+
+-- "It is fed each accept's edit and r, and the sizes of the log's buffer and of the output for counterparts."
+unfoldable pub historyAccept : History → List ℕ → ℕ → ℕ → ℕ → Told
+unfolding recordFault ops logOf rule fits encode encodeAll
+historyAccept h edit r room space =
+    let ts = transforms (ops edit) (later r (h .edits)) in
+    let new = comesOut (ops edit) ts in
+    let counterparts = map (λ s. s .right) ts in
+    let next : History = record { start = h .start; edits = h .edits ++ (new ∷ []) } in
+    settle
+    (first (recordFault edit)
+    (needs (leb r (length (h .edits))) 7
+    (needs (eqb (base (ops edit)) (targetAfter (h .start) (h .edits) r)) 8
+    (needs (ltb (length (h .edits)) 256 && allOf (λ s. fits (s .left) && fits (s .right)) ts) 9
+    (needs (leb (length (logIn next)) room && leb (length (encodeAll counterparts)) space) 10 0)))))
+    (λ n. record { answer = refused n; counterparts = []; history = h })
+    (record { answer = gives (length (encode new) ∷ length (encodeAll counterparts) ∷ []); counterparts = counterparts; history = next })
+
+-- the partial results of composing a row, and the last of them
+abbrev pub partials : Seq → List Seq → List Seq
+partials s [] = s ∷ []
+partials s (e ∷ es) = s ∷ partials (compose s e) es
+
+abbrev pub final : Seq → List Seq → Seq
+final s [] = s
+final s (p ∷ ps) = final p ps
+
+-- "9 as there, then 10 if the output is too short"
+unfoldable pub historySummary : History → List ℕ → Out
+unfolding still fits writing encode
+historySummary h out =
+    let ps = partials (still (h .start)) (h .edits) in
+    writing (needs (allOf fits ps) 9 0) (encode (final (still (h .start)) ps)) out
+
+-- "Playing a history on a text applies its edits, oldest first, with no limit on room."
+unfoldable pub historyPlay : History → List ℕ → List ℕ
+unfolding chars bytes
+historyPlay h t = bytes (playAll (h .edits) (chars t))

@@ -1,0 +1,5 @@
+-- session
+pub mod Rows
+pub mod Session
+pub mod History
+pub mod Demand

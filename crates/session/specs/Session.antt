@@ -1,0 +1,81 @@
+-- What accept, summary and play give back and leave in their buffers, for every input: document 01, "Session".
+use Prim.Native.Nat.{ℕ, suc, _+_}
+use mathlib.Core.Bool.{_&&_}
+use mathlib.Core.List.{List, [], _∷_, _++_}
+use lib.ListN.{length, take, drop}
+use lib.Dec.{leb, ltb, eqb}
+use Rattle.utf8.specs.Form.{wellFormed}
+use Rattle.utf8.specs.Chars.{numChars}
+use Rattle.utf8.specs.Text.{chars, bytes}
+use Rattle.operation.specs.Answer.{first, gives, needs, refused, settle}
+use Rattle.operation.specs.Layout.{words, baseOf}
+use Rattle.operation.specs.Record.{encode, fits, ops, recordFault}
+use Rattle.operational_transform.specs.Output.{atFront, Out, writing, Outs}
+use Rattle.log.specs.Log.{encodeAll, countOf, startOf, readable, sizeOfLog, lengthAt, revisions}
+use Rattle.session.specs.Rows.{playAll, longest, still, composeAll, composesWithin, Moved, rebase}
+
+-- ---- accept: "Checks: the edit, the log, 7, 8 (its base isn't the length after revision r), 9, 10."
+
+unfoldable pub movedIn : List ℕ → ℕ → List ℕ → Moved
+unfolding rebase ops revisions
+movedIn edit r log = rebase (ops edit) (drop r (revisions log))
+
+-- 9: "A result would pass a limit of refusal 1 or 6"; 10: "the log's rest is too short", or the output
+unfoldable pub acceptFault : List ℕ → ℕ → List ℕ → List ℕ → ℕ
+unfolding movedIn readable recordFault lengthAt sizeOfLog encode encodeAll
+acceptFault edit r log out =
+    let m = movedIn edit r log in
+    first (recordFault edit)
+    (needs (readable log) 6
+    (needs (leb r (countOf log)) 7
+    (needs (eqb (baseOf edit) (lengthAt r log)) 8
+    (needs (ltb (countOf log) 256 && m .kept) 9
+    (needs (leb (sizeOfLog log + length (encode (m .edit))) (length log) && leb (length (encodeAll (m .counterparts))) (length out)) 10 0)))))
+
+-- "what comes out is appended": a record behind the log's contents, and one revision more
+unfoldable pub append : List ℕ → List ℕ → List ℕ
+unfolding atFront sizeOfLog
+append log rec =
+    let n = sizeOfLog log in
+    atFront (words (suc (countOf log) ∷ [])) (take n log ++ atFront rec (drop n log))
+
+-- "accept the bytes added to the log, then those of the counterparts"; "Counterparts are written oldest first, end to end."
+unfoldable pub acceptCall : List ℕ → ℕ → List ℕ → List ℕ → Outs
+unfolding acceptFault movedIn append encode encodeAll atFront
+acceptCall edit r log out =
+    let m = movedIn edit r log in
+    settle (acceptFault edit r log out) (λ n. record { answer = refused n; outA = log; outB = out })
+    (record {
+      answer = gives (length (encode (m .edit)) ∷ length (encodeAll (m .counterparts)) ∷ []);
+      outA = append log (encode (m .edit));
+      outB = atFront (encodeAll (m .counterparts)) out;
+    })
+
+-- ---- summary
+
+unfoldable pub summaryFault : List ℕ → ℕ
+unfolding readable revisions still fits
+summaryFault log = needs (readable log) 6 (needs (composesWithin (still (startOf log)) (revisions log)) 9 0)
+
+unfoldable pub summaryCall : List ℕ → List ℕ → Out
+unfolding summaryFault revisions still writing encode
+summaryCall log out = writing (summaryFault log) (encode (composeAll (still (startOf log)) (revisions log))) out
+
+-- ---- play: "Checks: text, log, 8, 10 (a scratch shorter than the longest text on the way ..)"
+
+unfoldable pub played : List ℕ → List ℕ → List ℕ
+unfolding revisions chars bytes
+played log t = bytes (playAll (revisions log) (chars t))
+
+-- with two scratch buffers of these sizes
+unfoldable pub playFault : List ℕ → List ℕ → ℕ → ℕ → ℕ
+unfolding readable revisions chars bytes
+playFault log t scratchA scratchB =
+    let need = longest (revisions log) (chars t) in
+    needs (wellFormed t) 3
+    (needs (readable log) 6
+    (needs (eqb (numChars t) (startOf log)) 8 (needs (leb need scratchA && leb need scratchB) 10 0)))
+
+unfoldable pub playCall : List ℕ → List ℕ → ℕ → ℕ → List ℕ → Out
+unfolding playFault played writing
+playCall log t scratchA scratchB out = writing (playFault log t scratchA scratchB) (played log t) out

@@ -1,0 +1,1 @@
+// What a session is: definitions and laws. The calls are in crates of their own.
