@@ -19,7 +19,7 @@ use Rattle.utf8.proofs.Chars.{num-le, well-all}
 use Rattle.utf8.proofs.Texts.{chars-bytes, chars-length, bytes-chars, bytes-well, bytes-take, bytes-split, bytes-append}
 use Rattle.operation.specs.declared.core.Front.{Front}
 use Rattle.operation.specs.Op.{ifZero, Op, retain, insert, delete, size, cut, rest, front}
-use Rattle.operation.specs.Layout.{recordsOf, textStart, kindAt, countAt}
+use Rattle.operation.specs.Layout.{recordsOf, textBytesOf, textStart, sizeOf, kindAt, countAt}
 use Rattle.operation.specs.Record.{Seq, ByteSeq, inBytes, inChars, inserted, entries, byteOps, ops, insertBytes, wellInserted, recordFault}
 use Rattle.operation.specs.Front.{entriesLeft, byteOpsLeft, opsLeft, Place, frontText, frontOp, ahead, Stands, Cut, Loads, Leaves}
 use Rattle.operation.proofs.Sequences.{inChars-size}
@@ -57,6 +57,16 @@ fault-kinds r z = omega (arith, limits r .0 (faultless r .0 z .in-limits) .whole
 
 pub fault-few : (r : List ℕ) (n : ℕ) → recordFault r ≡ 0 → n ≡ recordsOf r → n ≤ 1024
 fault-few r n z e = omega (arith, limits r .0 (faultless r .0 z .in-limits) .records)
+
+module _ (r : List ℕ) {n t z : ℕ} (e : z ≡ textStart n) (p : n ≡ recordsOf r) (q : t ≡ textBytesOf r) where
+  pub fault-size : z + t ≡ sizeOf r
+  fault-size = cc (e, p, q)
+
+  pub fault-small : recordFault r ≡ 0 → z + t ≤ 35848
+  fault-small f = let h = limits r .0 (faultless r .0 f .in-limits) in omega (arith, h .records, h .text-bytes, e, p, q)
+
+  pub fault-whole : recordFault r ≡ 0 → z + t ≤ length r
+  fault-whole f = rw fault-size (limits r .0 (faultless r .0 f .in-limits) .whole)
 
 -- what lies ahead of the first front is the whole sequence
 pub first-ahead : (r : List ℕ) (n at : ℕ) (f : Front) → recordFault r ≡ 0 → n ≡ recordsOf r → at ≡ textStart n → Loads r 0 at f → ahead r f ≡ ops r

@@ -1,7 +1,8 @@
 // What the layers above use to go through a record that was checked.
 ghost use mathlib.Core.Path.{_≡_};
 ghost use Prim.Native.Nat.{_+_, _*_, _^_, _≤_, _<_};
-ghost use Rattle.operation.specs.Layout.{recordsOf, baseOf, targetOf, kindsStart, countsStart, textStart, kindAt, countAt};
+ghost use lib.ListN.{length};
+ghost use Rattle.operation.specs.Layout.{recordsOf, baseOf, targetOf, sizeOf, kindsStart, countsStart, textStart, kindAt, countAt};
 ghost use Rattle.operation.specs.Record.{recordFault, ops};
 ghost use Rattle.operation.specs.Front.{Place, Stands, ahead, Loads, Leaves, Cut};
 
@@ -35,6 +36,15 @@ pub fn target(rec: &[u8]) -> usize
     ensures { λ r. ⌜ r ≡ targetOf (now (rec .entry)) ⌝ }
 {
     crate::layout::target(rec)
+}
+
+// How many bytes the record has.
+pub fn size(rec: &[u8]) -> usize
+    requires { ⌜ recordFault (now rec) ≡ 0 ⌝ }
+    ensures { λ r. ⌜ (r ≡ sizeOf (now (rec .entry))) × (r ≤ 35848) × (r ≤ length (now (rec .entry))) ⌝ }
+{
+    let n = crate::layout::records(rec);
+    crate::layout::text_start(n) + crate::layout::text_bytes(rec)
 }
 
 // The places in a record of n: of the kind and of the count of record k, and where the text begins.
