@@ -1,3 +1,4 @@
 -- log
 pub mod Log
 pub mod Open
+pub mod Scan

@@ -1,1 +1,2 @@
-// The log of a session.
+// The log of a session: opened, and gone through.
+pub mod core;
