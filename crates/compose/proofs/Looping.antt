@@ -32,7 +32,7 @@ use Rattle.operational_transform.specs.Given.{Gives}
 use Rattle.operational_transform.proofs.Giving.{refuses, gives-refused, gives-written}
 use Rattle.turns.specs.Turns.{liveIs}
 use Rattle.turns.proofs.Turning.{both-ended}
-use Rattle.compose.specs.declared.State.{State}
+use Rattle.compose.specs.declared.core.State.{State}
 use Rattle.compose.specs.Composing.{still, Went}
 
 pub record Going (n : ℕ) (a b out0 : List ℕ) (s : State) (o : List ℕ) : Type 0 where

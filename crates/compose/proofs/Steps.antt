@@ -28,7 +28,7 @@ use Rattle.turns.specs.declared.core.Plan.{Plan}
 use Rattle.turns.specs.declared.core.Fronts.{Fronts}
 use Rattle.turns.specs.Turns.{liveIs, stepOf, Chosen, Chooses, Planned, Advances}
 use Rattle.turns.proofs.Turning.{Moves, moves}
-use Rattle.compose.specs.declared.State.{State}
+use Rattle.compose.specs.declared.core.State.{State}
 use Rattle.compose.specs.Composing.{whoseIs, Went}
 
 one-or-two : (r : List ℕ) (f : Front) → Stands r f → (f .kind ≡ 0 → ⊥) → (f .kind ≡ 3 → ⊥) → (f .kind ≡ 1) ⊎ (f .kind ≡ 2)

@@ -13,7 +13,7 @@ use Rattle.operational_transform.specs.Compose.{composeTurn, made}
 use Rattle.operational_transform.specs.Emit.{Adds}
 use Rattle.turns.specs.declared.core.Turn.{Turn}
 use Rattle.turns.specs.declared.core.Turn.the-variants.{First, Second, Together}
-use Rattle.compose.specs.declared.State.{State}
+use Rattle.compose.specs.declared.core.State.{State}
 
 abbrev pub whoseIs : ℕ → ℕ → Turn
 whoseIs x y = cond (eqb x 0) Second (cond (eqb y 0) First (cond (eqb x 3) First (cond (eqb y 2) Second Together)))

@@ -28,7 +28,7 @@ use Rattle.operational_transform.specs.Emit.{Sizes, Done, Writes, within, sizeI
 use Rattle.operational_transform.proofs.Delivering.{sized-fits, sized-length, written-front}
 use Rattle.transform.specs.declared.WrittenPair.{WrittenPair}
 use Rattle.transform.specs.declared.WrittenPair.the-variants as written
-use Rattle.transform.specs.declared.Pair.{Pair}
+use Rattle.transform.specs.declared.core.Pair.{Pair}
 use Rattle.transform.specs.Pairs.{pairOf, judgedBoth, DoneBoth, SizedBoth, Transforms}
 
 -- ---- `judge`

@@ -2,26 +2,24 @@
 use Prim.Native.Nat.{ℕ, suc, _+_, _*_, _^_, _≤_}
 use native.Mathlib.Omega.{arith}
 use mathlib.Core.Path.{_≡_, refl, sym, ap, ap₂, _∙_}
-use mathlib.Core.Bool.{false}
+use mathlib.Core.Bool.{Bool, false}
 use mathlib.Core.List.{List, [], reverse}
 use lib.ListN.{length}
 use Rattle.utf8.specs.Order.{order}
-use Rattle.operation.specs.declared.core.Front.{Front}
 use Rattle.operation.specs.Layout.{recordsOf}
 use Rattle.operation.specs.Record.{Seq, ops, recordFault}
 use Rattle.operation.specs.Front.{ahead, Stands}
 use Rattle.operation.proofs.Fronts.{ended-ahead, fault-few}
 use Rattle.operation.proofs.Records.{ops-length}
-use Rattle.operational_transform.specs.declared.core.Emitter.{Emitter}
 use Rattle.operational_transform.specs.Transform.{transformTurn, keepBoth, lefts, rights, transform}
-use Rattle.operational_transform.specs.Emit.{Under, nothing, Rep, Done, Finishes}
+use Rattle.operational_transform.specs.Emit.{Under, Rep, Done}
 use Rattle.operational_transform.proofs.Loops.{run-end, transform-runs}
 use Rattle.operational_transform.proofs.Adding.{rep-start, under-start, under-more}
 use Rattle.turns.specs.Turns.{liveIs}
 use Rattle.turns.proofs.Turning.{both-ended}
-use Rattle.transform.specs.declared.State.{State}
-use Rattle.transform.specs.declared.Pair.{Pair}
-use Rattle.transform.specs.Sides.{stillLeft, stillRight, Went}
+use Rattle.transform.specs.declared.core.State.{State}
+use Rattle.transform.specs.declared.core.Pair.{Pair}
+use Rattle.transform.specs.Sides.{stillLeft, stillRight, Begun, Went, Ended}
 use Rattle.transform.specs.Pairs.{DoneBoth}
 
 pub record Going (n m : ℕ) (a b x0 y0 : List ℕ) (s : State) (o q : List ℕ) : Type 0 where
@@ -38,23 +36,22 @@ pub record Going (n m : ℕ) (a b x0 y0 : List ℕ) (s : State) (o q : List ℕ)
   pub left : stillLeft acc-left (ahead a (s .x)) (ahead b (s .y)) ≡ stillLeft [] (ops a) (ops b)
   pub right : stillRight acc-right (ahead a (s .x)) (ahead b (s .y)) ≡ stillRight [] (ops a) (ops b)
 
-pub going-start : (n m : ℕ) (a b o q : List ℕ) (x y : Front) (e : Emitter) → recordFault a ≡ 0 → recordFault b ≡ 0 → Stands a x → ahead a x ≡ ops a → Stands b y → ahead b y ≡ ops b → e ≡ nothing
-    → Going n m a b o q (record { x = x; y = y; e = e; f = e }) o q
-going-start n m a b o q x y e za zb sx hx sy hy p =
-    rw p (record {
-      stands-x = sx;
-      stands-y = sy;
+pub going-start : (n m : ℕ) (a b o q : List ℕ) (s : State) → recordFault a ≡ 0 → recordFault b ≡ 0 → Begun a b s → Going n m a b o q s o q
+going-start n m a b o q s za zb h =
+    record {
+      stands-x = h .stands-x;
+      stands-y = h .stands-y;
       turns = 0;
-      bound = omega (arith, ap length hx, ap length hy, ops-length a za, ops-length b zb, fault-few a (recordsOf a) za refl, fault-few b (recordsOf b) zb refl);
-      under-e = under-start;
-      under-f = under-start;
+      bound = omega (arith, ap length (h .all-x), ap length (h .all-y), ops-length a za, ops-length b zb, fault-few a (recordsOf a) za refl, fault-few b (recordsOf b) zb refl);
+      under-e = rw (h .empty-e) under-start;
+      under-f = rw (h .empty-f) under-start;
       acc-left = [];
       acc-right = [];
-      rep-left = rep-start n o;
-      rep-right = rep-start m q;
-      left = ap₂ (stillLeft []) hx hy;
-      right = ap₂ (stillRight []) hx hy;
-    })
+      rep-left = rw (h .empty-e) (rep-start n o);
+      rep-right = rw (h .empty-f) (rep-start m q);
+      left = ap₂ (stillLeft []) (h .all-x) (h .all-y);
+      right = ap₂ (stillRight []) (h .all-x) (h .all-y);
+    }
 
 module _ (n m : ℕ) (a b x0 y0 : List ℕ) (s : State) (o q : List ℕ) (g : Going n m a b x0 y0 s o q) where
   pub going-under-e : Under (2 ^ 38) (s .e)
@@ -80,14 +77,14 @@ module _ (n m : ℕ) (a b x0 y0 : List ℕ) (s : State) (o q : List ℕ) (g : Go
         right = sym (w .goes-right (g .acc-right)) ∙ g .right;
       }
 
-  pub going-done : (e f : Emitter) (o′ q′ : List ℕ) → liveIs (s .x) (s .y) ≡ false → Finishes n (s .e) o e o′ → Finishes m (s .f) q f q′
-      → DoneBoth n m (transform order (ops a) (ops b)) x0 y0 (record { e = e; f = f }) o′ q′
+  pub going-done : (v : Bool) (r : Pair) (o′ q′ : List ℕ) → v ≡ liveIs (s .x) (s .y) → v ≡ false → Ended n m s o q r o′ q′
+      → DoneBoth n m (transform order (ops a) (ops b)) x0 y0 r o′ q′
   unfolding transform
-  going-done e f o′ q′ l h k =
-      let (p, z) = both-ended (s .x) (s .y) l in
+  going-done v r o′ q′ w l h =
+      let (p, z) = both-ended (s .x) (s .y) (sym w ∙ l) in
       let ea = ended-ahead a (s .x) (g .stands-x) p in
       let eb = ended-ahead b (s .y) (g .stands-y) z in
       let el : g .acc-left ≡ stillLeft [] (ops a) (ops b) = sym (ap₂ (stillLeft (g .acc-left)) ea eb ∙ run-end (transformTurn order) (lefts keepBoth) (g .acc-left)) ∙ g .left in
       let er : g .acc-right ≡ stillRight [] (ops a) (ops b) = sym (ap₂ (stillRight (g .acc-right)) ea eb ∙ run-end (transformTurn order) (rights keepBoth) (g .acc-right)) ∙ g .right in
       rw (transform-runs keepBoth order (ops a) (ops b), ← el, ← er)
-      (record { left = h .done x0 (g .acc-left) (g .rep-left); right = k .done y0 (g .acc-right) (g .rep-right) })
+      (record { left = h .left .done x0 (g .acc-left) (g .rep-left); right = h .right .done y0 (g .acc-right) (g .rep-right) })

@@ -33,8 +33,8 @@ use Rattle.turns.specs.declared.core.Plan.{Plan}
 use Rattle.turns.specs.declared.core.Fronts.{Fronts}
 use Rattle.turns.specs.Turns.{liveIs, stepOf, Chosen, Chooses, PlannedBy, Planned, Advances}
 use Rattle.turns.proofs.Turning.{Moves, moves}
-use Rattle.transform.specs.declared.State.{State}
-use Rattle.transform.specs.declared.Pair.{Pair}
+use Rattle.transform.specs.declared.core.State.{State}
+use Rattle.transform.specs.declared.core.Pair.{Pair}
 use Rattle.transform.specs.Sides.{flip, givesOf, sideGives, SidePlannedBy, SidePlanned, Given, Went}
 
 -- ---- whose turn it is

@@ -13,7 +13,7 @@ use Rattle.operational_transform.specs.Calls.{transformCall}
 use Rattle.operational_transform.specs.Emit.{Under, Sizes, Done, within, sizeIn}
 use Rattle.transform.specs.declared.WrittenPair.{WrittenPair}
 use Rattle.transform.specs.declared.WrittenPair.the-variants as written
-use Rattle.transform.specs.declared.Pair.{Pair}
+use Rattle.transform.specs.declared.core.Pair.{Pair}
 
 -- the code's answer, in the paper's numbers
 abbrev pub pairOf : WrittenPair → Answer

@@ -8,16 +8,16 @@ use lib.ListN.{length}
 use Rattle.utf8.specs.Order.{order}
 use Rattle.operation.specs.declared.core.Front.{Front}
 use Rattle.operation.specs.Op.{retain, gives, cut}
-use Rattle.operation.specs.Record.{Seq}
+use Rattle.operation.specs.Record.{Seq, ops}
 use Rattle.operation.specs.Front.{frontOp, ahead, Stands, Cut}
 use Rattle.operational_transform.specs.Build.{addAll}
 use Rattle.operational_transform.specs.Align.{steps, each}
 use Rattle.operational_transform.specs.Transform.{transformTurn, past, keepBoth, lefts, rights}
-use Rattle.operational_transform.specs.Emit.{Adds}
+use Rattle.operational_transform.specs.Emit.{nothing, Adds, Finishes}
 use Rattle.turns.specs.declared.core.Turn.{Turn}
 use Rattle.turns.specs.declared.core.Turn.the-variants.{First, Second, Together}
-use Rattle.transform.specs.declared.State.{State}
-use Rattle.transform.specs.declared.Pair.{Pair}
+use Rattle.transform.specs.declared.core.State.{State}
+use Rattle.transform.specs.declared.core.Pair.{Pair}
 
 abbrev pub flip : Turn → Turn
 flip First = Second
@@ -54,6 +54,15 @@ stillLeft acc a b = addAll acc (each (lefts keepBoth) (steps (transformTurn orde
 abbrev pub stillRight : Seq → Seq → Seq → Seq
 stillRight acc a b = addAll acc (each (rights keepBoth) (steps (transformTurn order) a b))
 
+-- before the first step
+pub record Begun (a b : List ℕ) (s : State) : Type 0 where
+  pub stands-x : Stands a (s .x)
+  pub stands-y : Stands b (s .y)
+  pub all-x : ahead a (s .x) ≡ ops a
+  pub all-y : ahead b (s .y) ≡ ops b
+  pub empty-e : s .e ≡ nothing
+  pub empty-f : s .f ≡ nothing
+
 -- one step
 pub record Went (n m : ℕ) (a b : List ℕ) (s : State) (o q : List ℕ) (r : State) (o′ q′ : List ℕ) : Type 0 where
   pub stands-x : Stands a (r .x)
@@ -67,3 +76,8 @@ pub record Went (n m : ℕ) (a b : List ℕ) (s : State) (o q : List ℕ) (r : S
   pub goes-left : (acc : Seq) → stillLeft acc (ahead a (s .x)) (ahead b (s .y)) ≡ stillLeft (addAll acc left) (ahead a (r .x)) (ahead b (r .y))
   pub goes-right : (acc : Seq) → stillRight acc (ahead a (s .x)) (ahead b (s .y)) ≡ stillRight (addAll acc right) (ahead a (r .x)) (ahead b (r .y))
   pub less : length (ahead a (r .x)) + length (ahead b (r .y)) < length (ahead a (s .x)) + length (ahead b (s .y))
+
+-- behind the last step
+pub record Ended (n m : ℕ) (s : State) (o q : List ℕ) (r : Pair) (o′ q′ : List ℕ) : Type 0 where
+  pub left : Finishes n (s .e) o (r .e) o′
+  pub right : Finishes m (s .f) q (r .f) q′

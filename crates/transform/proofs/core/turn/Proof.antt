@@ -1,7 +1,7 @@
 use Rattle.transform.proofs.Siding.{went}
 use borrow.Author.Needs.{needs}
-use Rattle.transform.proofs.turn.Statement.{statement}
-use Rattle.transform.proofs.turn.Tie as tie
+use Rattle.transform.proofs.core.turn.Statement.{statement}
+use Rattle.transform.proofs.core.turn.Tie as tie
 
 whose-requires : tie.Need-whose-requires
 whose-requires c κs = search needs

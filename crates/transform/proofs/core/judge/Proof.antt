@@ -1,7 +1,7 @@
 use Rattle.transform.proofs.Answering.{judge-bytes, judge-first, judge-second, judge-short, judge-shorter}
 use borrow.Author.Needs.{needs}
-use Rattle.transform.proofs.judge.Statement.{statement}
-use Rattle.transform.proofs.judge.Tie as tie
+use Rattle.transform.proofs.core.judge.Statement.{statement}
+use Rattle.transform.proofs.core.judge.Tie as tie
 
 keeps-limits-requires : tie.Need-keeps-limits-requires
 keeps-limits-requires c κs = search needs

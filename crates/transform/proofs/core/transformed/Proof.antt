@@ -1,7 +1,7 @@
 use Rattle.transform.proofs.Answering.{transforms-lengths, transforms-refused, transforms-written}
 use borrow.Author.Needs.{needs}
-use Rattle.transform.proofs.transformed.Statement.{statement}
-use Rattle.transform.proofs.transformed.Tie as tie
+use Rattle.transform.proofs.core.transformed.Statement.{statement}
+use Rattle.transform.proofs.core.transformed.Tie as tie
 
 base-requires : tie.Need-base-requires
 base-requires c κs = search needs

@@ -1,7 +1,7 @@
 use Rattle.compose.proofs.Looping.{composes-lengths, composes-refused, composes-written}
 use borrow.Author.Needs.{needs}
-use Rattle.compose.proofs.composed.Statement.{statement}
-use Rattle.compose.proofs.composed.Tie as tie
+use Rattle.compose.proofs.core.composed.Statement.{statement}
+use Rattle.compose.proofs.core.composed.Tie as tie
 
 target-requires : tie.Need-target-requires
 target-requires c κs = search needs

@@ -1,6 +1,6 @@
 use Rattle.compose.proofs.Steps.{whose-both, whose-delete, whose-ended, whose-insert, whose-other}
-use Rattle.compose.proofs.whose.Statement.{statement}
-use Rattle.compose.proofs.whose.Tie as tie
+use Rattle.compose.proofs.core.whose.Statement.{statement}
+use Rattle.compose.proofs.core.whose.Tie as tie
 
 returns : tie.Need-returns
 returns c = search whose-ended

@@ -1,7 +1,7 @@
 use Rattle.compose.proofs.Steps.{meet-insert, meet-nothing, meet-retain}
 use borrow.Author.Needs.{needs}
-use Rattle.compose.proofs.meet.Statement.{statement}
-use Rattle.compose.proofs.meet.Tie as tie
+use Rattle.compose.proofs.core.meet.Statement.{statement}
+use Rattle.compose.proofs.core.meet.Tie as tie
 
 part-requires : tie.Need-part-requires
 part-requires c κs = search needs

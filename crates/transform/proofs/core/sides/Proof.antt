@@ -1,7 +1,7 @@
 use Rattle.transform.proofs.Siding.{given, plan-left, plan-right}
 use borrow.Author.Needs.{needs}
-use Rattle.transform.proofs.sides.Statement.{statement}
-use Rattle.transform.proofs.sides.Tie as tie
+use Rattle.transform.proofs.core.sides.Statement.{statement}
+use Rattle.transform.proofs.core.sides.Tie as tie
 
 other-requires : tie.Need-other-requires
 other-requires c κs = search needs

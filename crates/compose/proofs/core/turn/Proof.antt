@@ -2,8 +2,8 @@ use mathlib.Core.Path.{refl}
 use Rattle.compose.proofs.Steps.{chooses-by}
 use Rattle.compose.proofs.Steps.{went}
 use borrow.Author.Needs.{needs}
-use Rattle.compose.proofs.turn.Statement.{statement}
-use Rattle.compose.proofs.turn.Tie as tie
+use Rattle.compose.proofs.core.turn.Statement.{statement}
+use Rattle.compose.proofs.core.turn.Tie as tie
 
 whose-requires : tie.Need-whose-requires
 whose-requires c κs = search needs

@@ -2,8 +2,8 @@ use Rattle.turns.proofs.Turning.{chooses-as, planned-as}
 use Rattle.compose.proofs.Steps.{give-first, give-second, give-together}
 use Rattle.turns.proofs.Turning.{Within}
 use borrow.Author.Needs.{needs}
-use Rattle.compose.proofs.give.Statement.{statement}
-use Rattle.compose.proofs.give.Tie as tie
+use Rattle.compose.proofs.core.give.Statement.{statement}
+use Rattle.compose.proofs.core.give.Tie as tie
 
 enum-told : tie.Need-enum-told
 enum-told c = search needs

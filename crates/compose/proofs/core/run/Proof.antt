@@ -7,8 +7,8 @@ use lib.ListN.{length}
 use Rattle.operation.specs.Front.{ahead}
 use Rattle.compose.proofs.Looping.{Going, going-done, going-more, going-start, going-under}
 use borrow.Author.Needs.{needs}
-use Rattle.compose.proofs.run.Statement.{statement}
-use Rattle.compose.proofs.run.Tie as tie
+use Rattle.compose.proofs.core.run.Statement.{statement}
+use Rattle.compose.proofs.core.run.Tie as tie
 
 abbrev Inv-loop : tie.InvT-loop
 Inv-loop a na b nb out₀ n s₀ out s = Going n a b out₀ s out × (length out ≡ length out₀)
