@@ -1,8 +1,8 @@
 -- session
 pub mod Rows
 pub mod Moving
+pub mod Accepting
+pub mod Running
 
--- pub mod Accepting
--- pub mod Running
 -- pub mod Meeting
 -- pub mod Demands
