@@ -3,6 +3,5 @@ pub mod Rows
 pub mod Moving
 pub mod Accepting
 pub mod Running
-
--- pub mod Meeting
--- pub mod Demands
+pub mod Meeting
+pub mod Demands
