@@ -7,7 +7,7 @@ use mathlib.Core.List.{List, [], _∷_, _++_, append-assoc}
 use lib.Dec.{T, leb, ltb, eqb, leb→le, ltb→lt, eqb→eq}
 use lib.ListN.{length, take, drop, length-append, take-append-drop}
 use lib.Seq.{drop-at, take-at, drop-append-seam, drop-append-add}
-use Rattle.utf8.proofs.Tests.{both, holds, known}
+use Rattle.utf8.proofs.Tests.{both, holds}
 use Rattle.operation.specs.Answer.{Answer, first, gives, needs, refused, settle}
 use Rattle.operation.specs.Layout.{words, baseOf}
 use Rattle.operation.specs.Op.{base}
@@ -16,13 +16,13 @@ use Rattle.operation.proofs.Sequences.{Good}
 use Rattle.operation.proofs.Records.{ops-base}
 use Rattle.operation.proofs.Refusals.{needs-out, first-zero}
 use Rattle.operational_transform.specs.Output.{atFront, Outs}
-use Rattle.log.specs.Log.{encodeAll, logOf, countOf, readable, sizeOfLog, lengthAt}
-use Rattle.log.proofs.Rows.{Each, each-append, lengthAfter, Row, row-append, row-right, after-append}
+use Rattle.log.specs.Log.{encodeAll, logOf, readable, sizeOfLog, lengthAt}
+use Rattle.log.proofs.Rows.{each-append, lengthAfter, Row, row-append, row-right, after-append}
 use Rattle.log.proofs.Logs.{Sound, log-more, log-more-length, count-log, length-log, revisions-log, size-log, readable-log}
 use Rattle.session.specs.Rows.{Moved, rebase}
 use Rattle.session.specs.Session.{movedIn, acceptFault, append, acceptCall}
 use Rattle.session.specs.History.{History, logIn, Told, historyAccept}
-use Rattle.session.specs.Demand.{Call, accept, fed, shown}
+use Rattle.session.specs.Demand.{Call, accept, shown}
 use Rattle.session.proofs.Rows.{target-after}
 use Rattle.session.proofs.Moving.{later-gathered, rebase-base, rebase-good}
 

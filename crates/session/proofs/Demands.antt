@@ -1,7 +1,7 @@
 -- Demand 3.
 use Prim.Native.Nat.{ℕ}
 use mathlib.Core.Path.{_≡_, refl, sym, ap, _∙_, subst, subst₂}
-use mathlib.Core.List.{List, [], _∷_, _++_, map}
+use mathlib.Core.List.{List, [], _++_, map}
 use lib.Dec.{T}
 use lib.ListN.{length, take}
 use Rattle.utf8.specs.Form.{wellFormed}

@@ -5,3 +5,4 @@ pub mod Accepting
 pub mod Running
 pub mod Meeting
 pub mod Demands
+pub mod Examples

@@ -5,12 +5,10 @@ use native.Mathlib.Omega.{arith}
 use mathlib.Core.Path.{_≡_, refl, sym, ap, _∙_}
 use mathlib.Core.Bool.{Bool, true, false, _&&_}
 use mathlib.Core.List.{List, [], _∷_, _++_, append-nil}
-use lib.Dec.{T}
 use lib.ListN.{length, take, drop}
 use lib.Seq.{take-all}
 use Rattle.utf8.specs.Chars.{allOf}
 use Rattle.utf8.specs.Text.{Char}
-use Rattle.utf8.proofs.Tests.{both}
 use Rattle.utf8.proofs.Texts.{letter-a, letter-b, a≢b}
 use Rattle.operation.specs.Op.{retain, base, target}
 use Rattle.operation.specs.Built.{Built}

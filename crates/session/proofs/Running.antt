@@ -21,7 +21,7 @@ use Rattle.session.specs.Session.{summaryFault, summaryCall}
 use Rattle.session.specs.History.{History, fresh, logIn, Told, historySummary}
 use Rattle.session.specs.Demand.{Fresh, Call, accept, ran, logAfter, fed, after, foretold, Given}
 use Rattle.session.proofs.Rows.{partials-final, partials-fit, summary}
-use Rattle.session.proofs.Accepting.{SoundIn, joined, moved, fault, back, through, history-told, Passed, passed, joined-sound, accept-log}
+use Rattle.session.proofs.Accepting.{SoundIn, moved, fault, back, through, history-told, Passed, passed, joined-sound, accept-log}
 
 -- ---- one call
 
