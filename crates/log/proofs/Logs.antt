@@ -177,6 +177,10 @@ unfolding editsIn
 edits-length zero l = refl
 edits-length (suc n) l = ap suc (edits-length n (drop (sizeOf l) l))
 
+pub revisions-length : (l : List ℕ) → length (revisions l) ≡ countOf l
+unfolding revisions
+revisions-length l = edits-length (countOf l) (drop recordsStart l)
+
 edits-good : (n len : ℕ) (l : List ℕ) → T (readableFrom n len l) → Each Good (editsIn n l)
 unfolding editsIn
 edits-good zero len l h = tt
@@ -206,18 +210,16 @@ module _ (l : List ℕ) (h : T (readable l)) where
       let (c, d) = le-and (startOf l) 32768 _ .0 h₂ in
       (a, b, c, d)
 
-  pub revisions-length : length (revisions l) ≡ countOf l
-  unfolding revisions
-  revisions-length = edits-length (countOf l) (drop recordsStart l)
-
   pub read-sound : Sound (startOf l) (revisions l)
   unfolding revisions
-  read-sound = record {
-    starts = parts .2;
-    counts = omega (arith, edits-length (countOf l) (drop recordsStart l), parts .1);
-    good = edits-good (countOf l) (startOf l) (drop recordsStart l) (parts .3);
-    row = edits-row (countOf l) (startOf l) (drop recordsStart l) (parts .3);
-  }
+  read-sound =
+      let d = drop recordsStart l in
+      record {
+        starts = parts .2;
+        counts = omega (arith, edits-length (countOf l) d, parts .1);
+        good = edits-good (countOf l) (startOf l) d (parts .3);
+        row = edits-row (countOf l) (startOf l) d (parts .3);
+      }
 
   -- what it says, written again, is its own bytes
   pub read-log : Bytes l → logOf (startOf l) (revisions l) ≡ contents l

@@ -115,15 +115,17 @@ module _ (h : History) (s : SoundIn h) (e : Seq) (r : ℕ) (p : Passed h e r) wh
     row = row-append (h .start) (h .edits) _ (s .row) (ends, tt);
   }
 
--- ---- accept on the log of a history
+-- ---- refusals that need only agree where they are asked for
 
-first-same : (f a b : ℕ) → (f ≡ 0 → a ≡ b) → first f a ≡ first f b
+pub first-same : (f a b : ℕ) → (f ≡ 0 → a ≡ b) → first f a ≡ first f b
 first-same zero a b e = e refl
 first-same (suc f) a b e = refl
 
 needs-same : (t : Bool) (n a b : ℕ) → (T t → a ≡ b) → needs t n a ≡ needs t n b
 needs-same true n a b e = e tt
 needs-same false n a b e = refl
+
+-- ---- accept on the log of a history
 
 module _ (h : History) (behind : List ℕ) where
   abbrev buffer : List ℕ

@@ -3,6 +3,7 @@ pub mod Rows
 pub mod Moving
 pub mod Accepting
 pub mod Running
+pub mod Newest
 pub mod Meeting
 pub mod Demands
 pub mod Examples

@@ -3,7 +3,7 @@
 use Prim.Native.Nat.{ℕ, suc}
 use native.Mathlib.Omega.{arith}
 use mathlib.Core.Path.{_≡_, refl, sym, ap, _∙_}
-use mathlib.Core.Bool.{Bool, true, false, _&&_}
+use mathlib.Core.Bool.{_&&_, and-assoc}
 use mathlib.Core.List.{List, [], _∷_, map}
 use lib.Dec.{T}
 use lib.ListN.{length, drop}
@@ -40,10 +40,6 @@ abbrev gathered : Seq → List Seq → Moved
 gathered e vs =
     let ts = transforms e vs in
     record { edit = comesOut e ts; counterparts = map (λ s. s .right) ts; kept = allOf (λ s. fits (s .left) && fits (s .right)) ts }
-
-and-assoc : (a b c : Bool) → ((a && b) && c) ≡ (a && (b && c))
-and-assoc true b c = refl
-and-assoc false b c = refl
 
 transforms-gathered : (e : Seq) (vs : List Seq) → gathered e vs ≡ rebase e vs
 unfolding rebase

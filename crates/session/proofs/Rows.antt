@@ -3,7 +3,7 @@ use Prim.Native.Nat.{ℕ, zero, suc}
 use native.Mathlib.Nat.{add-zero}
 use native.Mathlib.Omega.{arith}
 use mathlib.Core.Path.{_≡_, refl, sym, ap, _∙_}
-use mathlib.Core.Bool.{Bool, true, false, _&&_}
+use mathlib.Core.Bool.{_&&_, and-true}
 use mathlib.Core.List.{List, [], _∷_, _++_, append-nil}
 use lib.ListN.{length, take, drop}
 use lib.Seq.{take-all}
@@ -64,11 +64,7 @@ partials-final s p [] = refl
 partials-final s p (e ∷ es) = partials-final (compose s e) s es
 
 pub partials-fit : (s : Seq) (es : List Seq) → allOf fits (partials s es) ≡ composesWithin s es
-partials-fit s [] = alone (fits s)
-  where
-    alone : (b : Bool) → (b && true) ≡ b
-    alone true = refl
-    alone false = refl
+partials-fit s [] = and-true (fits s)
 partials-fit s (e ∷ es) = ap (λ b. fits s && b) (partials-fit (compose s e) es)
 
 composeAll-base : (s : Seq) (es : List Seq) → Row (target s) es → base (composeAll s es) ≡ base s
