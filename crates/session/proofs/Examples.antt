@@ -9,7 +9,7 @@ use Rattle.operational_transform.specs.Compose.{compose}
 use Rattle.log.specs.Log.{contents, revisions}
 use Rattle.log.specs.Open.{openCall}
 use Rattle.session.specs.Session.{acceptCall, summaryCall}
-use Rattle.session.specs.Demand.{Fresh, Call, accept, ran, logAfter, Given, AllGo, Lent, againstNewest, handedOut, again}
+use Rattle.session.specs.Demand.{Fresh, Call, accept, ran, logAfter, Given, AllGo, Lent, againstNewest, handedOut, again, CopiesMeet}
 
 -- texts of two characters; the first session's revisions are R1 I"ä" R1 and D1 R1, both written against the start
 abbrev opened : List ℕ
@@ -77,3 +77,8 @@ sample = record {
   here-given = record { behind = []; out = replicate 40 0; answers = refl; writes = refl };
   there-given = record { behind = []; out = replicate 40 0; answers = refl; writes = refl };
 }
+
+-- the facts are those that the claim asks for
+asked : CopiesMeet here opened → sum ≡ sum
+asked claim =
+    claim late lent (λ i. lent) (sample .same) (sample .here-goes) (sample .there-goes) sum sum (sample .here-given) (sample .there-given)

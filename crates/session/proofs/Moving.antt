@@ -1,5 +1,5 @@
 -- An edit moved past a row ends in the text that the counterparts make of the edit's own.
--- Of the rule for one transform only `rule-tp1` and `rule-good` are used.
+-- No law below looks into `rule`: `rule-tp1` and `rule-good` are all that is known of it.
 use Prim.Native.Nat.{ℕ, suc}
 use native.Mathlib.Omega.{arith}
 use mathlib.Core.Path.{_≡_, refl, sym, ap, _∙_}
@@ -12,7 +12,7 @@ use Rattle.utf8.specs.Text.{Char}
 use Rattle.utf8.specs.Order.{order}
 use Rattle.utf8.proofs.Tests.{both}
 use Rattle.utf8.proofs.Texts.{order-equal}
-use Rattle.operation.specs.Op.{base, target}
+use Rattle.operation.specs.Op.{base}
 use Rattle.operation.specs.Record.{Seq, fits}
 use Rattle.operation.proofs.Sequences.{Good}
 use Rattle.operational_transform.specs.Apply.{apply}
@@ -75,14 +75,6 @@ rebase-base e (v ∷ vs) w =
     let s = rule e v in
     let h = rule-tp1 e v (sym (w .0)) in
     rebase-base (s .left) vs (rw (h .base-left) (w .1)) ∙ ap (λ n. lengthAfter n vs) (h .base-left)
-
-pub rebase-row : (e : Seq) (vs : List Seq) → Row (base e) vs → Row (target e) (rebase e vs .counterparts)
-unfolding rebase
-rebase-row e [] w = tt
-rebase-row e (v ∷ vs) w =
-    let s = rule e v in
-    let h = rule-tp1 e v (sym (w .0)) in
-    (h .base-right, rw (← h .targets) (rebase-row (s .left) vs (rw (h .base-left) (w .1))))
 
 pub rebase-length : (e : Seq) (vs : List Seq) → length (rebase e vs .counterparts) ≡ length vs
 unfolding rebase
