@@ -1,1 +1,3 @@
 -- log
+pub mod Rows
+pub mod Logs

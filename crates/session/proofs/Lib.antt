@@ -1,1 +1,9 @@
 -- session
+pub mod Rows
+pub mod Moving
+pub mod Accepting
+pub mod Running
+pub mod Newest
+pub mod Meeting
+pub mod Demands
+pub mod Examples

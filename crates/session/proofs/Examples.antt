@@ -1,0 +1,84 @@
+-- What the claim that the copies meet asks of two sessions can be had, with two counterparts.
+use Prim.Native.Nat.{ℕ}
+use mathlib.Core.Path.{_≡_, refl}
+use mathlib.Core.List.{List, [], _∷_}
+use lib.ListN.{replicate, take}
+use Rattle.utf8.specs.Form.{leadOf}
+use Rattle.utf8.specs.Chars.{isCont}
+use Rattle.operational_transform.specs.Compose.{compose}
+use Rattle.log.specs.Log.{contents, revisions}
+use Rattle.log.specs.Open.{openCall}
+use Rattle.session.specs.Session.{acceptCall, summaryCall}
+use Rattle.session.specs.Demand.{Fresh, Call, accept, ran, logAfter, Given, AllGo, Lent, againstNewest, handedOut, again, CopiesMeet}
+
+-- texts of two characters; the first session's revisions are R1 I"ä" R1 and D1 R1, both written against the start
+abbrev opened : List ℕ
+opened = 0 ∷ 0 ∷ 2 ∷ 0 ∷ []
+
+abbrev call : List ℕ → Call
+call edit = record { edit = edit; rev = 0; behind = replicate 40 0xFF; out = replicate 40 0xFF }
+
+abbrev inserts : List ℕ
+inserts = 3 ∷ 0 ∷ 2 ∷ 0 ∷ 2 ∷ 0 ∷ 3 ∷ 0 ∷ 1 ∷ 2 ∷ 1 ∷ 1 ∷ 0 ∷ 2 ∷ 0 ∷ 1 ∷ 0 ∷ 0xC3 ∷ 0xA4 ∷ []
+
+abbrev deletes : List ℕ
+deletes = 2 ∷ 0 ∷ 0 ∷ 0 ∷ 2 ∷ 0 ∷ 1 ∷ 0 ∷ 3 ∷ 1 ∷ 1 ∷ 0 ∷ 1 ∷ 0 ∷ []
+
+abbrev before : List Call
+before = call inserts ∷ call deletes ∷ []
+
+abbrev here : List ℕ
+here =
+    2 ∷ 0 ∷ 2 ∷ 0
+    ∷ 3 ∷ 0 ∷ 2 ∷ 0 ∷ 2 ∷ 0 ∷ 3 ∷ 0 ∷ 1 ∷ 2 ∷ 1 ∷ 1 ∷ 0 ∷ 2 ∷ 0 ∷ 1 ∷ 0 ∷ 0xC3 ∷ 0xA4
+    ∷ 2 ∷ 0 ∷ 0 ∷ 0 ∷ 3 ∷ 0 ∷ 2 ∷ 0 ∷ 3 ∷ 1 ∷ 1 ∷ 0 ∷ 2 ∷ 0 ∷ []
+
+-- the late edit is R1 I"x" R1; its counterparts are R2 I"ä" R1 and D1 R3
+abbrev late : Call
+late = call (3 ∷ 0 ∷ 1 ∷ 0 ∷ 2 ∷ 0 ∷ 3 ∷ 0 ∷ 1 ∷ 2 ∷ 1 ∷ 1 ∷ 0 ∷ 1 ∷ 0 ∷ 1 ∷ 0 ∷ 0x78 ∷ [])
+
+abbrev counterparts : List (List ℕ)
+counterparts =
+    (3 ∷ 0 ∷ 2 ∷ 0 ∷ 3 ∷ 0 ∷ 4 ∷ 0 ∷ 1 ∷ 2 ∷ 1 ∷ 2 ∷ 0 ∷ 2 ∷ 0 ∷ 1 ∷ 0 ∷ 0xC3 ∷ 0xA4 ∷ [])
+    ∷ (2 ∷ 0 ∷ 0 ∷ 0 ∷ 4 ∷ 0 ∷ 3 ∷ 0 ∷ 3 ∷ 1 ∷ 1 ∷ 0 ∷ 3 ∷ 0 ∷ []) ∷ []
+
+-- the second session has no revision yet
+abbrev lent : Lent
+lent = record { behindEdit = 7 ∷ []; behindLog = replicate 40 0xFF; output = [] }
+
+abbrev then : List Call
+then = againstNewest (contents (accept opened (again late lent) .outA)) (handedOut here late) (λ i. lent)
+
+-- I"xä" D1 R1
+abbrev sum : List ℕ
+sum = 3 ∷ 0 ∷ 3 ∷ 0 ∷ 2 ∷ 0 ∷ 3 ∷ 0 ∷ 2 ∷ 3 ∷ 1 ∷ 3 ∷ 0 ∷ 1 ∷ 0 ∷ 1 ∷ 0 ∷ 0x78 ∷ 0xC3 ∷ 0xA4 ∷ []
+
+pub record Sample : Type 0 where
+  pub fresh : Fresh 2 opened
+  pub reached : logAfter opened before ≡ here
+  pub before-go : AllGo (ran opened before)
+  pub same : revisions opened ≡ take (late .rev) (revisions here)
+  pub handed : handedOut here late ≡ counterparts
+  pub here-goes : AllGo (ran here (late ∷ []))
+  pub there-goes : AllGo (ran opened (again late lent ∷ then))
+  pub here-given : Given (logAfter here (late ∷ [])) sum
+  pub there-given : Given (logAfter opened (again late lent ∷ then)) sum
+
+pub sample : Sample
+unfolding openCall acceptCall summaryCall contents compose isCont leadOf
+sample = record {
+  fresh = record { buffer = replicate 4 0; opens = refl; leaves = refl };
+  reached = refl;
+  before-go = tt;
+  same = refl;
+  handed = refl;
+  here-goes = tt;
+  there-goes = tt;
+  here-given = record { behind = []; out = replicate 40 0; answers = refl; writes = refl };
+  there-given = record { behind = []; out = replicate 40 0; answers = refl; writes = refl };
+}
+
+-- the facts are those that the claim asks for
+asked : CopiesMeet here opened → sum ≡ sum
+asked claim =
+    claim late lent (λ i. lent) (sample .same) (sample .here-goes) (sample .there-goes) sum sum (sample .here-given) (sample .there-given)

@@ -1,0 +1,93 @@
+-- An edit moved past a row ends in the text that the counterparts make of the edit's own.
+-- No law below looks into `rule`: `rule-tp1` and `rule-good` are all that is known of it.
+use Prim.Native.Nat.{ℕ, suc}
+use native.Mathlib.Omega.{arith}
+use mathlib.Core.Path.{_≡_, refl, sym, ap, _∙_}
+use mathlib.Core.Bool.{_&&_, and-assoc}
+use mathlib.Core.List.{List, [], _∷_, map}
+use lib.Dec.{T}
+use lib.ListN.{length, drop}
+use Rattle.utf8.specs.Chars.{allOf}
+use Rattle.utf8.specs.Text.{Char}
+use Rattle.utf8.specs.Order.{order}
+use Rattle.utf8.proofs.Tests.{both}
+use Rattle.utf8.proofs.Texts.{order-equal}
+use Rattle.operation.specs.Op.{base}
+use Rattle.operation.specs.Record.{Seq, fits}
+use Rattle.operation.proofs.Sequences.{Good}
+use Rattle.operational_transform.specs.Apply.{apply}
+use Rattle.operational_transform.specs.Transform.{transform}
+use Rattle.operational_transform.proofs.Effects.{Transforms}
+use Rattle.operational_transform.proofs.Claims.{apply-length, transform-built, transform-tp1}
+use Rattle.log.proofs.Rows.{Each, lengthAfter, Row}
+use Rattle.session.specs.Rows.{playAll, tie, rule, Moved, rebase}
+use Rattle.session.specs.History.{transforms, comesOut, later}
+use Rattle.session.proofs.Rows.{later-drop}
+
+pub rule-tp1 : (a b : Seq) → base a ≡ base b → Transforms a b (rule a b)
+unfolding rule transform
+rule-tp1 a b e = transform-tp1 order order-equal a b e
+
+pub rule-good : (a b : Seq) → let s = rule a b in (T (fits (s .left)) → Good (s .left)) × (T (fits (s .right)) → Good (s .right))
+unfolding rule
+rule-good a b =
+    let h = transform-built tie order a b in
+    (λ f. record { is-built = h .0; in-limits = f }, λ f. record { is-built = h .1; in-limits = f })
+
+-- ---- the history's transforms
+
+abbrev gathered : Seq → List Seq → Moved
+gathered e vs =
+    let ts = transforms e vs in
+    record { edit = comesOut e ts; counterparts = map (λ s. s .right) ts; kept = allOf (λ s. fits (s .left) && fits (s .right)) ts }
+
+transforms-gathered : (e : Seq) (vs : List Seq) → gathered e vs ≡ rebase e vs
+unfolding rebase
+transforms-gathered e [] = refl
+transforms-gathered e (v ∷ vs) =
+    let s = rule e v in
+    let p = transforms-gathered (s .left) vs in
+    λ i. record {
+      edit = p i .edit;
+      counterparts = s .right ∷ p i .counterparts;
+      kept = (and-assoc (fits (s .left)) (fits (s .right)) (gathered (s .left) vs .kept) ∙ ap (λ m. fits (s .left) && (fits (s .right) && m .kept)) p) i;
+    }
+
+pub later-gathered : (e : Seq) (r : ℕ) (es : List Seq) → gathered e (later r es) ≡ rebase e (drop r es)
+later-gathered e r es = transforms-gathered e (later r es) ∙ ap (rebase e) (later-drop r es)
+
+-- ---- moving past a row
+
+pub rebase-plays : (e : Seq) (vs : List Seq) (t : List Char) → length t ≡ base e → Row (base e) vs
+    → playAll (rebase e vs .counterparts) (apply e t) ≡ apply (rebase e vs .edit) (playAll vs t)
+unfolding rebase
+rebase-plays e [] t l w = refl
+rebase-plays e (v ∷ vs) t l w =
+    let s = rule e v in
+    let h = rule-tp1 e v (sym (w .0)) in
+    ap (playAll (rebase (s .left) vs .counterparts)) (h .tp1 t (omega arith))
+    ∙ rebase-plays (s .left) vs (apply v t) (apply-length v t (l ∙ sym (w .0)) ∙ sym (h .base-left)) (rw (h .base-left) (w .1))
+
+pub rebase-base : (e : Seq) (vs : List Seq) → Row (base e) vs → base (rebase e vs .edit) ≡ lengthAfter (base e) vs
+unfolding rebase
+rebase-base e [] w = refl
+rebase-base e (v ∷ vs) w =
+    let s = rule e v in
+    let h = rule-tp1 e v (sym (w .0)) in
+    rebase-base (s .left) vs (rw (h .base-left) (w .1)) ∙ ap (λ n. lengthAfter n vs) (h .base-left)
+
+pub rebase-length : (e : Seq) (vs : List Seq) → length (rebase e vs .counterparts) ≡ length vs
+unfolding rebase
+rebase-length e [] = refl
+rebase-length e (v ∷ vs) = ap suc (rebase-length (rule e v .left) vs)
+
+pub rebase-good : (e : Seq) (vs : List Seq) → Good e → T (rebase e vs .kept) → Good (rebase e vs .edit) × Each Good (rebase e vs .counterparts)
+unfolding rebase
+rebase-good e [] g k = (g, tt)
+rebase-good e (v ∷ vs) g k =
+    let s = rule e v in
+    let m = rebase (s .left) vs in
+    let (fl, k₁) = both (fits (s .left)) (fits (s .right) && m .kept) .0 k in
+    let (fr, k₂) = both (fits (s .right)) (m .kept) .0 k₁ in
+    let r = rebase-good (s .left) vs (rule-good e v .0 fl) k₂ in
+    (r .0, (rule-good e v .1 fr, r .1))

@@ -1,0 +1,116 @@
+-- Rows of edits, played and summed up: playing a summary plays the row.
+use Prim.Native.Nat.{ℕ, zero, suc}
+use native.Mathlib.Nat.{add-zero}
+use native.Mathlib.Omega.{arith}
+use mathlib.Core.Path.{_≡_, refl, sym, ap, _∙_}
+use mathlib.Core.Bool.{_&&_, and-true}
+use mathlib.Core.List.{List, [], _∷_, _++_, append-nil}
+use lib.ListN.{length, take, drop}
+use lib.Seq.{take-all}
+use Rattle.utf8.specs.Chars.{allOf}
+use Rattle.utf8.specs.Text.{Char}
+use Rattle.utf8.proofs.Texts.{letter-a, letter-b, a≢b}
+use Rattle.operation.specs.Op.{retain, base, target}
+use Rattle.operation.specs.Built.{Built}
+use Rattle.operation.specs.Record.{Seq, fits}
+use Rattle.operational_transform.specs.Apply.{apply}
+use Rattle.operational_transform.specs.Compose.{compose}
+use Rattle.operational_transform.proofs.Building.{build-built}
+use Rattle.operational_transform.proofs.Unique.{unique}
+use Rattle.operational_transform.proofs.Claims.{build-apply, build-base, build-target, apply-length, compose-base, compose-target, compose-apply, compose-built}
+use Rattle.log.proofs.Rows.{lengthAfter, Row}
+use Rattle.session.specs.Rows.{playAll, still, composeAll, composesWithin}
+use Rattle.session.specs.History.{targetAfter, later, partials, final}
+
+-- ---- the history's words for parts of a row
+
+pub later-drop : (r : ℕ) (es : List Seq) → later r es ≡ drop r es
+later-drop zero es = refl
+later-drop (suc r) [] = refl
+later-drop (suc r) (e ∷ es) = later-drop r es
+
+pub target-after : (n : ℕ) (es : List Seq) (r : ℕ) → targetAfter n es r ≡ lengthAfter n (take r es)
+target-after n es zero = refl
+target-after n [] (suc r) = refl
+target-after n (e ∷ es) (suc r) = target-after (target e) es r
+
+-- ---- playing
+
+pub playAll-append : (es vs : List Seq) (t : List Char) → playAll (es ++ vs) t ≡ playAll vs (playAll es t)
+playAll-append [] vs t = refl
+playAll-append (e ∷ es) vs t = playAll-append es vs (apply e t)
+
+pub playAll-length : (n : ℕ) (es : List Seq) (t : List Char) → Row n es → length t ≡ n → length (playAll es t) ≡ lengthAfter n es
+playAll-length n [] t r l = l
+playAll-length n (e ∷ es) t r l = playAll-length (target e) es (apply e t) (r .1) (apply-length e t (l ∙ sym (r .0)))
+
+-- ---- summing up
+
+pub still-base : (n : ℕ) → base (still n) ≡ n
+unfolding still
+still-base n = build-base (retain n ∷ []) ∙ add-zero n
+
+pub still-target : (n : ℕ) → target (still n) ≡ n
+unfolding still
+still-target n = build-target (retain n ∷ []) ∙ add-zero n
+
+pub still-apply : (n : ℕ) (t : List Char) → length t ≡ n → apply (still n) t ≡ t
+unfolding still
+still-apply n t l = build-apply (retain n ∷ []) t ∙ append-nil (take n t) ∙ take-all n t (omega arith)
+
+-- the history's partial results
+pub partials-final : (s p : Seq) (es : List Seq) → final p (partials s es) ≡ composeAll s es
+partials-final s p [] = refl
+partials-final s p (e ∷ es) = partials-final (compose s e) s es
+
+pub partials-fit : (s : Seq) (es : List Seq) → allOf fits (partials s es) ≡ composesWithin s es
+partials-fit s [] = and-true (fits s)
+partials-fit s (e ∷ es) = ap (λ b. fits s && b) (partials-fit (compose s e) es)
+
+composeAll-base : (s : Seq) (es : List Seq) → Row (target s) es → base (composeAll s es) ≡ base s
+composeAll-base s [] w = refl
+composeAll-base s (e ∷ es) w =
+    let q = sym (w .0) in composeAll-base (compose s e) es (rw (compose-target s e q) (w .1)) ∙ compose-base s e q
+
+composeAll-built : (s : Seq) (es : List Seq) → Built s → Built (composeAll s es)
+composeAll-built s [] h = h
+composeAll-built s (e ∷ es) h = composeAll-built (compose s e) es (compose-built s e)
+
+composeAll-apply : (s : Seq) (es : List Seq) (t : List Char) → length t ≡ base s → Row (target s) es
+    → apply (composeAll s es) t ≡ playAll es (apply s t)
+composeAll-apply s [] t l w = refl
+composeAll-apply s (e ∷ es) t l w =
+    let q = sym (w .0) in
+    composeAll-apply (compose s e) es t (l ∙ sym (compose-base s e q)) (rw (compose-target s e q) (w .1))
+    ∙ ap (playAll es) (compose-apply s e q t l)
+
+unfoldable pub summary : ℕ → List Seq → Seq
+unfolding still
+summary n es = composeAll (still n) es
+
+pub summary-built : (n : ℕ) (es : List Seq) → Built (summary n es)
+unfolding summary still
+summary-built n es = composeAll-built (still n) es (build-built (retain n ∷ []))
+
+module _ (n : ℕ) (es : List Seq) (w : Row n es) where
+  pub summary-base : base (summary n es) ≡ n
+  unfolding summary
+  summary-base = composeAll-base (still n) es (rw (still-target n) w) ∙ still-base n
+
+  pub summary-plays : (t : List Char) → length t ≡ n → apply (summary n es) t ≡ playAll es t
+  unfolding summary
+  summary-plays t l =
+      composeAll-apply (still n) es t (l ∙ sym (still-base n)) (rw (still-target n) w) ∙ ap (playAll es) (still-apply n t l)
+
+-- two rows have one summary exactly where they do the same to every text
+module _ (n : ℕ) (es vs : List Seq) (w : Row n es) (x : Row n vs) where
+  pub summary-unique : ((t : List Char) → length t ≡ n → playAll es t ≡ playAll vs t) → summary n es ≡ summary n vs
+  summary-unique h =
+      unique letter-a letter-b a≢b (summary n es) (summary n vs) (summary-built n es) (summary-built n vs)
+      (summary-base n es w ∙ sym (summary-base n vs x))
+      (λ t l.
+      let k = l ∙ summary-base n es w in
+      summary-plays n es w t k ∙ h t k ∙ sym (summary-plays n vs x t k))
+
+  pub same-plays : summary n es ≡ summary n vs → (t : List Char) → length t ≡ n → playAll es t ≡ playAll vs t
+  same-plays e t l = sym (summary-plays n es w t l) ∙ ap (λ s. apply s t) e ∙ summary-plays n vs x t l

@@ -1,0 +1,131 @@
+-- Lists of accept calls on the log of a history, and its summary: they are what the history foretells.
+use Prim.Native.Nat.{ℕ, zero, suc}
+use native.Mathlib.Omega.{arith}
+use mathlib.Core.Path.{_≡_, refl, sym, ap, ap₂, _∙_}
+use mathlib.Core.List.{List, [], _∷_, _++_}
+use lib.Dec.{T, leb, leb→le}
+use lib.ListN.{length, take, drop}
+use Rattle.utf8.proofs.Tests.{holds}
+use Rattle.operation.specs.Answer.{gives, goes, needs, settle}
+use Rattle.operation.specs.Layout.{words}
+use Rattle.operation.specs.Record.{encode, ops, recordFault}
+use Rattle.operation.proofs.Records.{ops-good}
+use Rattle.operation.proofs.Refusals.{needs-out}
+use Rattle.operational_transform.specs.Output.{atFront, writing}
+use Rattle.operational_transform.proofs.Outputs.{wrote, atFront-take}
+use Rattle.log.specs.Log.{encodeAll, logOf, readable, contents}
+use Rattle.log.specs.Open.{openCall}
+use Rattle.log.proofs.Logs.{start-log, revisions-log, contents-log, readable-log}
+use Rattle.session.specs.Rows.{still, composesWithin}
+use Rattle.session.specs.Session.{summaryFault, summaryCall}
+use Rattle.session.specs.History.{History, fresh, logIn, Told, historySummary}
+use Rattle.session.specs.Demand.{Fresh, Call, accept, ran, logAfter, fed, after, foretold, Given}
+use Rattle.session.proofs.Rows.{partials-final, partials-fit, summary}
+use Rattle.session.proofs.Accepting.{SoundIn, moved, fault, back, through, history-told, Passed, passed, joined-sound, accept-log}
+
+-- ---- one call
+
+-- an accept that goes through
+pub record Went (h : History) (c : Call) : Type 0 where
+  pub faultless : recordFault (c .edit) ≡ 0
+  pub pass : Passed h (ops (c .edit)) (c .rev)
+  pub told : fed h c ≡ through h (moved h (c .edit) (c .rev))
+
+module _ (h : History) (c : Call) where
+  abbrev faults : ℕ
+  faults = fault h (c .edit) (c .rev) (length (logIn h ++ c .behind)) (length (c .out))
+
+  abbrev done : Told
+  done = through h (moved h (c .edit) (c .rev))
+
+  fed-settles : fed h c ≡ settle faults (back h) done
+  fed-settles = history-told h (c .edit) (c .rev) (length (logIn h ++ c .behind)) (length (c .out))
+
+  no-fault : faults ≡ 0 → Went h c
+  no-fault z =
+      let (a, b) = passed h (c .edit) (c .rev) _ _ z in
+      record { faultless = a; pass = b; told = fed-settles ∙ ap (λ f. settle f (back h) done) z }
+
+  pub went : T (goes (fed h c .answer)) → Went h c
+  went g = go faults refl (rw fed-settles at g)
+    where
+      go : (f : ℕ) → faults ≡ f → T (goes (settle f (back h) done .answer)) → Went h c
+      go zero z t = no-fault z
+      go (suc n) z t = absurd t
+
+  pub fed-sound : SoundIn h → SoundIn (fed h c .history)
+  fed-sound s = rw fed-settles (go faults refl)
+    where
+      go : (f : ℕ) → faults ≡ f → SoundIn (settle f (back h) done .history)
+      go zero z = let w = no-fault z in joined-sound h s (ops (c .edit)) (c .rev) (w .pass) (ops-good (c .edit) (w .faultless))
+      go (suc n) z = s
+
+  pub fed-start : fed h c .history .start ≡ h .start
+  fed-start = rw fed-settles (go faults)
+    where
+      go : (f : ℕ) → settle f (back h) done .history .start ≡ h .start
+      go zero = refl
+      go (suc n) = refl
+
+  pub left-log : SoundIn h → contents (accept (logIn h) c .outA) ≡ logIn (fed h c .history)
+  unfolding atFront
+  left-log s = ap (λ o. contents (o .outA)) (accept-log h s c) ∙ contents-log (fed h c .history .start) (fed h c .history .edits) _
+
+-- ---- lists of calls
+
+pub run-log : (h : History) → SoundIn h → (cs : List Call) → ran (logIn h) cs ≡ foretold h cs
+run-log h s [] = refl
+run-log h s (c ∷ cs) =
+    ap₂ _∷_ (accept-log h s c) (ap (λ l. ran l cs) (left-log h c s) ∙ run-log (fed h c .history) (fed-sound h c s) cs)
+
+pub after-sound : (h : History) → SoundIn h → (cs : List Call) → SoundIn (after h cs)
+after-sound h s [] = s
+after-sound h s (c ∷ cs) = after-sound (fed h c .history) (fed-sound h c s) cs
+
+pub after-start : (h : History) (cs : List Call) → after h cs .start ≡ h .start
+after-start h [] = refl
+after-start h (c ∷ cs) = after-start (fed h c .history) cs ∙ fed-start h c
+
+pub after-log : (h : History) → SoundIn h → (cs : List Call) → logAfter (logIn h) cs ≡ logIn (after h cs)
+after-log h s [] = refl
+after-log h s (c ∷ cs) = ap (λ l. logAfter l cs) (left-log h c s) ∙ after-log (fed h c .history) (fed-sound h c s) cs
+
+-- ---- opening
+
+pub fresh-log : (n : ℕ) (log : List ℕ) → Fresh n log → (log ≡ logIn (fresh n)) × SoundIn (fresh n)
+unfolding openCall atFront logOf encodeAll
+fresh-log n log f =
+    let w = wrote (needs (leb n 32768) 9 0) (words (0 ∷ n ∷ [])) (f .buffer) (rw (f .opens) tt) in (
+      sym (f .leaves) ∙ ap (λ o. contents (o .out)) (w .is) ∙ contents-log n [] (drop 4 (f .buffer)),
+      record { starts = leb→le n 32768 (needs-out (leb n 32768) 8 0 (w .no-fault) .0); counts = omega arith; good = tt; row = tt },
+    )
+
+-- ---- summaries
+
+abbrev tooLarge : History → ℕ
+tooLarge h = needs (composesWithin (still (h .start)) (h .edits)) 9 0
+
+summary-told : (h : History) (out : List ℕ) → historySummary h out ≡ writing (tooLarge h) (encode (summary (h .start) (h .edits))) out
+unfolding historySummary summary
+summary-told h out =
+    let s = still (h .start) in
+    λ i. writing (needs (partials-fit s (h .edits) i) 9 0) (encode (partials-final s s (h .edits) i)) out
+
+pub summary-log : (h : History) → SoundIn h → (behind out : List ℕ) → summaryCall (logIn h ++ behind) out ≡ historySummary h out
+unfolding summaryCall summaryFault summary
+summary-log h s behind out =
+    let n = start-log (h .start) (h .edits) behind in
+    let es = revisions-log (h .start) (h .edits) behind in
+    (λ i. writing (needs (holds (readable (logIn h ++ behind)) (readable-log (h .start) (h .edits) behind s) i) 6 (needs (composesWithin (still (n i)) (es i)) 9 0))
+    (encode (summary (n i) (es i))) out)
+    ∙ sym (summary-told h out)
+
+pub given : (h : History) → SoundIn h → (s : List ℕ) → Given (logIn h) s → s ≡ encode (summary (h .start) (h .edits))
+given h sound s g =
+    let S = encode (summary (h .start) (h .edits)) in
+    let e = summary-log h sound (g .behind) (g .out) ∙ summary-told h (g .out) in
+    let a : writing (tooLarge h) S (g .out) .answer ≡ gives (length s ∷ []) = ap (λ o. o .answer) (sym e) ∙ g .answers in
+    let w = wrote (tooLarge h) S (g .out) (rw a tt) in
+    let b : gives (length S ∷ []) ≡ gives (length s ∷ []) = ap (λ o. o .answer) (sym (w .is)) ∙ a in
+    let l : length s ≡ length S = cc b in
+    sym (g .writes) ∙ ap₂ take l (ap (λ o. o .out) (e ∙ w .is)) ∙ atFront-take S (g .out)
