@@ -2,3 +2,4 @@
 pub mod Log
 pub mod Open
 pub mod Scan
+pub mod Steps

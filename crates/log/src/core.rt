@@ -1,4 +1,13 @@
 // A log gone through once.
+use operation::Fact;
+ghost use mathlib.Core.Path.{_≡_};
+ghost use mathlib.Core.Bool.{cond};
+ghost use Prim.Native.Nat.{_≤_};
+ghost use lib.Dec.{eqb};
+ghost use lib.ListN.{length};
+ghost use Rattle.log.specs.Log.{countOf, startOf};
+ghost use Rattle.log.specs.Scan.{Scans};
+ghost use Rattle.log.specs.Steps.{Steps};
 
 // The number of revisions, the starting length and the size of the contents; where revision r ends, and the length after it
 // (where there is no revision r, the last two are 0).
@@ -13,4 +22,86 @@ pub struct Scan {
 pub enum Scanned {
     Unreadable,
     Of(Scan),
+}
+
+// On the way: where a revision ends, and the length after it.
+pub(crate) struct Spot {
+    pub at: usize,
+    pub len: usize,
+}
+
+pub(crate) enum Stepped {
+    Stopped,
+    On(Spot),
+}
+
+// One pass over the log; revision r is looked for on the way.
+pub fn read(log: &[u8], r: u64) -> Scanned
+    ensures { λ x. ⌜ Scans (now (log .entry)) r x ⌝ }
+{
+    if log.len() < 4 {
+        return Scanned::Unreadable;
+    }
+    let count = operation::core::word(log, 0);
+    if 256 < count {
+        return Scanned::Unreadable;
+    }
+    let start = operation::core::word(log, 2);
+    if 32768 < start {
+        return Scanned::Unreadable;
+    }
+    go_through(log, count, start, r)
+}
+
+fn go_through(log: &[u8], count: usize, start: usize, r: u64) -> Scanned
+    requires { ⌜ (4 ≤ length (now log)) × (count ≡ countOf (now log)) × (count ≤ 256) × (start ≡ startOf (now log)) × (start ≤ 32768) ⌝ }
+    ensures { λ x. ⌜ Scans (now (log .entry)) r x ⌝ }
+{
+    let mut here = Spot { at: 4, len: start };
+    let mut mark = Spot { at: 0, len: 0 };
+    let mut k = 0;
+    while k < count {
+        mark = marked(k, r, here, mark);
+        match step(log, here) {
+            Stepped::Stopped => return Scanned::Unreadable,
+            Stepped::On(next) => {
+                here = next;
+            }
+        }
+        k += 1;
+    }
+    mark = marked(k, r, here, mark);
+    Scanned::Of(Scan {
+        count,
+        start,
+        size: here.at,
+        at: mark.at,
+        len: mark.len,
+    })
+}
+
+// Revision r is the one to be remembered.
+fn marked(k: usize, r: u64, here: Spot, mark: Spot) -> Spot
+    ensures { λ x. ⌜ x ≡ cond (eqb k r) here mark ⌝ }
+{
+    if k as u64 == r { here } else { mark }
+}
+
+// Past the record that stands here.
+fn step(log: &[u8], here: Spot) -> Stepped
+    requires { ⌜ here .at ≤ length (now log) ⌝ }
+    ensures { λ x. ⌜ Steps (now (log .entry)) here x ⌝ }
+{
+    let at = here.at;
+    let rec = &log[at..];
+    let Fact::Is(size) = operation::check(rec) else {
+        return Stepped::Stopped;
+    };
+    if operation::core::base(rec) != here.len {
+        return Stepped::Stopped;
+    }
+    Stepped::On(Spot {
+        at: at + size,
+        len: operation::core::target(rec),
+    })
 }

@@ -2,7 +2,7 @@
 ghost use mathlib.Core.Path.{_≡_};
 ghost use Prim.Native.Nat.{_+_, _*_, _^_, _≤_, _<_};
 ghost use lib.ListN.{length};
-ghost use Rattle.operation.specs.Layout.{recordsOf, baseOf, targetOf, sizeOf, kindsStart, countsStart, textStart, kindAt, countAt};
+ghost use Rattle.operation.specs.Layout.{wordAt, recordsOf, baseOf, targetOf, sizeOf, kindsStart, countsStart, textStart, kindAt, countAt};
 ghost use Rattle.operation.specs.Record.{recordFault, ops};
 ghost use Rattle.operation.specs.Front.{Place, Stands, ahead, Loads, Leaves, Cut};
 
@@ -14,6 +14,14 @@ pub struct Front {
     pub from: usize,
     pub to: usize,
     pub next: usize,
+}
+
+// The number in two bytes, low byte first.
+pub fn word(bytes: &[u8], at: usize) -> usize
+    requires { ⌜ at + 1 < length (now bytes) ⌝ }
+    ensures { λ r. ⌜ (r ≡ wordAt (now (bytes .entry)) at) × (r < 65536) ⌝ }
+{
+    crate::layout::word(bytes, at)
 }
 
 // The sizes that a checked record states.

@@ -11,7 +11,7 @@ fn wide(x: u8) -> usize
 }
 
 // Low byte first.
-fn word(rec: &[u8], at: usize) -> usize
+pub(crate) fn word(rec: &[u8], at: usize) -> usize
     requires { ⌜ at + 1 < length (now rec) ⌝ }
     ensures { λ r. ⌜ (r ≡ wordAt (now (rec .entry)) at) × (r < 65536) ⌝ }
 {

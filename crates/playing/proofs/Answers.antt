@@ -4,9 +4,9 @@ use native.Mathlib.Omega.{arith}
 use mathlib.Core.Path.{_≡_, refl, sym, ap, _∙_}
 use mathlib.Core.Bool.{Bool, true, false, not}
 use mathlib.Core.List.{List, [], _∷_, _++_}
-use lib.Dec.{T, eqb, leb}
+use lib.Dec.{T, eqb}
 use lib.ListN.{length}
-use borrow.Author.Tests.{eq-eqb, ne-eqb, le-leb, lt-leb, not-true, not-false}
+use borrow.Author.Tests.{eq-eqb, ne-eqb, not-true, not-false}
 use Rattle.utf8.specs.Form.{wellFormed}
 use Rattle.utf8.specs.Chars.{numChars}
 use Rattle.utf8.proofs.Tests.{known, holds}
@@ -18,38 +18,12 @@ use Rattle.operation.specs.Layout.{baseOf}
 use Rattle.operation.specs.Record.{recordFault}
 use Rattle.operation.specs.Calls.{checkCall}
 use Rattle.operation.proofs.Answers.{same-refusal, passed}
-use Rattle.operational_transform.specs.Output.{atFront, Out, writing}
+use Rattle.operational_transform.specs.Output.{atFront}
 use Rattle.operational_transform.specs.Calls.{textFault, applyCall}
 use Rattle.operational_transform.specs.Emit.{over}
 use Rattle.playing.specs.Steps.{played}
 use Rattle.operational_transform.proofs.Over.{over-none, over-front}
-
--- ---- a result that is written unless there is a fault
-
-module _ (fault : ℕ) (w o : List ℕ) where
-  stops : (n : ℕ) → fault ≡ suc n → refused (suc n) ≡ writing fault w o .answer
-  unfolding writing
-  stops n e = rw e
-
-  short : fault ≡ 0 → length o < length w → refused 10 ≡ writing fault w o .answer
-  unfolding writing
-  short e h = rw (e, lt-leb (length w) (length o) h)
-
-  goes : fault ≡ 0 → length w ≤ length o → record { answer = gives (length w ∷ []); out = atFront w o } ≡ writing fault w o
-  unfolding writing
-  goes e h = rw (e, le-leb (length w) (length o) h)
-
-  abbrev result : ℕ → Out
-  result k = settle k (λ j. record { answer = refused j; out = o }) (record { answer = gives (length w ∷ []); out = atFront w o })
-
-  -- a refusal changes no output
-  untouched : (n : ℕ) → refused n ≡ writing fault w o .answer → o ≡ writing fault w o .out
-  unfolding writing
-  untouched n = go (first fault (needs (leb (length w) (length o)) 10 0))
-    where
-      go : (k : ℕ) → refused n ≡ result k .answer → o ≡ result k .out
-      go zero e = absurd (let z : _≡_ {A = ℕ} 0 1 = cc e in omega arith)
-      go (suc k) e = refl
+use Rattle.operational_transform.proofs.Outputs.{writing-stops, writing-short, writing-goes, untouched}
 
 -- ---- apply
 
@@ -77,7 +51,7 @@ module _ (r t o : List ℕ) (z : recordFault r ≡ 0) (w : T (wellFormed t)) (a 
 
     pub apply-10 : length (e ++ o) < size → refused 10 ≡ applyCall r t o .answer
     unfolding applyCall played
-    apply-10 l = short (faultOf r t) (played r t) o no-fault (omega (arith, ap length same))
+    apply-10 l = writing-short (faultOf r t) (played r t) o no-fault (omega (arith, ap length same))
 
     module _ (l : size ≤ length (e ++ o)) where
       room : length (played r t) ≤ length o
@@ -85,7 +59,7 @@ module _ (r t o : List ℕ) (z : recordFault r ≡ 0) (w : T (wellFormed t)) (a 
 
       whole : record { answer = gives (length (played r t) ∷ []); out = atFront (played r t) o } ≡ applyCall r t o
       unfolding applyCall played
-      whole = goes (faultOf r t) (played r t) o no-fault room
+      whole = writing-goes (faultOf r t) (played r t) o no-fault room
 
       pub apply-0 : (k : ℕ) → k ≡ length (played r t) → gives (k ∷ []) ≡ applyCall r t o .answer
       apply-0 k p = ap (λ i. gives (i ∷ [])) p ∙ ap (λ x. x .answer) whole
@@ -101,17 +75,17 @@ module _ (r t o : List ℕ) (f : Fact) (p : factOf f ≡ checkCall r) where
     where
       go : (k : ℕ) → recordFault r ≡ k → refused (number x) ≡ settle k refused (gives []) → refused (number x) ≡ applyCall r t o .answer
       go zero z e = absurd (let y : _≡_ {A = ℕ} 0 1 = cc e in omega arith)
-      go (suc k) z e = e ∙ stops (faultOf r t) (played r t) o k (rw z)
+      go (suc k) z e = e ∙ writing-stops (faultOf r t) (played r t) o k (rw z)
 
   module _ (s : ℕ) (q : f ≡ fact.Is s) (v : Bool) (pv : v ≡ wellFormed t) where
     pub apply-3 : not v ≡ true → refused 3 ≡ applyCall r t o .answer
     unfolding applyCall played
-    apply-3 h = stops (faultOf r t) (played r t) o 2 (rw (passed r f p s q, sym pv ∙ not-true v h))
+    apply-3 h = writing-stops (faultOf r t) (played r t) o 2 (rw (passed r f p s q, sym pv ∙ not-true v h))
 
     pub apply-8 : (n b : ℕ) → not v ≡ false → n ≡ numChars t → b ≡ baseOf r → (n ≡ b → ⊥) → refused 8 ≡ applyCall r t o .answer
     unfolding applyCall played
     apply-8 n b h pn pb d =
-        stops (faultOf r t) (played r t) o 7 (rw (passed r f p s q, sym pv ∙ not-false v h, ne-eqb (numChars t) (baseOf r) (λ z. d (pn ∙ z ∙ sym pb))))
+        writing-stops (faultOf r t) (played r t) o 7 (rw (passed r f p s q, sym pv ∙ not-false v h, ne-eqb (numChars t) (baseOf r) (λ z. d (pn ∙ z ∙ sym pb))))
 
 pub well : (t : List ℕ) (v : Bool) → v ≡ wellFormed t → not v ≡ false → T (wellFormed t)
 well t v e h = known (sym e ∙ not-false v h)
