@@ -254,7 +254,7 @@ fn run(
 }
 
 // The sizes of the results: a run on buffers in which nothing has a place.
-fn sized(a: &[u8], na: usize, b: &[u8], nb: usize) -> Pair
+pub fn sized(a: &[u8], na: usize, b: &[u8], nb: usize) -> Pair
     requires { ⌜ (na ≡ recordsOf (now a)) × (na ≤ 1024) × (nb ≡ recordsOf (now b)) × (nb ≤ 1024) × (recordFault (now a) ≡ 0) × (recordFault (now b) ≡ 0) ⌝ }
     ensures { λ r. ⌜ SizedBoth (transformOf order (ops (now (a .entry))) (ops (now (b .entry)))) r ⌝ }
 {

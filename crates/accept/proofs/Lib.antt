@@ -1,0 +1,2 @@
+-- accept
+pub mod Passing

@@ -1,0 +1,69 @@
+-- One transform: the edit's side takes the edit's place, the revision's side goes to the output.
+use Prim.Native.Nat.{ℕ, _-_, _≤_}
+use native.Mathlib.Omega.{arith}
+use mathlib.Core.Path.{_≡_, sym, ap, ap₂, _∙_}
+use mathlib.Core.Bool.{true}
+use mathlib.Core.List.{List}
+use lib.Dec.{T}
+use lib.ListN.{length, take, drop}
+use Rattle.utf8.specs.Order.{order}
+use Rattle.utf8.proofs.Tests.{known}
+use Rattle.operation.specs.Record.{Seq, encode, fits, ops, recordFault}
+use Rattle.operation.proofs.Sequences.{Good, fits-limits}
+use Rattle.operation.proofs.Records.{encode-length, ops-encode, fault-encode}
+use Rattle.operational_transform.specs.declared.core.Emitter.{Emitter}
+use Rattle.operational_transform.specs.Output.{atFront}
+use Rattle.operational_transform.specs.Transform.{keepBoth, transform}
+use Rattle.operational_transform.specs.Emit.{over, Sizes, Writes, within, sizeIn}
+use Rattle.operational_transform.proofs.Claims.{transform-built}
+use Rattle.operational_transform.proofs.Delivering.{sized-fits, sized-length, written-front}
+use Rattle.operational_transform.proofs.Over.{over-front}
+use Rattle.operational_transform.proofs.Outputs.{atFront-take}
+use Rattle.transform.specs.declared.core.Pair.{Pair}
+use Rattle.transform.specs.Pairs.{SizedBoth}
+use Rattle.accept.specs.Running.{Passes}
+
+-- a record that keeps the limits has at most 35,848 bytes
+pub within-fits : (s : Seq) (e : Emitter) → Sizes s e → within e ≡ true → T (fits s)
+within-fits s e d w = known (sym (sized-fits s e d) ∙ w)
+
+pub fits-size : (s : Seq) → T (fits s) → length (encode s) ≤ 35848
+fits-size s f = let l = fits-limits s .0 f in omega (arith, encode-length s, l .records, l .text-bytes)
+
+-- a record at the front of a buffer
+module _ (s : Seq) (buffer : List ℕ) where
+  pub front-fault : Good s → recordFault (atFront (encode s) buffer) ≡ 0
+  unfolding atFront
+  front-fault g = fault-encode s _ g
+
+  pub front-ops : ops (atFront (encode s) buffer) ≡ s
+  unfolding atFront
+  front-ops = ops-encode s _
+
+module _ (x y : Seq) (p : Pair) (d : SizedBoth (transform order x y) p) (we : within (p .e) ≡ true) (z : ℕ) (pz : z ≡ sizeIn (p .e)) where
+  pub pass-size : z ≤ 35848
+  pass-size = omega (arith, pz ∙ sized-length _ (p .e) (d .left), fits-size _ (within-fits _ (p .e) (d .left) we))
+
+  left-good : Good (transform order x y .left)
+  unfolding transform
+  left-good = record { is-built = transform-built keepBoth order x y .0; in-limits = within-fits _ (p .e) (d .left) we }
+
+  pub pass-room : (next next′ : List ℕ) → 35848 ≤ length next → length next′ ≡ length next → z ≤ length next′
+  pass-room next next′ h e = omega (arith, pass-size, h, e)
+
+  pub passes : (next next′ out out′ cur cur′ : List ℕ) → within (p .f) ≡ true → 35848 ≤ length next → 35848 ≤ length cur
+      → Writes (p .e .records) (transform order x y .left) next next′ → Writes (p .f .records) (transform order x y .right) out out′
+      → cur′ ≡ over 0 (take (z - 0) (drop 0 next′)) cur → Passes (transform order x y) out cur′ out′
+  passes next next′ out out′ cur cur′ wf room space wl wr e =
+      let s = transform order x y in
+      let fl = within-fits _ (p .e) (d .left) we in
+      let fr = within-fits _ (p .f) (d .right) wf in
+      let n : next′ ≡ atFront (encode (s .left)) next = written-front (s .left) _ next (wl .emitter) (wl .before) next′ (fits-limits (s .left) .0 fl) (omega (arith, fits-size (s .left) fl, room)) (wl .done) (d .left .records) (wl .is) in
+      let l : z - 0 ≡ length (encode (s .left)) = omega (arith, pz ∙ sized-length (s .left) (p .e) (d .left)) in
+      let t : take (z - 0) (drop 0 next′) ≡ encode (s .left) = ap₂ take l n ∙ atFront-take (encode (s .left)) next in
+      let c : cur′ ≡ atFront (encode (s .left)) cur = e ∙ ap (λ u. over 0 u cur) t ∙ over-front (encode (s .left)) cur (omega (arith, fits-size (s .left) fl, space)) in
+      record {
+        fault = ap recordFault c ∙ front-fault (s .left) cur left-good;
+        edit = ap ops c ∙ front-ops (s .left) cur;
+        given = λ h. written-front (s .right) _ out (wr .emitter) (wr .before) out′ (fits-limits (s .right) .0 fr) h (wr .done) (d .right .records) (wr .is);
+      }

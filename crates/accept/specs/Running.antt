@@ -1,0 +1,42 @@
+-- What the functions below `accept` promise each other. No entry's contract cites this.
+use Prim.Native.Nat.{ℕ, _*_, _≤_}
+use mathlib.Core.Path.{_≡_}
+use mathlib.Core.Bool.{true, false}
+use mathlib.Core.List.{List}
+use lib.ListN.{length}
+use Rattle.utf8.specs.Text.{Char}
+use Rattle.operation.specs.declared.Refusal.{Refusal}
+use Rattle.operation.specs.declared.Refusal.the-variants.{Limit}
+use Rattle.operation.specs.Record.{Seq, encode, ops, recordFault}
+use Rattle.operational_transform.specs.Transform.{Sides}
+use Rattle.operational_transform.specs.Output.{atFront}
+use Rattle.log.specs.Log.{encodeAll, readableFrom}
+use Rattle.session.specs.Rows.{rebase}
+use Rattle.accept.specs.declared.run.Run.{Run}
+use Rattle.accept.specs.declared.run.Run.the-variants as outcome
+
+-- n records that can be read stand end to end in `l`
+pub record Lie (n : ℕ) (l : List ℕ) : Type 0 where
+  pub len : ℕ
+  pub reads : readableFrom n len l ≡ true
+
+-- the edit in a buffer is moved past one revision, whose counterpart goes to an output
+pub record Passes (s : Sides Char) (out cur′ out′ : List ℕ) : Type 0 where
+  pub fault : recordFault cur′ ≡ 0
+  pub edit : ops cur′ ≡ s .left
+  pub given : length (encode (s .right)) ≤ length out → out′ ≡ atFront (encode (s .right)) out
+
+-- the edit e moved past the row vs, in a buffer; the counterparts have so many bytes
+pub record Rebased (e : Seq) (vs : List Seq) (bytes : ℕ) (cur′ : List ℕ) : Type 0 where
+  pub kept : rebase e vs .kept ≡ true
+  pub bytes-are : bytes ≡ length (encodeAll (rebase e vs .counterparts))
+  pub small : bytes ≤ 35848 * length vs
+  pub fault : recordFault cur′ ≡ 0
+  pub edit : ops cur′ ≡ rebase e vs .edit
+
+abbrev pub RunsTo : Seq → List Seq → Run → List ℕ → Type 0
+RunsTo e vs (outcome.Refused x) cur′ = (x ≡ Limit) × (rebase e vs .kept ≡ false)
+RunsTo e vs (outcome.Kept b) cur′ = Rebased e vs b cur′
+
+pub record Runs (e : Seq) (vs : List Seq) (r : Run) (cur′ : List ℕ) : Type 0 where
+  pub runs : RunsTo e vs r cur′

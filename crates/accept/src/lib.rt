@@ -1,0 +1,2 @@
+// An edit is accepted into a session's log.
+mod run;
