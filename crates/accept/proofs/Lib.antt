@@ -1,2 +1,4 @@
 -- accept
 pub mod Passing
+pub mod Moving
+pub mod Sizing

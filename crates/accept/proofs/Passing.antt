@@ -1,5 +1,5 @@
 -- One transform: the edit's side takes the edit's place, the revision's side goes to the output.
-use Prim.Native.Nat.{ℕ, _-_, _≤_}
+use Prim.Native.Nat.{ℕ, _+_, _-_, _≤_}
 use native.Mathlib.Omega.{arith}
 use mathlib.Core.Path.{_≡_, sym, ap, ap₂, _∙_}
 use mathlib.Core.Bool.{true}
@@ -8,6 +8,7 @@ use lib.Dec.{T}
 use lib.ListN.{length, take, drop}
 use Rattle.utf8.specs.Order.{order}
 use Rattle.utf8.proofs.Tests.{known}
+use Rattle.operation.specs.Layout.{sizeOf}
 use Rattle.operation.specs.Record.{Seq, encode, fits, ops, recordFault}
 use Rattle.operation.proofs.Sequences.{Good, fits-limits}
 use Rattle.operation.proofs.Records.{encode-length, ops-encode, fault-encode}
@@ -21,7 +22,8 @@ use Rattle.operational_transform.proofs.Over.{over-front}
 use Rattle.operational_transform.proofs.Outputs.{atFront-take}
 use Rattle.transform.specs.declared.core.Pair.{Pair}
 use Rattle.transform.specs.Pairs.{SizedBoth}
-use Rattle.accept.specs.Running.{Passes}
+use Rattle.accept.specs.declared.run.Spot.{Spot}
+use Rattle.accept.specs.Running.{Passes, GoesOn}
 
 -- a record that keeps the limits has at most 35,848 bytes
 pub within-fits : (s : Seq) (e : Emitter) → Sizes s e → within e ≡ true → T (fits s)
@@ -67,3 +69,9 @@ module _ (x y : Seq) (p : Pair) (d : SizedBoth (transform order x y) p) (we : wi
         edit = ap ops c ∙ front-ops (s .left) cur;
         given = λ h. written-front (s .right) _ out (wr .emitter) (wr .before) out′ (fits-limits (s .right) .0 fr) h (wr .done) (d .right .records) (wr .is);
       }
+
+-- both sides, sized, with no output
+pub goes-on : (x y : Seq) (p : Pair) → SizedBoth (transform order x y) p → (rec : List ℕ) (spot : Spot) (size z : ℕ) → size ≡ sizeOf rec → z ≡ sizeIn (p .f) → (out cur′ out′ : List ℕ)
+    → Passes (transform order x y) out cur′ out′ → GoesOn (transform order x y) rec spot (record { at = spot .at + size; bytes = spot .bytes + z }) cur′
+goes-on x y p d rec spot size z ps pz out cur′ out′ h =
+    record { fault = h .fault; edit = h .edit; at-is = ap (λ k. spot .at + k) ps; bytes-are = ap (λ k. spot .bytes + k) (pz ∙ sized-length (transform order x y .right) (p .f) (d .right)) }

@@ -1,30 +1,40 @@
 -- What the functions below `accept` promise each other. No entry's contract cites this.
-use Prim.Native.Nat.{ℕ, _*_, _≤_}
+use Prim.Native.Nat.{ℕ, _+_, _*_, _≤_}
 use mathlib.Core.Path.{_≡_}
 use mathlib.Core.Bool.{true, false}
 use mathlib.Core.List.{List}
+use lib.Dec.{T}
 use lib.ListN.{length}
 use Rattle.utf8.specs.Text.{Char}
 use Rattle.operation.specs.declared.Refusal.{Refusal}
 use Rattle.operation.specs.declared.Refusal.the-variants.{Limit}
+use Rattle.operation.specs.Layout.{sizeOf}
 use Rattle.operation.specs.Record.{Seq, encode, ops, recordFault}
 use Rattle.operational_transform.specs.Transform.{Sides}
 use Rattle.operational_transform.specs.Output.{atFront}
 use Rattle.log.specs.Log.{encodeAll, readableFrom}
 use Rattle.session.specs.Rows.{rebase}
+use Rattle.accept.specs.declared.run.Spot.{Spot}
 use Rattle.accept.specs.declared.run.Run.{Run}
 use Rattle.accept.specs.declared.run.Run.the-variants as outcome
 
 -- n records that can be read stand end to end in `l`
 pub record Lie (n : ℕ) (l : List ℕ) : Type 0 where
   pub len : ℕ
-  pub reads : readableFrom n len l ≡ true
+  pub reads : T (readableFrom n len l)
 
 -- the edit in a buffer is moved past one revision, whose counterpart goes to an output
 pub record Passes (s : Sides Char) (out cur′ out′ : List ℕ) : Type 0 where
   pub fault : recordFault cur′ ≡ 0
   pub edit : ops cur′ ≡ s .left
   pub given : length (encode (s .right)) ≤ length out → out′ ≡ atFront (encode (s .right)) out
+
+-- the same, without an output
+pub record GoesOn (s : Sides Char) (rec : List ℕ) (spot r : Spot) (cur′ : List ℕ) : Type 0 where
+  pub fault : recordFault cur′ ≡ 0
+  pub edit : ops cur′ ≡ s .left
+  pub at-is : r .at ≡ spot .at + sizeOf rec
+  pub bytes-are : r .bytes ≡ spot .bytes + length (encode (s .right))
 
 -- the edit e moved past the row vs, in a buffer; the counterparts have so many bytes
 pub record Rebased (e : Seq) (vs : List Seq) (bytes : ℕ) (cur′ : List ℕ) : Type 0 where

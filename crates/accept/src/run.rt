@@ -2,18 +2,23 @@
 // becomes.
 use operation::Refusal;
 use transform::core::Pair;
+use transform::core::State;
 ghost use mathlib.Core.Path.{_≡_};
-ghost use mathlib.Core.Bool.{true};
-ghost use Prim.Native.Nat.{_≤_};
+ghost use mathlib.Core.Bool.{true, _&&_};
+ghost use mathlib.Core.List.{[]};
+ghost use Prim.Native.Nat.{_^_, _≤_};
 ghost use lib.ListN.{length, drop};
 ghost use Rattle.utf8.specs.Order.{order};
 ghost use Rattle.operation.specs.Layout.{recordsOf};
 ghost use Rattle.operation.specs.Record.{ops, recordFault};
 ghost use Rattle.operational_transform.specs.Transform.{transform as transformOf};
-ghost use Rattle.operational_transform.specs.Emit.{within};
+ghost use Rattle.operational_transform.specs.Emit.{Under, within};
+ghost use Rattle.operation.specs.Front.{Stands};
+ghost use Rattle.turns.specs.Turns.{liveIs};
+ghost use Rattle.transform.specs.Sides.{Went, Ended};
 ghost use Rattle.transform.specs.Pairs.{SizedBoth};
 ghost use Rattle.log.specs.Log.{editsIn};
-ghost use Rattle.accept.specs.Running.{Lie, Passes, Runs};
+ghost use Rattle.accept.specs.Running.{Lie, Passes, GoesOn, Runs};
 
 // How many bytes the counterparts have, or why the run ended.
 pub(crate) enum Run {
@@ -33,42 +38,90 @@ fn pass(cur: &mut [u8], na: usize, rec: &[u8], nb: usize, next: &mut [u8], out: 
     operational_transform::core::copy(cur, 0, next, 0, len);
 }
 
+// A step of the run that sizes both sides and writes nothing.
+fn turn(cur: &[u8], na: usize, rec: &[u8], nb: usize, s: State) -> State
+    requires { ⌜ (na ≡ recordsOf (now cur)) × (nb ≡ recordsOf (now rec)) × Under (2 ^ 38) (s .e) × Under (2 ^ 38) (s .f) × Stands (now cur) (s .x) × Stands (now rec) (s .y) × (liveIs (s .x) (s .y) ≡ true) ⌝ }
+    ensures { λ r. ⌜ Went 0 0 (now (cur .entry)) (now (rec .entry)) s [] [] r [] [] ⌝ }
+{
+    let mut x = [0u8; 0];
+    let mut y = [0u8; 0];
+    transform::core::turn(cur, na, rec, nb, &mut x, 0, &mut y, 0, s)
+}
+
+fn end(s: State) -> Pair
+    requires { ⌜ Under (2 ^ 38) (s .e) × Under (2 ^ 38) (s .f) ⌝ }
+    ensures { λ r. ⌜ Ended 0 0 s [] [] r [] [] ⌝ }
+{
+    let mut x = [0u8; 0];
+    let mut y = [0u8; 0];
+    transform::core::end(&mut x, 0, &mut y, 0, s)
+}
+
+fn keep_limits(p: Pair) -> bool
+    ensures { λ r. ⌜ r ≡ (within (p .e) && within (p .f)) ⌝ }
+{
+    let e = p.e;
+    let f = p.f;
+    if !operational_transform::core::keeps_limits(e) {
+        return false;
+    }
+    operational_transform::core::keeps_limits(f)
+}
+
+// How far a run has come: where the next revision begins, and how many bytes the counterparts have.
+pub(crate) struct Spot {
+    pub at: usize,
+    pub bytes: usize,
+}
+
+// Past the revision at the spot, both sides having been sized.
+fn go_on(
+    cur: &mut [u8],
+    na: usize,
+    rec: &[u8],
+    nb: usize,
+    next: &mut [u8],
+    p: Pair,
+    spot: Spot,
+) -> Spot
+    requires { ⌜ (na ≡ recordsOf (now cur)) × (na ≤ 1024) × (nb ≡ recordsOf (now rec)) × (nb ≤ 1024) × (recordFault (now cur) ≡ 0) × (recordFault (now rec) ≡ 0) × (35848 ≤ length (now cur)) × (35848 ≤ length (now next)) × SizedBoth (transformOf order (ops (now cur)) (ops (now rec))) p × (within (p .e) ≡ true) × (within (p .f) ≡ true) × (spot .at ≤ 2 ^ 63) × (spot .bytes ≤ 2 ^ 40) ⌝ }
+    ensures { λ r. ⌜ GoesOn (transformOf order (ops (now (cur .entry))) (ops (now (rec .entry)))) (now (rec .entry)) spot r (now (cur .exit)) ⌝ }
+{
+    let mut none = [0u8; 0];
+    let f = p.f;
+    let at = spot.at + operation::core::size(rec);
+    let bytes = spot.bytes + operational_transform::core::size(f);
+    pass(cur, na, rec, nb, next, &mut none, p);
+    Spot { at, bytes }
+}
+
 // Past n revisions, whose records begin at `from`: the first whose transform passes a limit ends the run.
 pub(crate) fn rebase(log: &[u8], from: usize, n: usize, cur: &mut [u8], next: &mut [u8]) -> Run
     requires { ⌜ (from ≤ length (now log)) × (n ≤ 256) × Lie n (drop from (now log)) × (recordFault (now cur) ≡ 0) × (35848 ≤ length (now cur)) × (35848 ≤ length (now next)) ⌝ }
     ensures { λ r. ⌜ Runs (ops (now (cur .entry))) (editsIn n (drop from (now (log .entry)))) r (now (cur .exit)) ⌝ }
 {
-    let mut none = [0u8; 0];
-    let mut nothing = [0u8; 0];
-    let mut at = from;
+    let mut spot = Spot { at: from, bytes: 0 };
     let mut left = n;
-    let mut bytes = 0;
     'run: loop {
         if left == 0 {
-            break 'run Run::Kept(bytes);
+            break 'run Run::Kept(spot.bytes);
         }
+        let at = spot.at;
         let rec = &log[at..];
         let na = operation::core::records(cur);
         let nb = operation::core::records(rec);
         let mut s = transform::core::begin(cur, na, rec, nb);
         let p = loop {
             if !transform::core::live(s) {
-                let p = transform::core::end(&mut none, 0, &mut nothing, 0, s);
-                if !operational_transform::core::keeps_limits(p.e) {
-                    break 'run Run::Refused(Refusal::Limit);
-                }
-                if !operational_transform::core::keeps_limits(p.f) {
+                let p = end(s);
+                if !keep_limits(p) {
                     break 'run Run::Refused(Refusal::Limit);
                 }
                 break p;
             }
-            s = transform::core::turn(cur, na, rec, nb, &mut none, 0, &mut nothing, 0, s);
+            s = turn(cur, na, rec, nb, s);
         };
-        let size = operation::core::size(rec);
-        pass(cur, na, rec, nb, next, &mut none, p);
-        let f = p.f;
-        bytes += operational_transform::core::size(f);
-        at += size;
+        spot = go_on(cur, na, rec, nb, next, p, spot);
         left -= 1;
     }
 }

@@ -1,181 +1,145 @@
 use Prim.Native.Nat.{_+_}
+use native.Mathlib.Omega.{arith}
+use mathlib.Core.Path.{_≡_}
+use mathlib.Core.List.{[]}
 use lib.ListN.{length}
+use borrow.Author.Needs.{needs}
+use Rattle.operation.specs.Record.{ops}
 use Rattle.operation.specs.Front.{ahead}
-use Rattle.transform.proofs.Looping.{Going, going-start, going-under-e, going-under-f, going-more, going-done}
+use Rattle.transform.proofs.Looping.{Going, going-start, going-under-e, going-under-f, going-more}
+use Rattle.accept.proofs.Sizing.{sized-run, passed, keep-left, keep-right, went-less}
+use Rattle.accept.proofs.Moving.{Moving, moving-start, moving-small, moving-place, moving-end, moving-record, moving-stop, moving-again}
 use Rattle.accept.proofs.run.rebase.Statement.{statement}
 use Rattle.accept.proofs.run.rebase.Tie as tie
-use Rattle.accept.proofs.run.rebase.Reads as reads
-use Rattle.accept.proofs.run.rebase.Lts as lts
-use Rattle.accept.proofs.run.pass.Reads as pass-reads
-use Rattle.operation.proofs.core.records.Reads as records-reads
-use Rattle.operation.proofs.core.size.Reads as core-size-reads
-use Rattle.operational_transform.proofs.core.keeps_limits.Reads as keeps-limits-reads
-use Rattle.operational_transform.proofs.core.size.Reads as core-size-reads′
-use Rattle.transform.proofs.core.begin.Reads as begin-reads
-use Rattle.transform.proofs.core.end.Reads as end-reads
-use Rattle.transform.proofs.core.live.Reads as live-reads
-use Rattle.transform.proofs.core.turn.Reads as turn-reads
 
 abbrev Inv-loop : tie.InvT-loop
-Inv-loop log from n cur next none₀ nothing₀ at left bytes rec na nb s₀ none nothing s = Going 0 0 cur rec none₀ nothing₀ s none nothing
+Inv-loop log from n cur next spot left at rec na nb s₀ s = Going 0 0 cur rec [] [] s [] []
 
 abbrev μ-loop : tie.MeasureT-loop
-μ-loop log from n cur next none₀ nothing₀ at left bytes rec na nb s₀ none nothing s = length (ahead cur (s .x)) + length (ahead rec (s .y))
+μ-loop log from n cur next spot left at rec na nb s₀ s = length (ahead cur (s .x)) + length (ahead rec (s .y))
 
 abbrev Inv-run : tie.InvT-run
-Inv-run log from n cur₀ next₀ none₀ nothing₀ at₀ left₀ bytes₀ cur next none nothing at left bytes =
-    ?
+Inv-run log from n cur₀ next₀ spot₀ left₀ cur next spot left = Moving (ops cur₀) log from n left spot cur × (length cur ≡ length cur₀) × (length next ≡ length next₀)
 
 abbrev μ-run : tie.MeasureT-run
-μ-run log from n cur₀ next₀ none₀ nothing₀ at₀ left₀ bytes₀ cur next none nothing at left bytes = ?
+μ-run log from n cur₀ next₀ spot₀ left₀ cur next spot left = left
 
--- src/run.rt:46:5
 run-holds : tie.Need-run-holds Inv-loop μ-loop Inv-run μ-run
-run-holds c = ?
+run-holds c = (search moving-start, search needs, search needs)
 
--- src/run.rt:50:19
 sub-rec : tie.Need-sub-rec Inv-loop μ-loop Inv-run μ-run
-sub-rec c = ?
+sub-rec c = search (moving-place, needs)
 
--- src/run.rt:50:19
 part-rec-start : tie.Need-part-rec-start Inv-loop μ-loop Inv-run μ-run
-part-rec-start c = ?
+part-rec-start c = search (moving-place, needs)
 
--- src/run.rt:50:19
 part-rec-end : tie.Need-part-rec-end Inv-loop μ-loop Inv-run μ-run
-part-rec-end c = ?
+part-rec-end c = search needs
 
--- src/run.rt:51:13
 records-requires : tie.Need-records-requires Inv-loop μ-loop Inv-run μ-run
-records-requires c κs = ?
+records-requires c κs = search needs
 
--- src/run.rt:52:13
 records-requires-2 : tie.Need-records-requires-2 Inv-loop μ-loop Inv-run μ-run
-records-requires-2 c κs = ?
+records-requires-2 c κs = search moving-record
 
--- src/run.rt:53:13
 begin-requires : tie.Need-begin-requires Inv-loop μ-loop Inv-run μ-run
-begin-requires c κs = ?
+begin-requires c κs = search (moving-record, needs)
 
--- src/run.rt:54:13
 loop-holds : tie.Need-loop-holds Inv-loop μ-loop Inv-run μ-run
-loop-holds c = ?
+loop-holds c = search (going-start, moving-record)
 
--- src/run.rt:55:17
 live-requires : tie.Need-live-requires Inv-loop μ-loop Inv-run μ-run
-live-requires c κs = ?
+live-requires c κs = search needs
 
--- src/run.rt:56:46
-slice-aggregate-end : tie.Need-slice-aggregate-end Inv-loop μ-loop Inv-run μ-run
-slice-aggregate-end c = ?
-
--- src/run.rt:56:60
-slice-aggregate-end-2 : tie.Need-slice-aggregate-end-2 Inv-loop μ-loop Inv-run μ-run
-slice-aggregate-end-2 c = ?
-
--- src/run.rt:56:21
 end-requires : tie.Need-end-requires Inv-loop μ-loop Inv-run μ-run
-end-requires c κs = ?
+end-requires c κs = search (going-under-e, going-under-f)
 
--- src/run.rt:57:21
-keeps-limits-requires : tie.Need-keeps-limits-requires Inv-loop μ-loop Inv-run μ-run
-keeps-limits-requires c κs = ?
+keep-limits-requires : tie.Need-keep-limits-requires Inv-loop μ-loop Inv-run μ-run
+keep-limits-requires c κs = search needs
 
--- src/run.rt:60:21
-keeps-limits-requires-2 : tie.Need-keeps-limits-requires-2 Inv-loop μ-loop Inv-run μ-run
-keeps-limits-requires-2 c κs = ?
-
--- src/run.rt:65:57
-slice-aggregate-turn : tie.Need-slice-aggregate-turn Inv-loop μ-loop Inv-run μ-run
-slice-aggregate-turn c = ?
-
--- src/run.rt:65:71
-slice-aggregate-turn-2 : tie.Need-slice-aggregate-turn-2 Inv-loop μ-loop Inv-run μ-run
-slice-aggregate-turn-2 c = ?
-
--- src/run.rt:65:13
 turn-requires : tie.Need-turn-requires Inv-loop μ-loop Inv-run μ-run
-turn-requires c κs = ?
+turn-requires c κs = search (passed, going-under-e, going-under-f, needs)
 
--- src/run.rt:54:13
 loop-less : tie.Need-loop-less Inv-loop μ-loop Inv-run μ-run
-loop-less c = ?
+loop-less c = search went-less
 
--- src/run.rt:54:13
 loop-again : tie.Need-loop-again Inv-loop μ-loop Inv-run μ-run
-loop-again c = ?
+loop-again c = search going-more
 
--- src/run.rt:67:13
-size-requires : tie.Need-size-requires Inv-loop μ-loop Inv-run μ-run
-size-requires c κs = ?
+go-on-requires : tie.Need-go-on-requires Inv-loop μ-loop Inv-run μ-run
+go-on-requires c κs =
+    let keep = c .before .before .before .keep-limits in
+    let en = c .before .before .before .before .end in
+    let live = c .before .before .before .before .before .before .live in
+    let loop = c .before .before .before .before .before .before .before .loop in
+    let run = c .before .before .before .before .before .before .before .before .before .before .before .before .before .before .before .run in
+    let none = c .before .before .before .before .before .before .before .before .before .before .before .before .before .before .if1 .left in
+    let d = sized-run _ _ _ _ (loop .s) _ _ (loop .inv) _ (live .ensures) (c .before .before .before .before .before .if2 .taken) (en .result) _ _ (en .ensures) in
+    let m = run .inv .0 in
+    let start = c .before .before .before .before .before .before .before .before .before .before .before .before .before .before .before .before .before .before .before in
+    let recs = c .before .before .before .before .before .before .before .before .before .before .before .records in
+    let recs2 = c .before .before .before .before .before .before .before .before .before .before .records2 in
+    let kept = c .before .before .if3 .left in (
+      recs .ensures .0,
+      recs .ensures .1,
+      recs2 .ensures .0,
+      recs2 .ensures .1,
+      m .fault,
+      moving-record _ _ _ _ _ _ _ m none,
+      omega (arith, start .pre .4, run .inv .1),
+      omega (arith, start .pre .5, run .inv .2),
+      d,
+      keep-left (en .result) _ (keep .ensures) kept,
+      keep-right (en .result) _ (keep .ensures) kept,
+      omega (arith, m .place, start .good),
+      moving-small _ _ _ _ _ _ _ m (start .pre .1),
+    )
 
--- src/run.rt:68:38
-slice-aggregate-pass : tie.Need-slice-aggregate-pass Inv-loop μ-loop Inv-run μ-run
-slice-aggregate-pass c = ?
-
--- src/run.rt:68:9
-pass-requires : tie.Need-pass-requires Inv-loop μ-loop Inv-run μ-run
-pass-requires c κs = ?
-
--- src/run.rt:70:18
-size-requires-2 : tie.Need-size-requires-2 Inv-loop μ-loop Inv-run μ-run
-size-requires-2 c κs = ?
-
--- src/run.rt:70:9
-add-bytes : tie.Need-add-bytes Inv-loop μ-loop Inv-run μ-run
-add-bytes c = ?
-
--- src/run.rt:71:9
-add-at : tie.Need-add-at Inv-loop μ-loop Inv-run μ-run
-add-at c = ?
-
--- src/run.rt:72:9
 sub-left : tie.Need-sub-left Inv-loop μ-loop Inv-run μ-run
-sub-left c = ?
+sub-left c = omega (arith, c .before .before .before .before .before .before .before .before .before .before .before .before .before .before .before .before .before .before .before .if1 .left)
 
--- src/run.rt:46:5
 run-less : tie.Need-run-less Inv-loop μ-loop Inv-run μ-run
-run-less c = ?
+run-less c = omega (arith, c .before .before .before .before .before .before .before .before .before .before .before .before .before .before .before .before .before .before .before .if1 .left)
 
--- src/run.rt:46:5
 run-again : tie.Need-run-again Inv-loop μ-loop Inv-run μ-run
-run-again c = ?
+run-again c =
+    let keep = c .before .before .before .before .before .before .before .before .keep-limits in
+    let en = c .before .before .before .before .before .before .before .before .before .end in
+    let live = c .before .before .before .before .before .before .before .before .before .before .before .live in
+    let loop = c .before .before .before .before .before .before .before .before .before .before .before .before .loop in
+    let run = c .before .before .before .before .before .before .before .before .before .before .before .before .before .before .before .before .before .before .before .before .run in
+    let none = c .before .before .before .before .before .before .before .before .before .before .before .before .before .before .before .before .before .before .before .if1 .left in
+    let d = sized-run _ _ _ _ (loop .s) _ _ (loop .inv) _ (live .ensures) (c .before .before .before .before .before .before .before .before .before .before .if2 .taken) (en .result) _ _ (en .ensures) in (
+      moving-again _ _ _ _ _ _ _ (run .inv .0) none (en .result) d _ (keep .ensures) (c .before .before .before .before .before .before .before .if3 .left) _ _ (c .before .before .before .before .go-on .ensures),
+      search needs,
+      search needs,
+    )
 
--- src/run.rt:37:1
 same-length : tie.Need-same-length Inv-loop μ-loop Inv-run μ-run
-same-length c = ?
+same-length c = search needs
 
--- src/run.rt:37:1
 same-length-2 : tie.Need-same-length-2 Inv-loop μ-loop Inv-run μ-run
-same-length-2 c = ?
+same-length-2 c = search needs
 
--- src/run.rt:37:1
 returns : tie.Need-returns Inv-loop μ-loop Inv-run μ-run
-returns c = ?
+returns c = search moving-end
 
--- src/run.rt:37:1
 same-length-3 : tie.Need-same-length-3 Inv-loop μ-loop Inv-run μ-run
-same-length-3 c = ?
+same-length-3 c = c .before .before .before .before .before .before .before .before .before .before .before .before .before .run .inv .1
 
--- src/run.rt:37:1
 same-length-4 : tie.Need-same-length-4 Inv-loop μ-loop Inv-run μ-run
-same-length-4 c = ?
+same-length-4 c = c .before .before .before .before .before .before .before .before .before .before .before .before .before .run .inv .2
 
--- src/run.rt:37:1
 returns-2 : tie.Need-returns-2 Inv-loop μ-loop Inv-run μ-run
-returns-2 c = ?
-
--- src/run.rt:37:1
-same-length-5 : tie.Need-same-length-5 Inv-loop μ-loop Inv-run μ-run
-same-length-5 c = ?
-
--- src/run.rt:37:1
-same-length-6 : tie.Need-same-length-6 Inv-loop μ-loop Inv-run μ-run
-same-length-6 c = ?
-
--- src/run.rt:37:1
-returns-3 : tie.Need-returns-3 Inv-loop μ-loop Inv-run μ-run
-returns-3 c = ?
+returns-2 c =
+    let keep = c .before .keep-limits in
+    let en = c .before .before .end in
+    let live = c .before .before .before .before .live in
+    let loop = c .before .before .before .before .before .loop in
+    let run = c .before .before .before .before .before .before .before .before .before .before .before .before .before .run in
+    let none = c .before .before .before .before .before .before .before .before .before .before .before .before .if1 .left in
+    let d = sized-run _ _ _ _ (loop .s) _ _ (loop .inv) _ (live .ensures) (c .before .before .before .if2 .taken) (en .result) _ _ (en .ensures) in
+    moving-stop _ _ _ _ _ _ _ (run .inv .0) none (en .result) d _ (keep .ensures) (c .if3 .taken)
 
 pub rebase-spec : {M : Type 1} → statement M
 rebase-spec =
@@ -194,22 +158,12 @@ rebase-spec =
     begin-requires
     loop-holds
     live-requires
-    slice-aggregate-end
-    slice-aggregate-end-2
     end-requires
-    keeps-limits-requires
-    keeps-limits-requires-2
-    slice-aggregate-turn
-    slice-aggregate-turn-2
+    keep-limits-requires
     turn-requires
     loop-less
     loop-again
-    size-requires
-    slice-aggregate-pass
-    pass-requires
-    size-requires-2
-    add-bytes
-    add-at
+    go-on-requires
     sub-left
     run-less
     run-again
@@ -218,7 +172,4 @@ rebase-spec =
     returns
     same-length-3
     same-length-4
-    returns-2
-    same-length-5
-    same-length-6
-    returns-3)
+    returns-2)

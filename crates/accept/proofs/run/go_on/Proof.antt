@@ -1,0 +1,45 @@
+use borrow.Author.Needs.{needs}
+use Rattle.accept.proofs.Passing.{goes-on}
+use Rattle.accept.proofs.run.go_on.Statement.{statement}
+use Rattle.accept.proofs.run.go_on.Tie as tie
+
+size-requires : tie.Need-size-requires
+size-requires c κs = search needs
+
+add-at : tie.Need-add-at
+add-at c = search needs
+
+size-requires-2 : tie.Need-size-requires-2
+size-requires-2 c κs = search needs
+
+add-bytes : tie.Need-add-bytes
+add-bytes c = search needs
+
+slice-aggregate-pass : tie.Need-slice-aggregate-pass
+slice-aggregate-pass c = search needs
+
+pass-requires : tie.Need-pass-requires
+pass-requires c κs = search needs
+
+same-length : tie.Need-same-length
+same-length c = search needs
+
+same-length-2 : tie.Need-same-length-2
+same-length-2 c = search needs
+
+returns : tie.Need-returns
+returns c = search goes-on
+
+pub go-on-spec : {M : Type 1} → statement M
+go-on-spec =
+    tie.close
+    (tie.spec
+    size-requires
+    add-at
+    size-requires-2
+    add-bytes
+    slice-aggregate-pass
+    pass-requires
+    same-length
+    same-length-2
+    returns)
