@@ -2,3 +2,4 @@
 pub mod Passing
 pub mod Moving
 pub mod Sizing
+pub mod Handing

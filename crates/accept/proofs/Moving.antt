@@ -4,7 +4,7 @@ use native.Mathlib.Omega.{arith}
 use mathlib.Core.Path.{_≡_, refl, sym, ap, ap₂, _∙_, subst}
 use mathlib.Core.Bool.{Bool, true, false, not, _&&_, and-eq-true-iff, true≢false}
 use mathlib.Core.List.{List, [], _∷_, _++_, append-assoc, append-nil}
-use lib.Dec.{T, eqb, eqb→eq}
+use lib.Dec.{eqb, eqb→eq}
 use lib.ListN.{length, take, drop, length-append, length-drop}
 use lib.Seq.{take-all, drop-drop}
 use borrow.Author.Tests.{not-true, not-false}
@@ -26,7 +26,7 @@ use Rattle.log.proofs.Scanning.{to-end}
 use Rattle.session.specs.Rows.{rule, Moved, rebase}
 use Rattle.accept.specs.declared.run.Spot.{Spot}
 use Rattle.accept.specs.declared.run.Run.the-variants as outcome
-use Rattle.accept.specs.Running.{Lie, GoesOn, Runs}
+use Rattle.accept.specs.Running.{Lie, Holds, Fit, GoesOn, Runs}
 use Rattle.accept.proofs.Passing.{within-fits, fits-size}
 
 -- ---- records end to end
@@ -46,23 +46,27 @@ edits-length zero l = refl
 edits-length (suc n) l = ap suc (edits-length n (drop (sizeOf l) l))
 
 -- ---- what was moved past already
-abbrev behind : List Seq → Moved → Moved
+abbrev pub behind : List Seq → Moved → Moved
 behind done m = record { edit = m .edit; counterparts = done ++ m .counterparts; kept = m .kept }
 
 -- of n revisions that begin at `from`, `left` are still to come
 pub record Moving (e : Seq) (l : List ℕ) (from n left : ℕ) (spot : Spot) (cur : List ℕ) : Type 0 where
   pub place : spot .at ≤ length l
   pub lies : Lie left (drop (spot .at) l)
-  pub fault : recordFault cur ≡ 0
+  pub holds : Holds (ops cur) cur
   pub done : List Seq
   pub number : length done + left ≡ n
   pub whole : rebase e (editsIn n (drop from l)) ≡ behind done (rebase (ops cur) (editsIn left (drop (spot .at) l)))
   pub bytes-are : spot .bytes ≡ length (encodeAll done)
   pub small : spot .bytes ≤ 35848 * length done
 
-pub moving-start : (l : List ℕ) (from n : ℕ) (cur : List ℕ) → from ≤ length l → Lie n (drop from l) → recordFault cur ≡ 0 → Moving (ops cur) l from n n (record { at = from; bytes = 0 }) cur
+pub moving-start : (l : List ℕ) (from n : ℕ) (cur : List ℕ) → from ≤ length l → Lie n (drop from l) → Holds (ops cur) cur → Moving (ops cur) l from n n (record { at = from; bytes = 0 }) cur
 unfolding encodeAll
-moving-start l from n cur p q f = record { place = p; lies = q; fault = f; done = []; number = omega arith; whole = refl; bytes-are = refl; small = omega arith }
+moving-start l from n cur p q f = record { place = p; lies = q; holds = f; done = []; number = omega arith; whole = refl; bytes-are = refl; small = omega arith }
+
+pub start-done : (l : List ℕ) (from n : ℕ) (cur : List ℕ) (p : from ≤ length l) (q : Lie n (drop from l)) (h : Holds (ops cur) cur) → moving-start l from n cur p q h .done ≡ []
+unfolding moving-start
+start-done l from n cur p q h = refl
 
 pub moving-small : (e : Seq) (l : List ℕ) (from n left : ℕ) (spot : Spot) (cur : List ℕ) → Moving e l from n left spot cur → n ≤ 256 → spot .bytes ≤ 2 ^ 40
 moving-small e l from n left spot cur g h = omega (arith, g .small, g .number, h)
@@ -84,8 +88,7 @@ module _ (e : Seq) (l : List ℕ) (from n left : ℕ) (spot : Spot) (cur : List 
           kept = ap (λ m. m .kept) w;
           bytes-are = g .bytes-are ∙ ap (λ d. length (encodeAll d)) (sym (append-nil (g .done)) ∙ sym (ap (λ m. m .counterparts) w));
           small = omega (arith, g .small, g .number, edits-length n (drop from l));
-          fault = g .fault;
-          edit = sym (ap (λ m. m .edit) w);
+          holds = subst (λ s. Holds s cur) (sym (ap (λ m. m .edit) w)) (g .holds);
         };
       }
 
@@ -102,11 +105,11 @@ module _ (e : Seq) (l : List ℕ) (from n left : ℕ) (spot : Spot) (cur : List 
     abbrev s : Sides Char
     s = transform order (ops cur) (ops rec)
 
-    next : rebase (ops cur) (editsIn left (drop at l)) ≡
+    pub moving-whole : rebase (ops cur) (editsIn left (drop at l)) ≡
         (let m = rebase (s .left) (editsIn (left - 1) (drop (sizeOf rec) (drop at l))) in
         record { edit = m .edit; counterparts = s .right ∷ m .counterparts; kept = fits (s .left) && (fits (s .right) && m .kept) })
     unfolding rebase editsIn rule transform
-    next =
+    moving-whole =
         let k : left ≡ suc (left - 1) = omega (arith, some) in
         ap (λ i. rebase (ops cur) (editsIn i (drop at l))) k
         ∙ ap (λ r. let m = rebase (rule (ops cur) (ops r) .left) (editsIn (left - 1) (drop (sizeOf r) (drop at l))) in record { edit = m .edit; counterparts = rule (ops cur) (ops r) .right ∷ m .counterparts; kept = fits (rule (ops cur) (ops r) .left) && (fits (rule (ops cur) (ops r) .right) && m .kept) }) (sym rec-is)
@@ -114,38 +117,43 @@ module _ (e : Seq) (l : List ℕ) (from n left : ℕ) (spot : Spot) (cur : List 
     pub moving-stop : (p : Pair) → SizedBoth s p → (v : Bool) → v ≡ (within (p .e) && within (p .f)) → not v ≡ true → Runs e (editsIn n (drop from l)) (outcome.Refused Limit) cur
     moving-stop p d v q h =
         let z : fits (s .left) && fits (s .right) ≡ false = ap₂ _&&_ (sym (sized-fits (s .left) (p .e) (d .left))) (sym (sized-fits (s .right) (p .f) (d .right))) ∙ sym q ∙ not-true v h in
-        record { runs = (refl, ap (λ m. m .kept) (g .whole ∙ ap (behind (g .done)) next) ∙ stays (fits (s .left)) (fits (s .right)) _ z) }
+        record { runs = (refl, ap (λ m. m .kept) (g .whole ∙ ap (behind (g .done)) moving-whole) ∙ stays (fits (s .left)) (fits (s .right)) _ z) }
       where
         stays : (a b c : Bool) → a && b ≡ false → a && (b && c) ≡ false
         stays true true c z = absurd (true≢false z)
         stays true false c z = refl
         stays false b c z = refl
 
-    module _ (p : Pair) (d : SizedBoth s p) (v : Bool) (q : v ≡ (within (p .e) && within (p .f))) (h : not v ≡ false) where
-      both-kept : T (fits (s .left)) × T (fits (s .right))
-      both-kept =
-          let (a, b) = and-eq-true-iff (within (p .e)) (within (p .f)) .0 (sym q ∙ not-false v h) in
-          (within-fits (s .left) (p .e) (d .left) a, within-fits (s .right) (p .f) (d .right) b)
+    pub moving-next : Fit s → (to : Spot) (cur′ : List ℕ) → GoesOn s rec spot to cur′ → Moving e l from n (left - 1) to cur′
+    unfolding encodeAll
+    moving-next f to cur′ o =
+        let fl = f .left in
+        let fr = f .right in
+        let inside : to .at ≤ length l = omega (arith, o .at-is, g .place, limits rec .0 (faultless rec .0 moving-record .in-limits) .whole, ap length rec-is, length-drop at l) in
+        let rest-is : drop (sizeOf rec) (drop at l) ≡ drop (to .at) l = drop-drop (sizeOf rec) at l ∙ ap (λ k. drop k l) (sym (o .at-is)) in
+        let m = rebase (s .left) (editsIn (left - 1) (drop (sizeOf rec) (drop at l))) in
+        let k : (fits (s .left) && (fits (s .right) && m .kept)) ≡ m .kept = rw (holds (fits (s .left)) fl, holds (fits (s .right)) fr) in
+        let same : m ≡ rebase (ops cur′) (editsIn (left - 1) (drop (to .at) l)) = λ i. rebase (sym (o .holds .edit) i) (editsIn (left - 1) (rest-is i)) in
+        let more : encodeAll (g .done ++ (s .right ∷ [])) ≡ encodeAll (g .done) ++ encode (s .right) = encodeAll-append (g .done) (s .right ∷ []) ∙ ap (λ x. encodeAll (g .done) ++ x) (append-nil (encode (s .right))) in
+        record {
+          place = inside;
+          lies = subst (Lie (left - 1)) (ap (λ k. drop k (drop at l)) (sym (ap sizeOf rec-is)) ∙ rest-is) (lie-rest (left - 1) (drop at l) (subst (λ i. Lie i (drop at l)) (omega (arith, some)) (g .lies)));
+          holds = subst (λ s. Holds s cur′) (sym (o .holds .edit)) (o .holds);
+          done = g .done ++ (s .right ∷ []);
+          number = simp length-append (omega (arith, g .number, some));
+          whole = g .whole ∙ ap (behind (g .done)) moving-whole
+              ∙ (λ i. record { edit = m .edit; counterparts = sym (append-assoc (g .done) (s .right ∷ []) (m .counterparts)) i; kept = k i })
+              ∙ ap (behind (g .done ++ (s .right ∷ []))) same;
+          bytes-are = o .bytes-are ∙ ap (λ b. b + length (encode (s .right))) (g .bytes-are) ∙ sym (ap length more ∙ length-append (encodeAll (g .done)) (encode (s .right)));
+          small = simp length-append (omega (arith, g .small, o .bytes-are, fits-size (s .right) fr));
+        }
 
-      pub moving-again : (to : Spot) (cur′ : List ℕ) → GoesOn s rec spot to cur′ → Moving e l from n (left - 1) to cur′
-      unfolding encodeAll
-      moving-again to cur′ o =
-          let (fl, fr) = both-kept in
-          let inside : to .at ≤ length l = omega (arith, o .at-is, g .place, limits rec .0 (faultless rec .0 moving-record .in-limits) .whole, ap length rec-is, length-drop at l) in
-          let rest-is : drop (sizeOf rec) (drop at l) ≡ drop (to .at) l = drop-drop (sizeOf rec) at l ∙ ap (λ k. drop k l) (sym (o .at-is)) in
-          let m = rebase (s .left) (editsIn (left - 1) (drop (sizeOf rec) (drop at l))) in
-          let k : (fits (s .left) && (fits (s .right) && m .kept)) ≡ m .kept = rw (holds (fits (s .left)) fl, holds (fits (s .right)) fr) in
-          let same : m ≡ rebase (ops cur′) (editsIn (left - 1) (drop (to .at) l)) = λ i. rebase (sym (o .edit) i) (editsIn (left - 1) (rest-is i)) in
-          let more : encodeAll (g .done ++ (s .right ∷ [])) ≡ encodeAll (g .done) ++ encode (s .right) = encodeAll-append (g .done) (s .right ∷ []) ∙ ap (λ x. encodeAll (g .done) ++ x) (append-nil (encode (s .right))) in
-          record {
-            place = inside;
-            lies = subst (Lie (left - 1)) (ap (λ k. drop k (drop at l)) (sym (ap sizeOf rec-is)) ∙ rest-is) (lie-rest (left - 1) (drop at l) (subst (λ i. Lie i (drop at l)) (omega (arith, some)) (g .lies)));
-            fault = o .fault;
-            done = g .done ++ (s .right ∷ []);
-            number = simp length-append (omega (arith, g .number, some));
-            whole = g .whole ∙ ap (behind (g .done)) next
-                ∙ (λ i. record { edit = m .edit; counterparts = sym (append-assoc (g .done) (s .right ∷ []) (m .counterparts)) i; kept = k i })
-                ∙ ap (behind (g .done ++ (s .right ∷ []))) same;
-            bytes-are = o .bytes-are ∙ ap (λ b. b + length (encode (s .right))) (g .bytes-are) ∙ sym (ap length more ∙ length-append (encodeAll (g .done)) (encode (s .right)));
-            small = simp length-append (omega (arith, g .small, o .bytes-are, fits-size (s .right) fr));
-          }
+    pub moving-done : (f : Fit s) (to : Spot) (cur′ : List ℕ) (o : GoesOn s rec spot to cur′) → moving-next f to cur′ o .done ≡ g .done ++ (s .right ∷ [])
+    unfolding moving-next
+    moving-done f to cur′ o = refl
+
+    pub moving-again : (p : Pair) → SizedBoth s p → (v : Bool) → v ≡ (within (p .e) && within (p .f)) → not v ≡ false → (to : Spot) (cur′ : List ℕ) → GoesOn s rec spot to cur′
+        → Moving e l from n (left - 1) to cur′
+    moving-again p d v q h =
+        let (a, b) = and-eq-true-iff (within (p .e)) (within (p .f)) .0 (sym q ∙ not-false v h) in
+        moving-next (record { left = within-fits (s .left) (p .e) (d .left) a; right = within-fits (s .right) (p .f) (d .right) b })

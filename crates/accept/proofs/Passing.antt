@@ -1,20 +1,23 @@
 -- One transform: the edit's side takes the edit's place, the revision's side goes to the output.
 use Prim.Native.Nat.{ℕ, _+_, _-_, _≤_}
 use native.Mathlib.Omega.{arith}
-use mathlib.Core.Path.{_≡_, sym, ap, ap₂, _∙_}
+use mathlib.Core.Path.{_≡_, sym, ap, ap₂, _∙_, subst}
 use mathlib.Core.Bool.{true}
-use mathlib.Core.List.{List}
+use mathlib.Core.List.{List, [], _++_, append-nil}
 use lib.Dec.{T}
-use lib.ListN.{length, take, drop}
+use lib.ListN.{length, take, drop, length-drop}
+use lib.Seq.{take-at, drop-length}
+use borrow.Rule.Slice.PartMut.{putMid}
+use Rattle.utf8.specs.Text.{Char}
 use Rattle.utf8.specs.Order.{order}
-use Rattle.utf8.proofs.Tests.{known}
+use Rattle.utf8.proofs.Tests.{known, holds}
 use Rattle.operation.specs.Layout.{sizeOf}
-use Rattle.operation.specs.Record.{Seq, encode, fits, ops, recordFault}
+use Rattle.operation.specs.Record.{Seq, encode, fits}
 use Rattle.operation.proofs.Sequences.{Good, fits-limits}
-use Rattle.operation.proofs.Records.{encode-length, ops-encode, fault-encode}
+use Rattle.operation.proofs.Records.{encode-length, size-encode, ops-encode, fault-encode}
 use Rattle.operational_transform.specs.declared.core.Emitter.{Emitter}
 use Rattle.operational_transform.specs.Output.{atFront}
-use Rattle.operational_transform.specs.Transform.{keepBoth, transform}
+use Rattle.operational_transform.specs.Transform.{Sides, keepBoth, transform}
 use Rattle.operational_transform.specs.Emit.{over, Sizes, Writes, within, sizeIn}
 use Rattle.operational_transform.proofs.Claims.{transform-built}
 use Rattle.operational_transform.proofs.Delivering.{sized-fits, sized-length, written-front}
@@ -22,8 +25,9 @@ use Rattle.operational_transform.proofs.Over.{over-front}
 use Rattle.operational_transform.proofs.Outputs.{atFront-take}
 use Rattle.transform.specs.declared.core.Pair.{Pair}
 use Rattle.transform.specs.Pairs.{SizedBoth}
+use Rattle.log.proofs.Scanning.{to-end}
 use Rattle.accept.specs.declared.run.Spot.{Spot}
-use Rattle.accept.specs.Running.{Passes, GoesOn}
+use Rattle.accept.specs.Running.{Holds, Fit, Passes, GoesOn}
 
 -- a record that keeps the limits has at most 35,848 bytes
 pub within-fits : (s : Seq) (e : Emitter) → Sizes s e → within e ≡ true → T (fits s)
@@ -33,14 +37,11 @@ pub fits-size : (s : Seq) → T (fits s) → length (encode s) ≤ 35848
 fits-size s f = let l = fits-limits s .0 f in omega (arith, encode-length s, l .records, l .text-bytes)
 
 -- a record at the front of a buffer
-module _ (s : Seq) (buffer : List ℕ) where
-  pub front-fault : Good s → recordFault (atFront (encode s) buffer) ≡ 0
-  unfolding atFront
-  front-fault g = fault-encode s _ g
-
-  pub front-ops : ops (atFront (encode s) buffer) ≡ s
-  unfolding atFront
-  front-ops = ops-encode s _
+pub front-holds : (s : Seq) (buffer : List ℕ) → Good s → Holds s (atFront (encode s) buffer)
+unfolding atFront
+front-holds s buffer g =
+    let more = drop (length (encode s)) buffer in
+    record { fault = fault-encode s more g; edit = ops-encode s more; bytes-are = take-at (encode s) more _ (sym (size-encode s more)) }
 
 module _ (x y : Seq) (p : Pair) (d : SizedBoth (transform order x y) p) (we : within (p .e) ≡ true) (z : ℕ) (pz : z ≡ sizeIn (p .e)) where
   pub pass-size : z ≤ 35848
@@ -65,8 +66,7 @@ module _ (x y : Seq) (p : Pair) (d : SizedBoth (transform order x y) p) (we : wi
       let t : take (z - 0) (drop 0 next′) ≡ encode (s .left) = ap₂ take l n ∙ atFront-take (encode (s .left)) next in
       let c : cur′ ≡ atFront (encode (s .left)) cur = e ∙ ap (λ u. over 0 u cur) t ∙ over-front (encode (s .left)) cur (omega (arith, fits-size (s .left) fl, space)) in
       record {
-        fault = ap recordFault c ∙ front-fault (s .left) cur left-good;
-        edit = ap ops c ∙ front-ops (s .left) cur;
+        holds = subst (Holds (s .left)) (sym c) (front-holds (s .left) cur left-good);
         given = λ h. written-front (s .right) _ out (wr .emitter) (wr .before) out′ (fits-limits (s .right) .0 fr) h (wr .done) (d .right .records) (wr .is);
       }
 
@@ -74,4 +74,25 @@ module _ (x y : Seq) (p : Pair) (d : SizedBoth (transform order x y) p) (we : wi
 pub goes-on : (x y : Seq) (p : Pair) → SizedBoth (transform order x y) p → (rec : List ℕ) (spot : Spot) (size z : ℕ) → size ≡ sizeOf rec → z ≡ sizeIn (p .f) → (out cur′ out′ : List ℕ)
     → Passes (transform order x y) out cur′ out′ → GoesOn (transform order x y) rec spot (record { at = spot .at + size; bytes = spot .bytes + z }) cur′
 goes-on x y p d rec spot size z ps pz out cur′ out′ h =
-    record { fault = h .fault; edit = h .edit; at-is = ap (λ k. spot .at + k) ps; bytes-are = ap (λ k. spot .bytes + k) (pz ∙ sized-length (transform order x y .right) (p .f) (d .right)) }
+    record { holds = h .holds; at-is = ap (λ k. spot .at + k) ps; bytes-are = ap (λ k. spot .bytes + k) (pz ∙ sized-length (transform order x y .right) (p .f) (d .right)) }
+
+-- ---- both sides are known to keep the limits
+
+module _ (x y : Seq) (p : Pair) (d : SizedBoth (transform order x y) p) where
+  pub fit-left : Fit (transform order x y) → within (p .e) ≡ true
+  fit-left f = sized-fits _ (p .e) (d .left) ∙ holds _ (f .left)
+
+  pub fit-right : Fit (transform order x y) → within (p .f) ≡ true
+  fit-right f = sized-fits _ (p .f) (d .right) ∙ holds _ (f .right)
+
+  pub hand-bytes : (z : ℕ) → z ≡ sizeIn (p .f) → z ≡ length (encode (transform order x y .right))
+  hand-bytes z e = e ∙ sized-length (transform order x y .right) (p .f) (d .right)
+
+-- what goes to a part of the output goes to the output
+pub hand-part : (s : Sides Char) (out : List ℕ) (from : ℕ) (cur′ sub′ : List ℕ) → from + length (encode (s .right)) ≤ length out → Passes s (take (length out - from) (drop from out)) cur′ sub′
+    → putMid from (length out - from) out sub′ ≡ take from out ++ atFront (encode (s .right)) (drop from out)
+hand-part s out from cur′ sub′ h q =
+    let e = to-end out from in
+    let n : sub′ ≡ atFront (encode (s .right)) (drop from out) = q .given (rw e (omega (arith, h, length-drop from out))) ∙ ap (atFront (encode (s .right))) e in
+    let z : drop (length out - from) (drop from out) ≡ [] = ap (λ k. drop k (drop from out)) (sym (length-drop from out)) ∙ drop-length (drop from out) in
+    ap (λ x. take from out ++ x) (ap₂ _++_ n z ∙ append-nil (atFront (encode (s .right)) (drop from out)))

@@ -4,12 +4,12 @@ use mathlib.Core.Path.{_≡_}
 use mathlib.Core.Bool.{true, false}
 use mathlib.Core.List.{List}
 use lib.Dec.{T}
-use lib.ListN.{length}
+use lib.ListN.{length, take}
 use Rattle.utf8.specs.Text.{Char}
 use Rattle.operation.specs.declared.Refusal.{Refusal}
 use Rattle.operation.specs.declared.Refusal.the-variants.{Limit}
 use Rattle.operation.specs.Layout.{sizeOf}
-use Rattle.operation.specs.Record.{Seq, encode, ops, recordFault}
+use Rattle.operation.specs.Record.{Seq, encode, fits, ops, recordFault}
 use Rattle.operational_transform.specs.Transform.{Sides}
 use Rattle.operational_transform.specs.Output.{atFront}
 use Rattle.log.specs.Log.{encodeAll, readableFrom}
@@ -23,16 +23,25 @@ pub record Lie (n : ℕ) (l : List ℕ) : Type 0 where
   pub len : ℕ
   pub reads : T (readableFrom n len l)
 
+-- the record of e stands at the front of a buffer
+pub record Holds (e : Seq) (cur : List ℕ) : Type 0 where
+  pub fault : recordFault cur ≡ 0
+  pub edit : ops cur ≡ e
+  pub bytes-are : take (sizeOf cur) cur ≡ encode e
+
+-- both sides keep the limits
+pub record Fit (s : Sides Char) : Type 0 where
+  pub left : T (fits (s .left))
+  pub right : T (fits (s .right))
+
 -- the edit in a buffer is moved past one revision, whose counterpart goes to an output
 pub record Passes (s : Sides Char) (out cur′ out′ : List ℕ) : Type 0 where
-  pub fault : recordFault cur′ ≡ 0
-  pub edit : ops cur′ ≡ s .left
+  pub holds : Holds (s .left) cur′
   pub given : length (encode (s .right)) ≤ length out → out′ ≡ atFront (encode (s .right)) out
 
 -- the same, without an output
 pub record GoesOn (s : Sides Char) (rec : List ℕ) (spot r : Spot) (cur′ : List ℕ) : Type 0 where
-  pub fault : recordFault cur′ ≡ 0
-  pub edit : ops cur′ ≡ s .left
+  pub holds : Holds (s .left) cur′
   pub at-is : r .at ≡ spot .at + sizeOf rec
   pub bytes-are : r .bytes ≡ spot .bytes + length (encode (s .right))
 
@@ -41,8 +50,7 @@ pub record Rebased (e : Seq) (vs : List Seq) (bytes : ℕ) (cur′ : List ℕ) :
   pub kept : rebase e vs .kept ≡ true
   pub bytes-are : bytes ≡ length (encodeAll (rebase e vs .counterparts))
   pub small : bytes ≤ 35848 * length vs
-  pub fault : recordFault cur′ ≡ 0
-  pub edit : ops cur′ ≡ rebase e vs .edit
+  pub holds : Holds (rebase e vs .edit) cur′
 
 abbrev pub RunsTo : Seq → List Seq → Run → List ℕ → Type 0
 RunsTo e vs (outcome.Refused x) cur′ = (x ≡ Limit) × (rebase e vs .kept ≡ false)
@@ -50,3 +58,12 @@ RunsTo e vs (outcome.Kept b) cur′ = Rebased e vs b cur′
 
 pub record Runs (e : Seq) (vs : List Seq) (r : Run) (cur′ : List ℕ) : Type 0 where
   pub runs : RunsTo e vs r cur′
+
+-- none of the transforms passes a limit, and the output has room for the counterparts
+pub record Roomy (e : Seq) (vs : List Seq) (out : List ℕ) : Type 0 where
+  pub kept : rebase e vs .kept ≡ true
+  pub room : length (encodeAll (rebase e vs .counterparts)) ≤ length out
+
+pub record HandsOut (e : Seq) (vs : List Seq) (out cur′ out′ : List ℕ) : Type 0 where
+  pub holds : Holds (rebase e vs .edit) cur′
+  pub given : out′ ≡ atFront (encodeAll (rebase e vs .counterparts)) out

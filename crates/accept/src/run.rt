@@ -5,20 +5,21 @@ use transform::core::Pair;
 use transform::core::State;
 ghost use mathlib.Core.Path.{_≡_};
 ghost use mathlib.Core.Bool.{true, _&&_};
-ghost use mathlib.Core.List.{[]};
-ghost use Prim.Native.Nat.{_^_, _≤_};
-ghost use lib.ListN.{length, drop};
+ghost use mathlib.Core.List.{[], _++_};
+ghost use Prim.Native.Nat.{_+_, _^_, _≤_};
+ghost use lib.ListN.{length, take, drop};
 ghost use Rattle.utf8.specs.Order.{order};
 ghost use Rattle.operation.specs.Layout.{recordsOf};
-ghost use Rattle.operation.specs.Record.{ops, recordFault};
+ghost use Rattle.operation.specs.Record.{encode, ops, recordFault};
 ghost use Rattle.operational_transform.specs.Transform.{transform as transformOf};
 ghost use Rattle.operational_transform.specs.Emit.{Under, within};
 ghost use Rattle.operation.specs.Front.{Stands};
+ghost use Rattle.operational_transform.specs.Output.{atFront};
 ghost use Rattle.turns.specs.Turns.{liveIs};
 ghost use Rattle.transform.specs.Sides.{Went, Ended};
 ghost use Rattle.transform.specs.Pairs.{SizedBoth};
 ghost use Rattle.log.specs.Log.{editsIn};
-ghost use Rattle.accept.specs.Running.{Lie, Passes, GoesOn, Runs};
+ghost use Rattle.accept.specs.Running.{Lie, Holds, Fit, Passes, GoesOn, Runs, Roomy, HandsOut};
 
 // How many bytes the counterparts have, or why the run ended.
 pub(crate) enum Run {
@@ -97,7 +98,7 @@ fn go_on(
 
 // Past n revisions, whose records begin at `from`: the first whose transform passes a limit ends the run.
 pub(crate) fn rebase(log: &[u8], from: usize, n: usize, cur: &mut [u8], next: &mut [u8]) -> Run
-    requires { ⌜ (from ≤ length (now log)) × (n ≤ 256) × Lie n (drop from (now log)) × (recordFault (now cur) ≡ 0) × (35848 ≤ length (now cur)) × (35848 ≤ length (now next)) ⌝ }
+    requires { ⌜ (from ≤ length (now log)) × (n ≤ 256) × Lie n (drop from (now log)) × Holds (ops (now cur)) (now cur) × (35848 ≤ length (now cur)) × (35848 ≤ length (now next)) ⌝ }
     ensures { λ r. ⌜ Runs (ops (now (cur .entry))) (editsIn n (drop from (now (log .entry)))) r (now (cur .exit)) ⌝ }
 {
     let mut spot = Spot { at: from, bytes: 0 };
@@ -122,6 +123,43 @@ pub(crate) fn rebase(log: &[u8], from: usize, n: usize, cur: &mut [u8], next: &m
             s = turn(cur, na, rec, nb, s);
         };
         spot = go_on(cur, na, rec, nb, next, p, spot);
+        left -= 1;
+    }
+}
+
+// The counterpart of the revision whose record is `rec` goes to its place in the output; both sides keep the limits.
+fn hand(cur: &mut [u8], rec: &[u8], next: &mut [u8], out: &mut [u8], spot: Spot) -> Spot
+    requires { ⌜ (recordFault (now cur) ≡ 0) × (recordFault (now rec) ≡ 0) × (35848 ≤ length (now cur)) × (35848 ≤ length (now next)) × Fit (transformOf order (ops (now cur)) (ops (now rec))) × (spot .at ≤ 2 ^ 63) × (spot .bytes + length (encode (transformOf order (ops (now cur)) (ops (now rec)) .right)) ≤ length (now out)) ⌝ }
+    ensures { λ r. ⌜ GoesOn (transformOf order (ops (now (cur .entry))) (ops (now (rec .entry)))) (now (rec .entry)) spot r (now (cur .exit)) × (now (out .exit) ≡ take (spot .bytes) (now (out .entry)) ++ atFront (encode (transformOf order (ops (now (cur .entry))) (ops (now (rec .entry))) .right)) (drop (spot .bytes) (now (out .entry)))) ⌝ }
+{
+    let na = operation::core::records(cur);
+    let nb = operation::core::records(rec);
+    let p = transform::core::sized(cur, na, rec, nb);
+    let f = p.f;
+    let from = spot.bytes;
+    let at = spot.at + operation::core::size(rec);
+    let bytes = from + operational_transform::core::size(f);
+    pass(cur, na, rec, nb, next, &mut out[from..], p);
+    Spot { at, bytes }
+}
+
+// Past the same revisions once more, where none passes a limit: the counterparts go to the output, oldest first.
+pub(crate) fn hand_out(
+    log: &[u8],
+    from: usize,
+    n: usize,
+    cur: &mut [u8],
+    next: &mut [u8],
+    out: &mut [u8],
+)
+    requires { ⌜ (from ≤ length (now log)) × (n ≤ 256) × Lie n (drop from (now log)) × Holds (ops (now cur)) (now cur) × (35848 ≤ length (now cur)) × (35848 ≤ length (now next)) × Roomy (ops (now cur)) (editsIn n (drop from (now log))) (now out) ⌝ }
+    ensures { λ _. ⌜ HandsOut (ops (now (cur .entry))) (editsIn n (drop from (now (log .entry)))) (now (out .entry)) (now (cur .exit)) (now (out .exit)) ⌝ }
+{
+    let mut spot = Spot { at: from, bytes: 0 };
+    let mut left = n;
+    while 0 < left {
+        let at = spot.at;
+        spot = hand(cur, &log[at..], next, out, spot);
         left -= 1;
     }
 }

@@ -84,7 +84,7 @@ go-on-requires c κs =
       recs .ensures .1,
       recs2 .ensures .0,
       recs2 .ensures .1,
-      m .fault,
+      m .holds .fault,
       moving-record _ _ _ _ _ _ _ m none,
       omega (arith, start .pre .4, run .inv .1),
       omega (arith, start .pre .5, run .inv .2),
