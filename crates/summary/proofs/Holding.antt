@@ -1,0 +1,174 @@
+-- A partial result, written to a buffer and read again.
+use Prim.Native.Nat.{ℕ, zero, suc, _-_, _^_, _≤_}
+use native.Mathlib.Nat.{sub-zero}
+use native.Mathlib.Omega.{arith}
+use mathlib.Core.Path.{_≡_, refl, sym, ap, ap₂, _∙_}
+use mathlib.Core.Bool.{Bool, true, false}
+use mathlib.Core.List.{List, [], _∷_, _++_, map}
+use lib.Dec.{T}
+use lib.ListN.{length, take, drop, take-append-drop, length-append}
+use borrow.Author.Tests.{eq-eqb}
+use Rattle.utf8.proofs.Tests.{known}
+use Rattle.operation.specs.declared.Refusal.{Refusal}
+use Rattle.operation.specs.Answer.{number, gives, refused}
+use Rattle.operation.specs.Op.{retain}
+use Rattle.operation.specs.Layout.{baseOf, targetOf}
+use Rattle.operation.specs.Built.{Built}
+use Rattle.operation.specs.Record.{Seq, inBytes, text, encode, fits, ops, recordFault}
+use Rattle.operation.proofs.Sequences.{Limits, fits-limits}
+use Rattle.operation.proofs.Records.{encode-length, ops-encode, fault-encode}
+use Rattle.operational_transform.specs.declared.Written.{Written}
+use Rattle.operational_transform.specs.declared.Written.the-variants.{Bytes, Refused}
+use Rattle.operational_transform.specs.declared.core.Emitter.{Emitter}
+use Rattle.operational_transform.specs.Output.{atFront}
+use Rattle.operational_transform.specs.Build.{put, add, addAll, build}
+use Rattle.operational_transform.specs.Compose.{compose}
+use Rattle.operational_transform.specs.Calls.{deliver, composeCall}
+use Rattle.operational_transform.specs.Emit.{one, writtenOf, over, Under, nothing, Retains, Done, Finishes, headed, sizeIn}
+use Rattle.operational_transform.specs.Given.{Gives}
+use Rattle.operational_transform.proofs.Over.{over-front}
+use Rattle.operational_transform.proofs.Outputs.{atFront-take, writing-goes}
+use Rattle.operational_transform.proofs.Adding.{under-start, under-more}
+use Rattle.operational_transform.proofs.Building.{build-built}
+use Rattle.operational_transform.proofs.Claims.{compose-built}
+use Rattle.operational_transform.proofs.Delivering.{builds, sized-length, written-front, writing-refused}
+use Rattle.session.specs.Rows.{still}
+use Rattle.session.proofs.Rows.{still-base, still-target}
+use Rattle.summary.specs.Summing.{Holds, Makes}
+
+-- ---- what is held
+
+-- a record within the limits has at most 8 + 3 * 1024 + 32768 bytes
+pub encode-small : (s : Seq) → T (fits s) → length (encode s) ≤ 35848
+encode-small s h = let l = fits-limits s .0 h in omega (arith, encode-length s, l .records, l .text-bytes)
+
+front-length : (r o : List ℕ) → length r ≤ length (atFront r o)
+unfolding atFront
+front-length r o = omega (arith, length-append r (drop (length r) o))
+
+pub holds-front : (s : Seq) (k : ℕ) (o b : List ℕ) → Built s → T (fits s) → k ≡ length (encode s) → b ≡ atFront (encode s) o → Holds s k b
+holds-front s k o b g h e p =
+    record {
+      is-built = g;
+      in-limits = h;
+      size = e;
+      room = omega (arith, front-length (encode s) o, ap length p);
+      is = ap₂ take e p ∙ atFront-take (encode s) o;
+    }
+
+module _ (s : Seq) (k : ℕ) (b : List ℕ) (h : Holds s k b) where
+  held-is : b ≡ encode s ++ drop k b
+  held-is = sym (take-append-drop k b) ∙ ap (λ x. x ++ drop k b) (h .is)
+
+  pub held-fault : recordFault b ≡ 0
+  held-fault = rw held-is (fault-encode s (drop k b) (record { is-built = h .is-built; in-limits = h .in-limits }))
+
+  pub held-ops : ops b ≡ s
+  held-ops = ap ops held-is ∙ ops-encode s (drop k b)
+
+-- ---- composed with a revision
+
+module _ (a b o : List ℕ) (v : Written) (o′ : List ℕ) (g : Gives (composeCall a b o) v o′)
+    (za : recordFault a ≡ 0) (zb : recordFault b ≡ 0) (e : targetOf a ≡ baseOf b) (r : 35848 ≤ length o) where
+  abbrev s : Seq
+  s = compose (ops a) (ops b)
+
+  goes-on : composeCall a b o ≡ deliver 0 s o
+  unfolding composeCall
+  goes-on = rw (za, zb, eq-eqb (targetOf a) (baseOf b) e)
+
+  over-limit : fits s ≡ false → composeCall a b o ≡ record { answer = refused 9; out = o }
+  unfolding deliver
+  over-limit p = goes-on ∙ rw p (writing-refused 9 (encode s) o (λ z. absurd (omega arith)))
+
+  in-limit : fits s ≡ true → composeCall a b o ≡ record { answer = gives (length (encode s) ∷ []); out = atFront (encode s) o }
+  unfolding deliver
+  in-limit p = goes-on ∙ rw p (sym (writing-goes 0 (encode s) o refl (omega (arith, encode-small s (known p)))))
+
+  pub step-refused : (x : Refusal) → v ≡ Refused x → (c : List ℕ) → Makes s (Refused x) c
+  step-refused x q c = record { makes = go (fits s) refl }
+    where
+      go : (t : Bool) → fits s ≡ t → (number x ≡ 9) × (fits s ≡ false)
+      go true p = absurd (let z : _≡_ {A = ℕ} 0 1 = cc (ap writtenOf (sym q) ∙ g .answer ∙ ap (λ y. y .answer) (in-limit p)) in omega arith)
+      go false p = ((cc (ap writtenOf (sym q) ∙ g .answer ∙ ap (λ y. y .answer) (over-limit p))), p)
+
+  -- the result stands in the second buffer
+  record Stood (k : ℕ) : Type 0 where
+    fit : fits s ≡ true
+    size : k ≡ length (encode s)
+    is : o′ ≡ atFront (encode s) o
+
+  module _ (k : ℕ) (q : v ≡ Bytes k) where
+    stood : Stood k
+    stood = go (fits s) refl
+      where
+        go : (t : Bool) → fits s ≡ t → Stood k
+        go true p =
+            let w = in-limit p in
+            record { fit = p; size = (cc (ap writtenOf (sym q) ∙ g .answer ∙ ap (λ y. y .answer) w)); is = g .out ∙ ap (λ y. y .out) w }
+        go false p = absurd (let z : _≡_ {A = ℕ} 0 1 = cc (ap writtenOf (sym q) ∙ g .answer ∙ ap (λ y. y .answer) (over-limit p)) in omega arith)
+
+    pub step-room : k ≤ length o′
+    step-room = omega (arith, stood .size, ap length (stood .is), front-length (encode s) o)
+
+    pub step-written : (c c′ : List ℕ) → c′ ≡ over 0 (take (k - 0) (drop 0 o′)) c → 35848 ≤ length c → Makes s (Bytes k) c′
+    step-written c c′ w h =
+        let t = known (stood .fit) in
+        let i : take (k - 0) o′ ≡ encode s = ap₂ take (sub-zero k ∙ stood .size) (stood .is) ∙ atFront-take (encode s) o in
+        let j : c′ ≡ atFront (encode s) c = w ∙ ap (λ y. over 0 y c) i ∙ over-front (encode s) c (omega (arith, encode-small s t)) in
+        record { makes = holds-front s k c c′ (compose-built (ops a) (ops b)) t (stood .size) j }
+
+-- ---- the sequence that retains the starting length
+
+pub some-records : (n : ℕ) → (n ≡ 0 → ⊥) → 1 ≡ one n
+some-records zero h = absurd (h refl)
+some-records (suc n) h = refl
+
+still-few : (n : ℕ) → one n ≡ length (still n)
+unfolding still build addAll add put
+still-few zero = refl
+still-few (suc n) = refl
+
+still-text : (n : ℕ) → length (text (map inBytes (still n))) ≡ 0
+unfolding still build addAll add put inBytes
+still-text zero = refl
+still-text (suc n) = refl
+
+one-small : (n : ℕ) → one n ≤ 1
+one-small zero = omega arith
+one-small (suc n) = omega arith
+
+still-limits : (n : ℕ) → n ≤ 32768 → Limits (still n)
+still-limits n h =
+    record {
+      records = omega (arith, still-few n, one-small n);
+      text-bytes = omega (arith, still-text n);
+      bases = omega (arith, still-base n);
+      targets = omega (arith, still-target n);
+    }
+
+pub still-built : (n : ℕ) → Built (still n)
+unfolding still
+still-built n = build-built (retain n ∷ [])
+
+pub still-start : (e : Emitter) → e ≡ nothing → Under (2 ^ 40) e
+still-start e p = rw p (under-more _ (2 ^ 40) nothing (omega arith) under-start)
+
+module _ (n : ℕ) (e f : Emitter) (p : e ≡ nothing) (a : Retains n e f) where
+  pub still-under : Under (2 ^ 39) f
+  still-under = under-more _ (2 ^ 39) f (omega arith) (a .adds 0 [] .under 0 (rw p under-start))
+
+  module _ (m : ℕ) (o : List ℕ) (g : Emitter) (o₁ : List ℕ) (d : Finishes m f o g o₁) where
+    still-done : Done m (still n) o g o₁
+    unfolding still
+    still-done = builds m o (retain n ∷ []) p (a .adds m o) d
+
+    pub still-small : Under (2 ^ 40) g
+    still-small = still-done .small
+
+    pub still-holds : m ≡ one n → n ≤ 32768 → 35848 ≤ length o → (o₂ : List ℕ) → o₂ ≡ headed g o₁ → (k : ℕ) → k ≡ sizeIn g → Holds (still n) k o₂
+    still-holds q h r o₂ w k z =
+        let l = still-limits n h in
+        let t = fits-limits (still n) .1 l in
+        holds-front (still n) k o o₂ (still-built n) t (z ∙ sized-length (still n) g (still-done .sizes))
+        (written-front (still n) m o g o₁ o₂ l (omega (arith, encode-small (still n) t)) still-done (q ∙ still-few n) w)

@@ -1,0 +1,3 @@
+-- summary
+pub mod Holding
+pub mod Summing

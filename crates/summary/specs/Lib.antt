@@ -1,0 +1,2 @@
+-- summary
+pub mod Summing

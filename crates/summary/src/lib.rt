@@ -1,0 +1,54 @@
+// The revisions of a log composed into one record.
+use log::core::Scanned;
+use operation::Refusal;
+use operational_transform::Written;
+ghost use mathlib.Core.Path.{_≡_};
+ghost use Prim.Native.Nat.{_≤_};
+ghost use lib.Dec.{T};
+ghost use lib.ListN.{length, take};
+ghost use Rattle.operational_transform.specs.Output.{writing};
+ghost use Rattle.operational_transform.specs.Emit.{writtenOf};
+ghost use Rattle.operational_transform.specs.Given.{Gives};
+ghost use Rattle.log.specs.Log.{countOf, startOf, readable};
+ghost use Rattle.session.specs.Session.{summaryCall};
+
+mod partial;
+
+// What the revisions do together, beginning with the sequence that retains the starting length.
+pub fn summary(log: &[u8], out: &mut [u8]) -> Written
+    ensures { λ r. ⌜ (writtenOf r ≡ summaryCall (now (log .entry)) (now (out .entry)) .answer) × (now (out .exit) ≡ summaryCall (now (log .entry)) (now (out .entry)) .out) ⌝ }
+{
+    match log::core::read(log, 0) {
+        Scanned::Unreadable => Written::Refused(Refusal::Log),
+        Scanned::Of(s) => {
+            let count = s.count;
+            let start = s.start;
+            summed(log, count, start, out)
+        }
+    }
+}
+
+// Of a log that can be read. A record within the limits has at most 35,848 bytes.
+fn summed(log: &[u8], count: usize, start: usize, out: &mut [u8]) -> Written
+    requires { ⌜ T (readable (now log)) × (count ≡ countOf (now log)) × (start ≡ startOf (now log)) × (start ≤ 32768) ⌝ }
+    ensures { λ r. ⌜ Gives (summaryCall (now (log .entry)) (now (out .entry))) r (now (out .exit)) ⌝ }
+{
+    let mut cur = [0u8; 35848];
+    let mut next = [0u8; 35848];
+    match partial::sum(log, count, start, &mut cur, &mut next) {
+        Written::Refused(x) => Written::Refused(x),
+        Written::Bytes(k) => delivered(&cur, k, out),
+    }
+}
+
+// The first k bytes, as a result.
+fn delivered(cur: &[u8], k: usize, out: &mut [u8]) -> Written
+    requires { ⌜ k ≤ length (now cur) ⌝ }
+    ensures { λ r. ⌜ Gives (writing 0 (take k (now (cur .entry))) (now (out .entry))) r (now (out .exit)) ⌝ }
+{
+    if out.len() < k {
+        return Written::Refused(Refusal::Room);
+    }
+    operational_transform::core::copy(out, 0, cur, 0, k);
+    Written::Bytes(k)
+}

@@ -1,0 +1,74 @@
+// The partial results of composing a log's revisions, each in the buffer of the one before.
+use operational_transform::Written;
+ghost use mathlib.Core.Path.{_≡_};
+ghost use Prim.Native.Nat.{_≤_};
+ghost use lib.Dec.{T};
+ghost use lib.ListN.{length};
+ghost use Rattle.operation.specs.Layout.{baseOf, targetOf};
+ghost use Rattle.operation.specs.Record.{ops, recordFault};
+ghost use Rattle.operational_transform.specs.Compose.{compose as composeOf};
+ghost use Rattle.operational_transform.specs.Emit.{one};
+ghost use Rattle.log.specs.Log.{countOf, startOf, readable};
+ghost use Rattle.session.specs.Rows.{still as stillOf};
+ghost use Rattle.summary.specs.Summing.{Holds, Makes, Sums};
+
+fn records(start: usize) -> usize
+    ensures { λ r. ⌜ (r ≡ one start) × (r ≤ 1) ⌝ }
+{
+    if start == 0 { 0 } else { 1 }
+}
+
+// The sequence that retains the starting length: how many bytes its record has.
+fn still(start: usize, cur: &mut [u8]) -> usize
+    requires { ⌜ (start ≤ 32768) × (35848 ≤ length (now cur)) ⌝ }
+    ensures { λ r. ⌜ Holds (stillOf start) r (now (cur .exit)) ⌝ }
+{
+    let n = records(start);
+    let e = operational_transform::core::start();
+    let f = operational_transform::core::retain(e, start);
+    let g = operational_transform::core::finish(cur, n, f);
+    operational_transform::core::header(cur, g);
+    operational_transform::core::size(g)
+}
+
+// One revision more, in place of what it is composed with.
+fn step(rec: &[u8], cur: &mut [u8], next: &mut [u8]) -> Written
+    requires { ⌜ (recordFault (now cur) ≡ 0) × (recordFault (now rec) ≡ 0) × (targetOf (now cur) ≡ baseOf (now rec)) × (35848 ≤ length (now cur)) × (35848 ≤ length (now next)) ⌝ }
+    ensures { λ r. ⌜ Makes (composeOf (ops (now (cur .entry))) (ops (now (rec .entry)))) r (now (cur .exit)) ⌝ }
+{
+    match compose::core::composed(cur, rec, next) {
+        Written::Refused(x) => Written::Refused(x),
+        Written::Bytes(k) => {
+            operational_transform::core::copy(cur, 0, next, 0, k);
+            Written::Bytes(k)
+        }
+    }
+}
+
+// All revisions of a log that can be read: how many bytes the last result has.
+pub(crate) fn sum(
+    log: &[u8],
+    count: usize,
+    start: usize,
+    cur: &mut [u8],
+    next: &mut [u8],
+) -> Written
+    requires { ⌜ T (readable (now log)) × (count ≡ countOf (now log)) × (start ≡ startOf (now log)) × (start ≤ 32768) × (35848 ≤ length (now cur)) × (35848 ≤ length (now next)) ⌝ }
+    ensures { λ r. ⌜ Sums (now (log .entry)) r (now (cur .exit)) ⌝ }
+{
+    let mut size = still(start, cur);
+    let mut at = 4;
+    let mut k = 0;
+    while k < count {
+        let rec = &log[at..];
+        match step(rec, cur, next) {
+            Written::Refused(x) => return Written::Refused(x),
+            Written::Bytes(n) => {
+                size = n;
+            }
+        }
+        at += operation::core::size(rec);
+        k += 1;
+    }
+    Written::Bytes(size)
+}
