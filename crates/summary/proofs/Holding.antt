@@ -39,14 +39,14 @@ use Rattle.summary.specs.Summing.{Holds, Makes}
 -- ---- what is held
 
 -- a record within the limits has at most 8 + 3 * 1024 + 32768 bytes
-pub encode-small : (s : Seq) → T (fits s) → length (encode s) ≤ 35848
+encode-small : (s : Seq) → T (fits s) → length (encode s) ≤ 35848
 encode-small s h = let l = fits-limits s .0 h in omega (arith, encode-length s, l .records, l .text-bytes)
 
 front-length : (r o : List ℕ) → length r ≤ length (atFront r o)
 unfolding atFront
 front-length r o = omega (arith, length-append r (drop (length r) o))
 
-pub holds-front : (s : Seq) (k : ℕ) (o b : List ℕ) → Built s → T (fits s) → k ≡ length (encode s) → b ≡ atFront (encode s) o → Holds s k b
+holds-front : (s : Seq) (k : ℕ) (o b : List ℕ) → Built s → T (fits s) → k ≡ length (encode s) → b ≡ atFront (encode s) o → Holds s k b
 holds-front s k o b g h e p =
     record {
       is-built = g;
@@ -147,7 +147,7 @@ still-limits n h =
       targets = omega (arith, still-target n);
     }
 
-pub still-built : (n : ℕ) → Built (still n)
+still-built : (n : ℕ) → Built (still n)
 unfolding still
 still-built n = build-built (retain n ∷ [])
 

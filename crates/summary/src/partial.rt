@@ -12,13 +12,14 @@ ghost use Rattle.log.specs.Log.{countOf, startOf, readable};
 ghost use Rattle.session.specs.Rows.{still as stillOf};
 ghost use Rattle.summary.specs.Summing.{Holds, Makes, Sums};
 
+// How many operations retain the starting length: none for 0.
 fn records(start: usize) -> usize
     ensures { λ r. ⌜ (r ≡ one start) × (r ≤ 1) ⌝ }
 {
     if start == 0 { 0 } else { 1 }
 }
 
-// The sequence that retains the starting length: how many bytes its record has.
+// The sequence that retains the starting length is written: the number of bytes of its record.
 fn still(start: usize, cur: &mut [u8]) -> usize
     requires { ⌜ (start ≤ 32768) × (35848 ≤ length (now cur)) ⌝ }
     ensures { λ r. ⌜ Holds (stillOf start) r (now (cur .exit)) ⌝ }
@@ -31,7 +32,7 @@ fn still(start: usize, cur: &mut [u8]) -> usize
     operational_transform::core::size(g)
 }
 
-// One revision more, in place of what it is composed with.
+// One revision more: the result takes the place of what the revision is composed with.
 fn step(rec: &[u8], cur: &mut [u8], next: &mut [u8]) -> Written
     requires { ⌜ (recordFault (now cur) ≡ 0) × (recordFault (now rec) ≡ 0) × (targetOf (now cur) ≡ baseOf (now rec)) × (35848 ≤ length (now cur)) × (35848 ≤ length (now next)) ⌝ }
     ensures { λ r. ⌜ Makes (composeOf (ops (now (cur .entry))) (ops (now (rec .entry)))) r (now (cur .exit)) ⌝ }
@@ -45,7 +46,7 @@ fn step(rec: &[u8], cur: &mut [u8], next: &mut [u8]) -> Written
     }
 }
 
-// All revisions of a log that can be read: how many bytes the last result has.
+// All revisions of a log that can be read: the number of bytes of the last result.
 pub(crate) fn sum(
     log: &[u8],
     count: usize,
