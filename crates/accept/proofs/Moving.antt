@@ -31,12 +31,12 @@ use Rattle.accept.proofs.Passing.{within-fits, fits-size}
 
 -- ---- records end to end
 
-lie-first : (n : ℕ) (l : List ℕ) → (n ≡ 0 → ⊥) → Lie n l → recordFault l ≡ 0
+pub lie-first : (n : ℕ) (l : List ℕ) → (n ≡ 0 → ⊥) → Lie n l → recordFault l ≡ 0
 unfolding readableFrom
 lie-first zero l h r = absurd (h refl)
 lie-first (suc n) l h r = eqb→eq (recordFault l) 0 (both (eqb (recordFault l) 0) _ .0 (r .reads) .0)
 
-lie-rest : (n : ℕ) (l : List ℕ) → Lie (suc n) l → Lie n (drop (sizeOf l) l)
+pub lie-rest : (n : ℕ) (l : List ℕ) → Lie (suc n) l → Lie n (drop (sizeOf l) l)
 unfolding readableFrom
 lie-rest n l r = record { len = targetOf l; reads = both (eqb (baseOf l) (r .len)) _ .0 (both (eqb (recordFault l) 0) _ .0 (r .reads) .1) .1 }
 

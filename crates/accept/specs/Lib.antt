@@ -1,2 +1,3 @@
 -- accept
 pub mod Running
+pub mod Accepting

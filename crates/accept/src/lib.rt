@@ -1,2 +1,150 @@
 // An edit is accepted into a session's log.
+use log::core::Scan;
+use log::core::Scanned;
+use operation::Fact;
+use operation::Refusal;
+use transform::WrittenPair;
+ghost use mathlib.Core.Path.{_≡_};
+ghost use Prim.Native.Nat.{_+_, _-_, _^_, _≤_};
+ghost use lib.ListN.{length, take};
+ghost use Rattle.operation.specs.Record.{ops, recordFault};
+ghost use Rattle.transform.specs.Pairs.{pairOf};
+ghost use Rattle.log.specs.Log.{countOf, sizeOfLog};
+ghost use Rattle.log.specs.Scan.{Found};
+ghost use Rattle.session.specs.Session.{acceptCall};
+ghost use Rattle.session.specs.Session.{append as appended};
+ghost use Rattle.accept.specs.Running.{Holds};
+ghost use Rattle.accept.specs.Accepting.{Admitted, Accepts, MovedPast};
+
 mod run;
+
+// A record of `size` bytes behind the log's contents, and one revision more.
+fn append(log: &mut [u8], s: Scan, rec: &[u8], size: usize)
+    requires { ⌜ (s .count ≡ countOf (now log)) × (s .count ≤ 256) × (s .size ≡ sizeOfLog (now log)) × (s .size ≤ 2 ^ 50) × (size ≤ length (now rec)) × (s .size + size ≤ length (now log)) ⌝ }
+    ensures { λ _. ⌜ now (log .exit) ≡ appended (now (log .entry)) (take size (now (rec .entry))) ⌝ }
+{
+    operational_transform::core::copy(log, s.size, rec, 0, size);
+    operational_transform::core::put16(log, 0, s.count + 1);
+}
+
+// Against the newest revision the edit is appended as it is.
+fn newest(edit: &[u8], r: u64, log: &mut [u8], s: Scan, out: &mut [u8]) -> WrittenPair
+    requires { ⌜ Admitted (now edit) r (now log) s × (r ≡ countOf (now log)) ⌝ }
+    ensures { λ x. ⌜ Accepts (now (edit .entry)) r (now (log .entry)) (now (out .entry)) x (now (log .exit)) (now (out .exit)) ⌝ }
+{
+    let size = operation::core::size(edit);
+    if log.len() - s.size < size {
+        return WrittenPair::Refused(Refusal::Room);
+    }
+    append(log, s, edit, size);
+    WrittenPair::Bytes(size, 0)
+}
+
+// The edit's record at the front of a buffer.
+fn lay(cur: &mut [u8], edit: &[u8])
+    requires { ⌜ (recordFault (now edit) ≡ 0) × (35848 ≤ length (now cur)) ⌝ }
+    ensures { λ _. ⌜ Holds (ops (now (edit .entry))) (now (cur .exit)) ⌝ }
+{
+    let size = operation::core::size(edit);
+    operational_transform::core::copy(cur, 0, edit, 0, size);
+}
+
+// What came out of the run goes into the log, the counterparts to the output, if both have room.
+fn deliver(
+    edit: &[u8],
+    r: u64,
+    log: &mut [u8],
+    s: Scan,
+    n: usize,
+    out: &mut [u8],
+    cur: &mut [u8],
+    next: &mut [u8],
+    bytes: usize,
+) -> WrittenPair
+    requires { ⌜ Admitted (now edit) r (now log) s × (n ≡ countOf (now log) - r) × (35848 ≤ length (now cur)) × (35848 ≤ length (now next)) × MovedPast (now edit) r (now log) bytes (now cur) ⌝ }
+    ensures { λ x. ⌜ Accepts (now (edit .entry)) r (now (log .entry)) (now (out .entry)) x (now (log .exit)) (now (out .exit)) ⌝ }
+{
+    let size = operation::core::size(cur);
+    if log.len() - s.size < size {
+        return WrittenPair::Refused(Refusal::Room);
+    }
+    if out.len() < bytes {
+        return WrittenPair::Refused(Refusal::Room);
+    }
+    lay(cur, edit);
+    run::hand_out(log, s.at, n, cur, next, out);
+    append(log, s, cur, size);
+    WrittenPair::Bytes(size, bytes)
+}
+
+fn past(
+    edit: &[u8],
+    r: u64,
+    log: &mut [u8],
+    s: Scan,
+    n: usize,
+    out: &mut [u8],
+    cur: &mut [u8],
+    next: &mut [u8],
+) -> WrittenPair
+    requires { ⌜ Admitted (now edit) r (now log) s × (n ≡ countOf (now log) - r) × (35848 ≤ length (now cur)) × (35848 ≤ length (now next)) ⌝ }
+    ensures { λ x. ⌜ Accepts (now (edit .entry)) r (now (log .entry)) (now (out .entry)) x (now (log .exit)) (now (out .exit)) ⌝ }
+{
+    lay(cur, edit);
+    match run::rebase(log, s.at, n, cur, next) {
+        run::Run::Refused(x) => WrittenPair::Refused(x),
+        run::Run::Kept(bytes) => deliver(edit, r, log, s, n, out, cur, next, bytes),
+    }
+}
+
+// Past n revisions that came meanwhile. Only such an edit pays for the buffers.
+fn late(edit: &[u8], r: u64, log: &mut [u8], s: Scan, n: usize, out: &mut [u8]) -> WrittenPair
+    requires { ⌜ Admitted (now edit) r (now log) s × (n ≡ countOf (now log) - r) ⌝ }
+    ensures { λ x. ⌜ Accepts (now (edit .entry)) r (now (log .entry)) (now (out .entry)) x (now (log .exit)) (now (out .exit)) ⌝ }
+{
+    let mut cur = [0u8; 35848];
+    let mut next = [0u8; 35848];
+    past(edit, r, log, s, n, out, &mut cur, &mut next)
+}
+
+// Into a log that can be read.
+fn admit(edit: &[u8], r: u64, log: &mut [u8], s: Scan, out: &mut [u8]) -> WrittenPair
+    requires { ⌜ (recordFault (now edit) ≡ 0) × Found (now log) r s ⌝ }
+    ensures { λ x. ⌜ Accepts (now (edit .entry)) r (now (log .entry)) (now (out .entry)) x (now (log .exit)) (now (out .exit)) ⌝ }
+{
+    let count = s.count as u64;
+    if count < r {
+        return WrittenPair::Refused(Refusal::Revision);
+    }
+    let base = operation::core::base(edit);
+    if base != s.len {
+        return WrittenPair::Refused(Refusal::IncompatibleLengths);
+    }
+    if 256 <= s.count {
+        return WrittenPair::Refused(Refusal::Limit);
+    }
+    if r == count {
+        return newest(edit, r, log, s, out);
+    }
+    late(edit, r, log, s, (count - r) as usize, out)
+}
+
+fn checked(edit: &[u8], r: u64, log: &mut [u8], out: &mut [u8]) -> WrittenPair
+    requires { ⌜ recordFault (now edit) ≡ 0 ⌝ }
+    ensures { λ x. ⌜ Accepts (now (edit .entry)) r (now (log .entry)) (now (out .entry)) x (now (log .exit)) (now (out .exit)) ⌝ }
+{
+    match log::core::read(log, r) {
+        Scanned::Unreadable => WrittenPair::Refused(Refusal::Log),
+        Scanned::Of(s) => admit(edit, r, log, s, out),
+    }
+}
+
+// An edit that was written against revision r: how many bytes the log grew by, and how many the counterparts have.
+pub fn accept(edit: &[u8], r: u64, log: &mut [u8], out: &mut [u8]) -> WrittenPair
+    ensures { λ x. ⌜ (pairOf x ≡ acceptCall (now (edit .entry)) r (now (log .entry)) (now (out .entry)) .answer) × (now (log .exit) ≡ acceptCall (now (edit .entry)) r (now (log .entry)) (now (out .entry)) .outA) × (now (out .exit) ≡ acceptCall (now (edit .entry)) r (now (log .entry)) (now (out .entry)) .outB) ⌝ }
+{
+    match operation::check(edit) {
+        Fact::Refused(x) => WrittenPair::Refused(x),
+        Fact::Is(_) => checked(edit, r, log, out),
+    }
+}

@@ -59,7 +59,7 @@ over-front (x ∷ xs) [] h = absurd (not-suc-le-zero h)
 over-front (x ∷ xs) (y ∷ o) h = ap (λ r. x ∷ r) (over-front xs o (le-of-suc-le-suc h))
 
 -- and anywhere
-over-at : (p : ℕ) (xs o : List ℕ) → p + length xs ≤ length o → over p xs o ≡ take p o ++ xs ++ drop (p + length xs) o
+pub over-at : (p : ℕ) (xs o : List ℕ) → p + length xs ≤ length o → over p xs o ≡ take p o ++ xs ++ drop (p + length xs) o
 unfolding over atFront
 over-at zero xs o h = rw (zero-add (length xs)) (over-front xs o (omega arith))
 over-at (suc p) xs [] h = absurd (omega arith)

@@ -1,0 +1,44 @@
+-- From the edit in its buffer, past the revisions of the log, to the answer.
+use Prim.Native.Nat.{ℕ, _-_, _≤_}
+use native.Mathlib.Omega.{arith}
+use mathlib.Core.Path.{_≡_, refl, sym, ap, ap₂, _∙_, subst, subst₂}
+use mathlib.Core.List.{List}
+use lib.ListN.{length, drop}
+use Rattle.operation.specs.declared.Refusal.{Refusal}
+use Rattle.operation.specs.Record.{Seq, ops}
+use Rattle.transform.specs.declared.WrittenPair.the-variants as written
+use Rattle.log.specs.declared.core.Scan.{Scan}
+use Rattle.log.specs.Log.{encodeAll, countOf, editsIn, revisions}
+use Rattle.session.specs.Rows.{rebase}
+use Rattle.accept.specs.declared.run.Run.{Run}
+use Rattle.accept.specs.declared.run.Run.the-variants as outcome
+use Rattle.accept.specs.Running.{Holds, Rebased, Runs, Roomy, HandsOut}
+use Rattle.accept.specs.Accepting.{Admitted, MovedPast, Accepts}
+use Rattle.accept.proofs.Places.{edits-from}
+use Rattle.accept.proofs.Answering.{accepts-limit}
+
+pub holds-own : (e : Seq) (cur : List ℕ) → Holds e cur → Holds (ops cur) cur
+holds-own e cur h = subst (λ s. Holds s cur) (sym (h .edit)) h
+
+module _ (edit : List ℕ) (r : ℕ) (log : List ℕ) (s : Scan) (a : Admitted edit r log s) (n : ℕ) (e : n ≡ countOf log - r) (cur : List ℕ) (h : Holds (ops edit) cur) where
+  edits : editsIn n (drop (s .at) log) ≡ drop r (revisions log)
+  edits = edits-from log r s (a .found) (a .rev) n e
+
+  runs-edit : (x : Run) (cur′ : List ℕ) → Runs (ops cur) (editsIn n (drop (s .at) log)) x cur′ → Runs (ops edit) (drop r (revisions log)) x cur′
+  runs-edit x cur′ q = subst₂ (λ u vs. Runs u vs x cur′) (h .edit) edits q
+
+  pub past-moved : (x : Run) (cur′ : List ℕ) → Runs (ops cur) (editsIn n (drop (s .at) log)) x cur′ → (bytes : ℕ) → x ≡ outcome.Kept bytes → MovedPast edit r log bytes cur′
+  past-moved x cur′ q bytes p = record { moved = subst (λ y. Runs (ops edit) (drop r (revisions log)) y cur′) p (runs-edit x cur′ q) .runs }
+
+  pub past-stops : (x : Run) (cur′ : List ℕ) → Runs (ops cur) (editsIn n (drop (s .at) log)) x cur′ → (y : Refusal) → x ≡ outcome.Refused y → (out : List ℕ)
+      → Accepts edit r log out (written.Refused y) log out
+  past-stops x cur′ q y p out =
+      let (l, k) = subst (λ z. Runs (ops edit) (drop r (revisions log)) z cur′) p (runs-edit x cur′ q) .runs in
+      subst (λ z. Accepts edit r log out (written.Refused z) log out) (sym l) (accepts-limit edit r log out s a k)
+
+  pub roomy : (bytes : ℕ) (moved : List ℕ) → MovedPast edit r log bytes moved → (out : List ℕ) → bytes ≤ length out → Roomy (ops cur) (editsIn n (drop (s .at) log)) out
+  roomy bytes moved m out g =
+      subst₂ (λ u vs. Roomy u vs out) (sym (h .edit)) (sym edits) (record { kept = m .moved .kept; room = omega (arith, m .moved .bytes-are, g) })
+
+  pub hands : (out cur′ out′ : List ℕ) → HandsOut (ops cur) (editsIn n (drop (s .at) log)) out cur′ out′ → HandsOut (ops edit) (drop r (revisions log)) out cur′ out′
+  hands out cur′ out′ q = subst₂ (λ u vs. HandsOut u vs out cur′ out′) (h .edit) edits q

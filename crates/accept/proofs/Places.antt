@@ -1,0 +1,67 @@
+-- The revisions behind revision r of a log that can be read.
+use Prim.Native.Nat.{ℕ, zero, suc, _+_, _-_, _*_, _^_, _≤_}
+use native.Mathlib.Nat.{sub-zero}
+use native.Mathlib.Omega.{arith}
+use mathlib.Core.Path.{_≡_, refl, sym, ap, ap₂, _∙_, subst, subst₂}
+use mathlib.Core.List.{List}
+use lib.Dec.{T}
+use lib.ListN.{length, drop, length-drop}
+use lib.Seq.{drop-drop}
+use Rattle.operation.specs.Layout.{sizeOf, targetOf}
+use Rattle.operation.specs.Record.{ops}
+use Rattle.operation.proofs.Faults.{limits, faultless}
+use Rattle.log.specs.declared.core.Scan.{Scan}
+use Rattle.log.specs.Log.{countOf, startOf, recordsStart, sizesIn, editsIn, readableFrom, readable, placeOf, sizeOfLog, revisions}
+use Rattle.log.specs.Scan.{Found}
+use Rattle.log.proofs.Scanning.{reads, drop-place, place-inside}
+use Rattle.accept.specs.Running.{Lie}
+use Rattle.accept.proofs.Moving.{lie-first, lie-rest}
+
+-- ---- records that stand end to end
+
+small : (n : ℕ) (m : List ℕ) → Lie n m → sizesIn n m ≤ 35848 * n
+small zero m h = omega arith
+small (suc n) m h =
+    let f = limits m .0 (faultless m .0 (lie-first (suc n) m (λ z. absurd (omega (arith, z))) h) .in-limits) in
+    omega (arith, f .records, f .text-bytes, small n (drop (sizeOf m) m) (lie-rest n m h))
+
+lie-behind : (r n : ℕ) (m : List ℕ) → r ≤ n → Lie n m → Lie (n - r) (drop (sizesIn r m) m)
+lie-behind zero n m h l = subst (λ k. Lie k m) (sym (sub-zero n)) l
+lie-behind (suc r) zero m h l = absurd (omega arith)
+lie-behind (suc r) (suc n) m h l =
+    subst₂ Lie (omega arith) (drop-drop (sizesIn r (drop (sizeOf m) m)) (sizeOf m) m) (lie-behind r n (drop (sizeOf m) m) (omega arith) (lie-rest n m l))
+
+edits-behind : (r n : ℕ) (m : List ℕ) → r ≤ n → editsIn (n - r) (drop (sizesIn r m) m) ≡ drop r (editsIn n m)
+unfolding editsIn
+edits-behind zero n m h = ap (λ k. editsIn k m) (sub-zero n)
+edits-behind (suc r) zero m h = absurd (omega arith)
+edits-behind (suc r) (suc n) m h =
+    let e : suc n - suc r ≡ n - r = omega arith in
+    ap₂ editsIn e (sym (drop-drop (sizesIn r (drop (sizeOf m) m)) (sizeOf m) m)) ∙ edits-behind r n (drop (sizeOf m) m) (omega arith)
+
+-- ---- a log that can be read
+
+module _ (l : List ℕ) (r : ℕ) (s : Scan) (f : Found l r s) where
+  all-lie : Lie (countOf l) (drop recordsStart l)
+  all-lie = record { len = startOf l; reads = reads l (f .reads) .records }
+
+  pub log-small : s .size ≤ 2 ^ 50
+  unfolding sizeOfLog placeOf
+  log-small = omega (arith, f .size, f .few, f .count, small (countOf l) (drop recordsStart l) all-lie)
+
+  module _ (h : r ≤ countOf l) (n : ℕ) (e : n ≡ countOf l - r) where
+    from-is : drop (s .at) l ≡ drop (sizesIn r (drop recordsStart l)) (drop recordsStart l)
+    from-is = ap (λ k. drop k l) (f .place h) ∙ drop-place r l
+
+    pub from-inside : s .at ≤ length l
+    from-inside = omega (arith, f .place h, place-inside l (f .reads) r h)
+
+    pub lie-from : Lie n (drop (s .at) l)
+    lie-from = subst₂ Lie (sym e) (sym from-is) (lie-behind r (countOf l) (drop recordsStart l) h all-lie)
+
+    pub edits-from : editsIn n (drop (s .at) l) ≡ drop r (revisions l)
+    unfolding revisions
+    edits-from = ap₂ editsIn e from-is ∙ edits-behind r (countOf l) (drop recordsStart l) h
+
+    pub few-from : n ≤ 256
+    few-from = omega (arith, e, f .few, f .count)

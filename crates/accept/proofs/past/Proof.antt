@@ -1,0 +1,86 @@
+use Rattle.accept.proofs.Delivering.{holds-own, past-moved, past-stops}
+use Rattle.accept.proofs.Places.{from-inside, few-from, lie-from}
+use borrow.Author.Needs.{needs}
+use Rattle.accept.proofs.past.Statement.{statement}
+use Rattle.accept.proofs.past.Tie as tie
+
+lay-requires : tie.Need-lay-requires
+lay-requires c κs = search needs
+
+rebase-requires : tie.Need-rebase-requires
+rebase-requires c κs =
+    let start = c .before .before .before .before .before .before .before .before .before .before .before .before in
+    let a = start .pre .0 in
+    let f = a .found in (
+      from-inside _ _ _ f (a .rev) _ (start .pre .1),
+      few-from _ _ _ f (a .rev) _ (start .pre .1),
+      lie-from _ _ _ f (a .rev) _ (start .pre .1),
+      holds-own _ _ (c .before .before .before .before .before .lay .ensures),
+      search needs,
+      search needs,
+    )
+
+enum-known-x : tie.Need-enum-known-x
+enum-known-x c = search needs
+
+enum-known-bytes : tie.Need-enum-known-bytes
+enum-known-bytes c = search needs
+
+deliver-requires : tie.Need-deliver-requires
+deliver-requires c κs =
+    let start = c .before .before .before .before .before .before .before .before .before .before .before .before .before .before .before .before .before .before .before .before .before .before .before .before in
+    let a = start .pre .0 in (
+      a,
+      start .pre .1,
+      search needs,
+      search needs,
+      past-moved _ _ _ _ a _ (start .pre .1) _ (c .before .before .before .before .before .before .before .before .before .before .before .before .before .before .before .before .before .lay .ensures) _ _ (c .before .before .before .before .before .before .before .before .before .before .before .rebase .ensures) _ (c .before .before .before .before .before .bytes .given .1),
+    )
+
+same-length : tie.Need-same-length
+same-length c = search needs
+
+same-length-2 : tie.Need-same-length-2
+same-length-2 c = search needs
+
+same-length-3 : tie.Need-same-length-3
+same-length-3 c = search needs
+
+returns : tie.Need-returns
+returns c =
+    let start = c .before .before .before .before .before .before .before .before .before .before .before .before .before .before .before .before .before .before .before .before in
+    past-stops _ _ _ _ (start .pre .0) _ (start .pre .1) _ (c .before .before .before .before .before .before .before .before .before .before .before .before .before .lay .ensures) _ _ (c .before .before .before .before .before .before .before .rebase .ensures) _ (c .before .x .given .1) _
+
+same-length-4 : tie.Need-same-length-4
+same-length-4 c = search needs
+
+same-length-5 : tie.Need-same-length-5
+same-length-5 c = search needs
+
+same-length-6 : tie.Need-same-length-6
+same-length-6 c = search needs
+
+same-length-7 : tie.Need-same-length-7
+same-length-7 c = search needs
+
+returns-2 : tie.Need-returns-2
+returns-2 c = search needs
+
+pub past-spec : {M : Type 1} → statement M
+past-spec =
+    tie.close
+    (tie.spec
+    lay-requires
+    rebase-requires
+    enum-known-x
+    enum-known-bytes
+    deliver-requires
+    same-length
+    same-length-2
+    same-length-3
+    returns
+    same-length-4
+    same-length-5
+    same-length-6
+    same-length-7
+    returns-2)
