@@ -1,10 +1,10 @@
 -- What the program writes.
 use Prim.Native.Nat.{ℕ, zero, suc, _+_, _-_, _/_, _%_, _≤_, _<_}
 use native.Mathlib.Omega.{arith}
-use mathlib.Core.Path.{_≡_, sym, ap, ap₂, _∙_}
+use mathlib.Core.Path.{_≡_, refl, sym, ap, _∙_}
 use mathlib.Core.List.{List, [], _∷_, _++_}
 use lib.Dec.{T, leb}
-use lib.ListN.{length, take, drop, length-take}
+use lib.ListN.{length, take, drop, length-append}
 use borrow.Author.Tests.{le-leb, lt-leb, lt-ltb, le-ltb}
 use Rattle.utf8.proofs.Tests.{known}
 use Rattle.operation.specs.declared.Refusal.{Refusal}
@@ -14,8 +14,7 @@ use Rattle.operational_transform.specs.declared.Written.{Written}
 use Rattle.operational_transform.specs.declared.Written.the-variants as written
 use Rattle.operational_transform.specs.Emit.{over, writtenOf}
 use Rattle.operational_transform.specs.Output.{atFront, Out, writing}
-use Rattle.operational_transform.proofs.Outputs.{atFront-take}
-use Rattle.operational_transform.proofs.Over.{over-join, over-front}
+use Rattle.operational_transform.proofs.Over.{length-over, over-join, over-front}
 use Rattle.log.specs.declared.core.Scan.{Scan}
 use Rattle.log.specs.declared.core.Scanned.{Scanned}
 use Rattle.log.specs.declared.core.Scanned.the-variants as scanned
@@ -23,18 +22,18 @@ use Rattle.log.specs.Log.{readable, sizeOfLog}
 use Rattle.log.specs.Scan.{Found, Scans, ScansTo}
 use Rattle.log.proofs.Scanning.{to-end}
 use Rattle.session.specs.Session.{played, playFault, playCall}
-use Rattle.player.specs.Program.{complaint, textIn, programFault, program}
+use Rattle.player.specs.Program.{complaint, textIn, programFault, program, Writes}
 
 -- ---- a complaint
 
 abbrev prefix : List ℕ
 prefix = 0x72 ∷ 0x65 ∷ 0x66 ∷ 0x75 ∷ 0x73 ∷ 0x65 ∷ 0x64 ∷ 0x20 ∷ []
 
-stands : (w o c : List ℕ) → length w ≤ length o → c ≡ over 0 w o → take (length w) c ≡ w
-stands w o c h e = ap (take (length w)) (e ∙ over-front w o h) ∙ atFront-take w o
+stands : (w o c : List ℕ) → length w ≤ length o → c ≡ over 0 w o → Writes w o (length w) c
+stands w o c h e = record { size = refl; inside = omega (arith, ap length e, length-over 0 w o); out = e ∙ over-front w o h }
 
 module _ (o c₁ c₂ c₃ : List ℕ) (h : length o ≡ 65536) (k n : ℕ) (e : k ≡ n) (p₁ : c₁ ≡ over 0 prefix o) where
-  pub complain-short : k < 10 → c₂ ≡ over 8 ((48 + k) ∷ []) c₁ → c₃ ≡ over 9 (10 ∷ []) c₂ → take 10 c₃ ≡ complaint n
+  pub complain-short : k < 10 → c₂ ≡ over 8 ((48 + k) ∷ []) c₁ → c₃ ≡ over 9 (10 ∷ []) c₂ → Writes (complaint n) o 10 c₃
   unfolding complaint
   complain-short l p₂ p₃ =
       let w = prefix ++ (48 + k) ∷ 10 ∷ [] in
@@ -42,9 +41,9 @@ module _ (o c₁ c₂ c₃ : List ℕ) (h : length o ≡ 65536) (k n : ℕ) (e :
       p₃
       ∙ ap (over 9 (10 ∷ [])) (p₂ ∙ ap (over 8 ((48 + k) ∷ [])) p₁ ∙ over-join 0 prefix ((48 + k) ∷ []) o)
       ∙ over-join 0 (prefix ++ (48 + k) ∷ []) (10 ∷ []) o in
-      stands w o c₃ (omega arith) z ∙ rw (← e, lt-ltb k 10 l)
+      rw (← e, lt-ltb k 10 l) (stands w o c₃ (omega arith) z)
 
-  pub complain-long : (c₄ : List ℕ) → 10 ≤ k → c₂ ≡ over 8 ((48 + k / 10) ∷ []) c₁ → c₃ ≡ over 9 ((48 + k % 10) ∷ []) c₂ → c₄ ≡ over 10 (10 ∷ []) c₃ → take 11 c₄ ≡ complaint n
+  pub complain-long : (c₄ : List ℕ) → 10 ≤ k → c₂ ≡ over 8 ((48 + k / 10) ∷ []) c₁ → c₃ ≡ over 9 ((48 + k % 10) ∷ []) c₂ → c₄ ≡ over 10 (10 ∷ []) c₃ → Writes (complaint n) o 11 c₄
   unfolding complaint
   complain-long c₄ l p₂ p₃ p₄ =
       let x = (48 + k / 10) ∷ [] in
@@ -54,20 +53,20 @@ module _ (o c₁ c₂ c₃ : List ℕ) (h : length o ≡ 65536) (k n : ℕ) (e :
       p₄
       ∙ ap (over 10 (10 ∷ [])) (p₃ ∙ ap (over 9 y) (p₂ ∙ ap (over 8 x) p₁ ∙ over-join 0 prefix x o) ∙ over-join 0 (prefix ++ x) y o)
       ∙ over-join 0 (prefix ++ x ++ y) (10 ∷ []) o in
-      stands w o c₄ (omega arith) z ∙ rw (← e, le-ltb k 10 l)
+      rw (← e, le-ltb k 10 l) (stands w o c₄ (omega arith) z)
 
 -- ---- the program
 
-module _ (l c : List ℕ) (r : ℕ) where
-  by-fault : (n : ℕ) → programFault l ≡ suc n → take r c ≡ complaint (suc n) → take r c ≡ program l
+module _ (l o c : List ℕ) (r : ℕ) where
+  by-fault : (n : ℕ) → programFault l ≡ suc n → Writes (complaint (suc n)) o r c → Writes (program l) o r c
   unfolding program
-  by-fault n e p = p ∙ rw e
+  by-fault n e p = rw e p
 
-  pub program-long : 65536 < length l → take r c ≡ complaint 10 → take r c ≡ program l
+  pub program-long : 65536 < length l → Writes (complaint 10) o r c → Writes (program l) o r c
   unfolding programFault
   program-long h = by-fault 9 (rw (lt-leb (length l) 65536 h))
 
-  pub program-unreadable : length l ≤ 65536 → (x : Scanned) → Scans l 0 x → x ≡ scanned.Unreadable → take r c ≡ complaint 6 → take r c ≡ program l
+  pub program-unreadable : length l ≤ 65536 → (x : Scanned) → Scans l 0 x → x ≡ scanned.Unreadable → Writes (complaint 6) o r c → Writes (program l) o r c
   unfolding programFault
   program-unreadable h x px e = let z : ScansTo l 0 scanned.Unreadable = rw e at (px .scans) in by-fault 5 (rw (le-leb (length l) 65536 h, z))
 
@@ -111,26 +110,21 @@ module _ (l : List ℕ) (size : ℕ) (reads : T (readable l)) (es : size ≡ siz
     abbrev outcome : ℕ → Out
     outcome k = settle k (λ j. record { answer = refused j; out = o }) (record { answer = gives (length (played l text) ∷ []); out = atFront (played l text) o })
 
-    pub program-refused : (y : Refusal) → w ≡ written.Refused y → (r : ℕ) (c : List ℕ) → take r c ≡ complaint (number y) → take r c ≡ program l
-    unfolding writing
-    program-refused y q r c p = go faults fault-is (ap writtenOf (sym q) ∙ pw ∙ ap (λ z. z .answer) same)
-      where
-        go : (k : ℕ) → programFault l ≡ k → refused (number y) ≡ outcome k .answer → take r c ≡ program l
-        go zero f e = absurd (let z : _≡_ {A = ℕ} 0 1 = cc e in omega arith)
-        go (suc k) f e = let z : number y ≡ suc k = cc e in by-fault l c r k f (p ∙ ap complaint z)
-
-    module _ (n : ℕ) (q : w ≡ written.Bytes n) (c : List ℕ) (p : c ≡ playCall l (take (length l - size) (drop size l)) (length a) (length b) o .out) where
-      wrote : (programFault l ≡ 0) × (n ≡ length (played l text)) × (take n c ≡ played l text)
+    module _ (o₁ : List ℕ) (p : o₁ ≡ playCall l (take (length l - size) (drop size l)) (length a) (length b) o .out) where
+      pub program-refused : (y : Refusal) → w ≡ written.Refused y → (r : ℕ) (c : List ℕ) → Writes (complaint (number y)) o₁ r c → Writes (program l) o r c
       unfolding writing
-      wrote = go faults fault-is (ap writtenOf (sym q) ∙ pw ∙ ap (λ z. z .answer) same) (p ∙ ap (λ z. z .out) same)
+      program-refused y q r c v = go faults fault-is (ap writtenOf (sym q) ∙ pw ∙ ap (λ z. z .answer) same) (p ∙ ap (λ z. z .out) same)
         where
-          go : (k : ℕ) → programFault l ≡ k → gives (n ∷ []) ≡ outcome k .answer → c ≡ outcome k .out → (programFault l ≡ 0) × (n ≡ length (played l text)) × (take n c ≡ played l text)
-          go zero f e g = let z : n ≡ length (played l text) = cc e in (f, z, ap₂ take z g ∙ atFront-take (played l text) o)
+          go : (k : ℕ) → programFault l ≡ k → refused (number y) ≡ outcome k .answer → o₁ ≡ outcome k .out → Writes (program l) o r c
+          go zero f e g = absurd (let z : _≡_ {A = ℕ} 0 1 = cc e in omega arith)
+          go (suc k) f e g = let z : number y ≡ suc k = cc e in by-fault l o c r k f (rw (z, g) at v)
+
+      pub program-written : (n : ℕ) → w ≡ written.Bytes n → Writes (program l) o n o₁
+      unfolding writing program atFront
+      program-written n q = go faults fault-is (ap writtenOf (sym q) ∙ pw ∙ ap (λ z. z .answer) same) (p ∙ ap (λ z. z .out) same)
+        where
+          go : (k : ℕ) → programFault l ≡ k → gives (n ∷ []) ≡ outcome k .answer → o₁ ≡ outcome k .out → Writes (program l) o n o₁
+          go zero f e g =
+              let z : n ≡ length (played l text) = cc e in
+              rw f (record { size = z; inside = omega (arith, ap length g, length-append (played l text) (drop (length (played l text)) o)); out = g })
           go (suc k) f e g = absurd (let z : _≡_ {A = ℕ} 0 1 = cc e in omega arith)
-
-      pub program-within : n ≤ length c
-      program-within = omega (arith, wrote .1, ap length (wrote .2), length-take n c)
-
-      pub program-written : take n c ≡ program l
-      unfolding program
-      program-written = wrote .2 ∙ sym (ap (λ k. settle k complaint (played l text)) (wrote .0))

@@ -1,10 +1,12 @@
 -- The program `play`: what it writes for its standard input. Document 01, "The program `play` ..".
-use Prim.Native.Nat.{ℕ, _+_, _/_, _%_}
+use Prim.Native.Nat.{ℕ, _+_, _/_, _%_, _≤_}
+use mathlib.Core.Path.{_≡_}
 use mathlib.Core.Bool.{cond}
 use mathlib.Core.List.{List, [], _∷_, _++_}
 use lib.ListN.{length, drop}
 use lib.Dec.{leb, ltb}
 use Rattle.operation.specs.Answer.{needs, first, settle}
+use Rattle.operational_transform.specs.Output.{atFront}
 use Rattle.log.specs.Log.{readable, sizeOfLog}
 use Rattle.session.specs.Session.{playFault, played}
 
@@ -34,3 +36,9 @@ programFault input =
 unfoldable pub program : List ℕ → List ℕ
 unfolding programFault complaint played textIn
 program input = settle (programFault input) complaint (played input (textIn input))
+
+-- the bytes w are written to the front of the output o, which is o′ afterwards, and n tells how many they are
+pub record Writes (w o : List ℕ) (n : ℕ) (o′ : List ℕ) : Type 0 where
+  pub size : n ≡ length w
+  pub inside : n ≤ length o′
+  pub out : o′ ≡ atFront w o

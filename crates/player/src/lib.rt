@@ -5,10 +5,10 @@ use operational_transform::Written;
 ghost use mathlib.Core.Path.{_≡_};
 ghost use Prim.Native.Nat.{_≤_};
 ghost use lib.Dec.{T};
-ghost use lib.ListN.{length, take};
+ghost use lib.ListN.{length};
 ghost use Rattle.operation.specs.Answer.{number};
 ghost use Rattle.log.specs.Log.{readable, sizeOfLog};
-ghost use Rattle.player.specs.Program.{complaint, program};
+ghost use Rattle.player.specs.Program.{complaint, program, Writes};
 
 // The input comes from this descriptor. One byte more than the limit is asked for, so that longer input is seen.
 pub fn serve(fd: i32) {
@@ -25,10 +25,9 @@ fn space() -> [u8; 65537]
     [0; 65537]
 }
 
-// From input to output: how many bytes of the output are written. The program lends it 65,536.
-pub fn run(input: &[u8], out: &mut [u8]) -> usize
-    requires { ⌜ length (now out) ≡ 65536 ⌝ }
-    ensures { λ n. ⌜ (n ≤ length (now (out .exit))) × (take n (now (out .exit)) ≡ program (now (input .entry))) ⌝ }
+// From input to output: how many bytes of the output are written.
+pub fn run(input: &[u8], out: &mut [u8; 65536]) -> usize
+    ensures { λ n. ⌜ Writes (program (now (input .entry))) (now (out .entry)) n (now (out .exit)) ⌝ }
 {
     if 65536 < input.len() {
         return complain(out, Refusal::Room);
@@ -42,7 +41,7 @@ pub fn run(input: &[u8], out: &mut [u8]) -> usize
 // The log, and behind its `size` bytes the text.
 fn answer(input: &[u8], size: usize, out: &mut [u8]) -> usize
     requires { ⌜ (length (now input) ≤ 65536) × T (readable (now input)) × (size ≡ sizeOfLog (now input)) × (size ≤ length (now input)) × (length (now out) ≡ 65536) ⌝ }
-    ensures { λ n. ⌜ (n ≤ length (now (out .exit))) × (take n (now (out .exit)) ≡ program (now (input .entry))) ⌝ }
+    ensures { λ n. ⌜ Writes (program (now (input .entry))) (now (out .entry)) n (now (out .exit)) ⌝ }
 {
     let mut a = buffer();
     let mut b = buffer();
@@ -61,7 +60,7 @@ fn buffer() -> [u8; 65536]
 // `refused `, the number and a line end.
 fn complain(out: &mut [u8], x: Refusal) -> usize
     requires { ⌜ length (now out) ≡ 65536 ⌝ }
-    ensures { λ n. ⌜ (n ≤ length (now (out .exit))) × (take n (now (out .exit)) ≡ complaint (number x)) ⌝ }
+    ensures { λ n. ⌜ Writes (complaint (number x)) (now (out .entry)) n (now (out .exit)) ⌝ }
 {
     let k = number_of(x);
     operational_transform::core::copy(out, 0, b"refused ", 0, 8);

@@ -1,4 +1,4 @@
-use Rattle.player.proofs.Programs.{program-within, program-written, program-refused}
+use Rattle.player.proofs.Programs.{program-written, program-refused}
 use borrow.Author.Needs.{needs}
 use Rattle.player.proofs.answer.Statement.{statement}
 use Rattle.player.proofs.answer.Tie as tie
@@ -40,13 +40,13 @@ same-length : tie.Need-same-length
 same-length c = search needs
 
 returns : tie.Need-returns
-returns c = (search program-within, search program-written)
+returns c = search program-written
 
 same-length-2 : tie.Need-same-length-2
 same-length-2 c = search needs
 
 returns-2 : tie.Need-returns-2
-returns-2 c = (search needs, search program-refused)
+returns-2 c = search program-refused
 
 pub answer-spec : {M : Type 1} → statement M
 answer-spec =

@@ -25,7 +25,7 @@ same-length : tie.Need-same-length
 same-length c = search needs
 
 returns : tie.Need-returns
-returns c = (search needs, search complain-short)
+returns c = search complain-short
 
 add-put-2 : tie.Need-add-put-2
 add-put-2 c = search needs
@@ -46,7 +46,7 @@ same-length-2 : tie.Need-same-length-2
 same-length-2 c = search needs
 
 returns-2 : tie.Need-returns-2
-returns-2 c = (search needs, search complain-long)
+returns-2 c = search complain-long
 
 pub complain-spec : {M : Type 1} → statement M
 complain-spec =

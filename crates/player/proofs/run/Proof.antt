@@ -6,11 +6,8 @@ use Rattle.player.proofs.run.Tie as tie
 complain-requires : tie.Need-complain-requires
 complain-requires c κs = search needs
 
-same-length : tie.Need-same-length
-same-length c = search needs
-
 returns : tie.Need-returns
-returns c = (search needs, search program-long)
+returns c = search program-long
 
 read-requires : tie.Need-read-requires
 read-requires c κs = search needs
@@ -24,17 +21,11 @@ enum-told c = search needs
 complain-requires-2 : tie.Need-complain-requires-2
 complain-requires-2 c κs = search needs
 
-same-length-2 : tie.Need-same-length-2
-same-length-2 c = search needs
-
 returns-2 : tie.Need-returns-2
-returns-2 c = (search needs, search program-unreadable)
+returns-2 c = search program-unreadable
 
 answer-requires : tie.Need-answer-requires
 answer-requires c κs = (search needs, search found-reads, search found-size, search found-inside, search needs)
-
-same-length-3 : tie.Need-same-length-3
-same-length-3 c = search needs
 
 returns-3 : tie.Need-returns-3
 returns-3 c = search needs
@@ -44,14 +35,11 @@ run-spec =
     tie.close
     (tie.spec
     complain-requires
-    same-length
     returns
     read-requires
     enum-known-scan
     enum-told
     complain-requires-2
-    same-length-2
     returns-2
     answer-requires
-    same-length-3
     returns-3)

@@ -21,9 +21,6 @@ array-share-prefix-input c = search needs
 slice-aggregate-run : tie.Need-slice-aggregate-run
 slice-aggregate-run c = search needs
 
-slice-aggregate-run-2 : tie.Need-slice-aggregate-run-2
-slice-aggregate-run-2 c = search needs
-
 run-requires : tie.Need-run-requires
 run-requires c κs = search needs
 
@@ -49,7 +46,6 @@ serve-spec =
     buffer-requires
     array-share-prefix-input
     slice-aggregate-run
-    slice-aggregate-run-2
     run-requires
     array-share-prefix-out
     slice-aggregate-write-all
