@@ -11,6 +11,7 @@ ghost use Rattle.operation.specs.Record.{recordFault};
 ghost use Rattle.operational_transform.specs.Emit.{writtenOf};
 ghost use Rattle.operational_transform.specs.Calls.{applyCall};
 
+pub mod core;
 mod steps;
 
 // The text after the edit: retain copies, delete skips, insert writes.

@@ -1,0 +1,4 @@
+-- playback
+pub mod Rooms
+pub mod Stages
+pub mod Answers

@@ -1,0 +1,2 @@
+-- playback
+pub mod Stages

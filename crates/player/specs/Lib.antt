@@ -1,0 +1,2 @@
+-- player
+pub mod Program
