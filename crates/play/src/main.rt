@@ -1,4 +1,4 @@
 // Reads standard input: a log, then a text. Writes the text after all revisions, or `refused ` and a number.
 fn main() {
-    player::serve(0);
+    player::core::serve(0);
 }

@@ -10,20 +10,7 @@ ghost use Rattle.operation.specs.Answer.{number};
 ghost use Rattle.log.specs.Log.{readable, sizeOfLog};
 ghost use Rattle.player.specs.Program.{complaint, program, Writes};
 
-// The input comes from this descriptor. One byte more than the limit is asked for, so that longer input is seen.
-pub fn serve(fd: i32) {
-    let mut input = space();
-    let n = io::read_full(fd, &mut input);
-    let mut out = buffer();
-    let len = run(&input[..n], &mut out);
-    io::write_all(1, &out[..len]);
-}
-
-fn space() -> [u8; 65537]
-    ensures { λ r. ⌜ 65537 ≡ length r ⌝ }
-{
-    [0; 65537]
-}
+pub mod core;
 
 // From input to output: how many bytes of the output are written.
 pub fn run(input: &[u8], out: &mut [u8; 65536]) -> usize
@@ -51,7 +38,7 @@ fn answer(input: &[u8], size: usize, out: &mut [u8]) -> usize
     }
 }
 
-fn buffer() -> [u8; 65536]
+pub(crate) fn buffer() -> [u8; 65536]
     ensures { λ r. ⌜ 65536 ≡ length r ⌝ }
 {
     [0; 65536]

@@ -1,7 +1,7 @@
 use Rattle.playback.proofs.Stages.{as-long}
 use borrow.Author.Needs.{needs}
-use Rattle.player.proofs.serve.Statement.{statement}
-use Rattle.player.proofs.serve.Tie as tie
+use Rattle.player.proofs.core.serve.Statement.{statement}
+use Rattle.player.proofs.core.serve.Tie as tie
 
 space-requires : tie.Need-space-requires
 space-requires c κs = search needs
