@@ -15,6 +15,7 @@ use Rattle.operation.specs.declared.Refusal.the-variants.{Limit}
 use Rattle.operation.specs.Layout.{sizeOf, baseOf, targetOf}
 use Rattle.operation.specs.Record.{Seq, encode, fits, ops, recordFault}
 use Rattle.operation.proofs.Faults.{limits, faultless}
+use Rattle.operation.proofs.Records.{encode-small}
 use Rattle.operational_transform.specs.Transform.{Sides, transform}
 use Rattle.operational_transform.specs.Emit.{within}
 use Rattle.operational_transform.proofs.Delivering.{sized-fits}
@@ -22,12 +23,12 @@ use Rattle.transform.specs.declared.core.Pair.{Pair}
 use Rattle.transform.specs.Pairs.{SizedBoth}
 use Rattle.log.specs.Log.{encodeAll, editsIn, readableFrom}
 use Rattle.log.proofs.Logs.{encodeAll-append}
-use Rattle.log.proofs.Scanning.{to-end}
+use Rattle.log.proofs.Scanning.{to-end, edits-length}
 use Rattle.session.specs.Rows.{rule, Moved, rebase}
 use Rattle.accept.specs.declared.run.Spot.{Spot}
 use Rattle.accept.specs.declared.run.Run.the-variants as outcome
 use Rattle.accept.specs.Running.{Lie, Holds, Fit, GoesOn, Runs}
-use Rattle.accept.proofs.Passing.{within-fits, fits-size}
+use Rattle.accept.proofs.Passing.{within-fits}
 
 -- ---- records end to end
 
@@ -39,11 +40,6 @@ lie-first (suc n) l h r = eqb→eq (recordFault l) 0 (both (eqb (recordFault l) 
 pub lie-rest : (n : ℕ) (l : List ℕ) → Lie (suc n) l → Lie n (drop (sizeOf l) l)
 unfolding readableFrom
 lie-rest n l r = record { len = targetOf l; reads = both (eqb (baseOf l) (r .len)) _ .0 (both (eqb (recordFault l) 0) _ .0 (r .reads) .1) .1 }
-
-edits-length : (n : ℕ) (l : List ℕ) → length (editsIn n l) ≡ n
-unfolding editsIn
-edits-length zero l = refl
-edits-length (suc n) l = ap suc (edits-length n (drop (sizeOf l) l))
 
 -- ---- what was moved past already
 abbrev pub behind : List Seq → Moved → Moved
@@ -145,7 +141,7 @@ module _ (e : Seq) (l : List ℕ) (from n left : ℕ) (spot : Spot) (cur : List 
               ∙ (λ i. record { edit = m .edit; counterparts = sym (append-assoc (g .done) (s .right ∷ []) (m .counterparts)) i; kept = k i })
               ∙ ap (behind (g .done ++ (s .right ∷ []))) same;
           bytes-are = o .bytes-are ∙ ap (λ b. b + length (encode (s .right))) (g .bytes-are) ∙ sym (ap length more ∙ length-append (encodeAll (g .done)) (encode (s .right)));
-          small = simp length-append (omega (arith, g .small, o .bytes-are, fits-size (s .right) fr));
+          small = simp length-append (omega (arith, g .small, o .bytes-are, encode-small (s .right) fr));
         }
 
     pub moving-done : (f : Fit s) (to : Spot) (cur′ : List ℕ) (o : GoesOn s rec spot to cur′) → moving-next f to cur′ o .done ≡ g .done ++ (s .right ∷ [])

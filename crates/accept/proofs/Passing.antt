@@ -14,7 +14,7 @@ use Rattle.utf8.proofs.Tests.{known, holds}
 use Rattle.operation.specs.Layout.{sizeOf}
 use Rattle.operation.specs.Record.{Seq, encode, fits}
 use Rattle.operation.proofs.Sequences.{Good, fits-limits}
-use Rattle.operation.proofs.Records.{encode-length, size-encode, ops-encode, fault-encode}
+use Rattle.operation.proofs.Records.{encode-small, size-encode, ops-encode, fault-encode}
 use Rattle.operational_transform.specs.declared.core.Emitter.{Emitter}
 use Rattle.operational_transform.specs.Output.{atFront}
 use Rattle.operational_transform.specs.Transform.{Sides, keepBoth, transform}
@@ -29,12 +29,8 @@ use Rattle.log.proofs.Scanning.{to-end}
 use Rattle.accept.specs.declared.run.Spot.{Spot}
 use Rattle.accept.specs.Running.{Holds, Fit, Passes, GoesOn}
 
--- a record that keeps the limits has at most 35,848 bytes
 pub within-fits : (s : Seq) (e : Emitter) → Sizes s e → within e ≡ true → T (fits s)
 within-fits s e d w = known (sym (sized-fits s e d) ∙ w)
-
-pub fits-size : (s : Seq) → T (fits s) → length (encode s) ≤ 35848
-fits-size s f = let l = fits-limits s .0 f in omega (arith, encode-length s, l .records, l .text-bytes)
 
 -- a record at the front of a buffer
 pub front-holds : (s : Seq) (buffer : List ℕ) → Good s → Holds s (atFront (encode s) buffer)
@@ -45,7 +41,7 @@ front-holds s buffer g =
 
 module _ (x y : Seq) (p : Pair) (d : SizedBoth (transform order x y) p) (we : within (p .e) ≡ true) (z : ℕ) (pz : z ≡ sizeIn (p .e)) where
   pub pass-size : z ≤ 35848
-  pass-size = omega (arith, pz ∙ sized-length _ (p .e) (d .left), fits-size _ (within-fits _ (p .e) (d .left) we))
+  pass-size = omega (arith, pz ∙ sized-length _ (p .e) (d .left), encode-small _ (within-fits _ (p .e) (d .left) we))
 
   left-good : Good (transform order x y .left)
   unfolding transform
@@ -61,10 +57,10 @@ module _ (x y : Seq) (p : Pair) (d : SizedBoth (transform order x y) p) (we : wi
       let s = transform order x y in
       let fl = within-fits _ (p .e) (d .left) we in
       let fr = within-fits _ (p .f) (d .right) wf in
-      let n : next′ ≡ atFront (encode (s .left)) next = written-front (s .left) _ next (wl .emitter) (wl .before) next′ (fits-limits (s .left) .0 fl) (omega (arith, fits-size (s .left) fl, room)) (wl .done) (d .left .records) (wl .is) in
+      let n : next′ ≡ atFront (encode (s .left)) next = written-front (s .left) _ next (wl .emitter) (wl .before) next′ (fits-limits (s .left) .0 fl) (omega (arith, encode-small (s .left) fl, room)) (wl .done) (d .left .records) (wl .is) in
       let l : z - 0 ≡ length (encode (s .left)) = omega (arith, pz ∙ sized-length (s .left) (p .e) (d .left)) in
       let t : take (z - 0) (drop 0 next′) ≡ encode (s .left) = ap₂ take l n ∙ atFront-take (encode (s .left)) next in
-      let c : cur′ ≡ atFront (encode (s .left)) cur = e ∙ ap (λ u. over 0 u cur) t ∙ over-front (encode (s .left)) cur (omega (arith, fits-size (s .left) fl, space)) in
+      let c : cur′ ≡ atFront (encode (s .left)) cur = e ∙ ap (λ u. over 0 u cur) t ∙ over-front (encode (s .left)) cur (omega (arith, encode-small (s .left) fl, space)) in
       record {
         holds = subst (Holds (s .left)) (sym c) (front-holds (s .left) cur left-good);
         given = λ h. written-front (s .right) _ out (wr .emitter) (wr .before) out′ (fits-limits (s .right) .0 fr) h (wr .done) (d .right .records) (wr .is);

@@ -1,5 +1,5 @@
 -- log
 pub mod Rows
-pub mod Logs
 pub mod Opening
 pub mod Scanning
+pub mod Logs

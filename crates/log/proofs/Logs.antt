@@ -13,6 +13,7 @@ use Rattle.operation.specs.Record.{Seq, encode, recordFault}
 use Rattle.operation.proofs.Sequences.{Good}
 use Rattle.operation.proofs.Records.{Bytes, words-at, joined, encode-ops, ops-good, ops-base, ops-target, ops-encode, size-encode, base-encode, target-encode, fault-encode}
 use Rattle.log.specs.Log.{encodeAll, logOf, countOf, startOf, recordsStart, recordsIn, sizesIn, editsIn, lengthIn, readableFrom, readable, placeOf, sizeOfLog, lengthAt, contents, revisions}
+use Rattle.log.proofs.Scanning.{edits-length}
 use Rattle.log.proofs.Rows.{Each, lengthAfter, Row}
 
 -- a starting length and edits that a log can hold
@@ -171,15 +172,6 @@ module _ (n len : ℕ) (l : List ℕ) (h : T (readableFrom (suc n) len l)) where
   further : T (readableFrom n (targetOf l) (drop (sizeOf l) l))
   unfolding readableFrom
   further = eq-and (baseOf l) len _ .0 (eq-and (recordFault l) 0 _ .0 h .1) .1
-
-edits-length : (n : ℕ) (l : List ℕ) → length (editsIn n l) ≡ n
-unfolding editsIn
-edits-length zero l = refl
-edits-length (suc n) l = ap suc (edits-length n (drop (sizeOf l) l))
-
-pub revisions-length : (l : List ℕ) → length (revisions l) ≡ countOf l
-unfolding revisions
-revisions-length l = edits-length (countOf l) (drop recordsStart l)
 
 edits-good : (n len : ℕ) (l : List ℕ) → T (readableFrom n len l) → Each Good (editsIn n l)
 unfolding editsIn

@@ -47,7 +47,7 @@ length-next : (k len : ℕ) (m : List ℕ) → lengthIn (suc k) len m ≡ target
 length-next zero len m = refl
 length-next (suc k) len m = length-next k (targetOf m) (drop (sizeOf m) m) ∙ ap targetOf (sym (sizes-drop k m))
 
-edits-length : (n : ℕ) (m : List ℕ) → length (editsIn n m) ≡ n
+pub edits-length : (n : ℕ) (m : List ℕ) → length (editsIn n m) ≡ n
 unfolding editsIn
 edits-length zero m = refl
 edits-length (suc n) m = ap suc (edits-length n (drop (sizeOf m) m))

@@ -15,7 +15,7 @@ use Rattle.utf8.proofs.Tests.{both}
 use Rattle.operation.specs.Op.{Op, retain, insert, delete, size, total, base, target}
 use Rattle.operation.specs.Built.{full, chained, built}
 use Rattle.operation.specs.Layout.{words, wordAt, recordsOf, textBytesOf, baseOf, targetOf, kindsStart, countsStart, textStart, sizeOf}
-use Rattle.operation.specs.Record.{Seq, ByteSeq, inBytes, inChars, code, text, encode, Entry, entriesFrom, entries, textOf, operations, byteOps, ops, soundEntry, insertBytes, wellInserted, givesChars, recordFault}
+use Rattle.operation.specs.Record.{Seq, ByteSeq, inBytes, inChars, code, text, encode, fits, Entry, entriesFrom, entries, textOf, operations, byteOps, ops, soundEntry, insertBytes, wellInserted, givesChars, recordFault}
 use Rattle.operation.proofs.Links.{positive, Links, built-links}
 use Rattle.operation.proofs.Sequences.{inChars-inBytes, inBytes-well, inBytes-inChars, inBytes-chained, inBytes-size, inChars-size, inBytes-base, inBytes-target, Good, fits-limits}
 use Rattle.operation.proofs.Faults.{InLimits, limits, Faultless, faultless}
@@ -42,6 +42,10 @@ length-words (n ∷ ns) = omega (arith, length-words ns)
 pub encode-length : (s : Seq) → length (encode s) ≡ textStart (length s) + length (text (map inBytes s))
 unfolding encode
 encode-length s = simp (length-append, length-words, length-map) (omega arith)
+
+-- 8 + 3 * 1024 + 32768
+pub encode-small : (s : Seq) → T (fits s) → length (encode s) ≤ 35848
+encode-small s h = let l = fits-limits s .0 h in omega (arith, encode-length s, l .records, l .text-bytes)
 
 getD-front : (r : List ℕ) (i : ℕ) (x : ℕ) (l : List ℕ) → drop i r ≡ x ∷ l → getD r i 0 ≡ x
 getD-front r i x l e = ap (λ j. getD r j 0) (sym (add-zero i)) ∙ sym (getD-drop i r 0 0) ∙ ap (λ l. getD l 0 0) e

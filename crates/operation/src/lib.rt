@@ -1,6 +1,8 @@
 // A sequence of operations as a byte record: checked, and asked for its lengths, its effect and its text.
 ghost use mathlib.Core.Path.{_≡_};
+ghost use Prim.Native.Nat.{_≤_};
 ghost use Rattle.operation.specs.Answer.{factOf, noopOf};
+ghost use Rattle.operation.specs.Answer.{number as numberOf};
 ghost use Rattle.operation.specs.Calls.{checkCall, baseCall, targetCall, noopCall, textCall};
 
 mod checks;
@@ -29,6 +31,23 @@ pub enum Refusal {
     Limit,
     // A buffer is too short for what goes into it.
     Room,
+}
+
+pub fn number(x: Refusal) -> u8
+    ensures { λ r. ⌜ (r ≡ numberOf x) × (r ≤ 10) ⌝ }
+{
+    match x {
+        Refusal::Size => 1,
+        Refusal::Entry => 2,
+        Refusal::Utf8 => 3,
+        Refusal::Neighbours => 4,
+        Refusal::Sums => 5,
+        Refusal::Log => 6,
+        Refusal::Revision => 7,
+        Refusal::IncompatibleLengths => 8,
+        Refusal::Limit => 9,
+        Refusal::Room => 10,
+    }
 }
 
 // A number that was asked for.

@@ -49,7 +49,7 @@ fn complain(out: &mut [u8], x: Refusal) -> usize
     requires { ⌜ length (now out) ≡ 65536 ⌝ }
     ensures { λ n. ⌜ Writes (complaint (number x)) (now (out .entry)) n (now (out .exit)) ⌝ }
 {
-    let k = number_of(x);
+    let k = operation::number(x);
     operational_transform::core::copy(out, 0, b"refused ", 0, 8);
     if k < 10 {
         operational_transform::core::put(out, 8, 48 + k);
@@ -60,21 +60,4 @@ fn complain(out: &mut [u8], x: Refusal) -> usize
     operational_transform::core::put(out, 9, 48 + k % 10);
     operational_transform::core::put(out, 10, 10);
     11
-}
-
-fn number_of(x: Refusal) -> u8
-    ensures { λ r. ⌜ (r ≡ number x) × (r ≤ 10) ⌝ }
-{
-    match x {
-        Refusal::Size => 1,
-        Refusal::Entry => 2,
-        Refusal::Utf8 => 3,
-        Refusal::Neighbours => 4,
-        Refusal::Sums => 5,
-        Refusal::Log => 6,
-        Refusal::Revision => 7,
-        Refusal::IncompatibleLengths => 8,
-        Refusal::Limit => 9,
-        Refusal::Room => 10,
-    }
 }

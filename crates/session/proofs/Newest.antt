@@ -16,7 +16,7 @@ use Rattle.operation.proofs.Records.{Bytes, encode-ops}
 use Rattle.operation.proofs.Refusals.{first-zero}
 use Rattle.operational_transform.specs.Output.{atFront, Outs}
 use Rattle.log.specs.Log.{encodeAll, countOf, readable, sizeOfLog, lengthAt, revisions}
-use Rattle.log.proofs.Logs.{revisions-length}
+use Rattle.log.proofs.Scanning.{revisions-length}
 use Rattle.session.specs.Rows.{Moved, rebase}
 use Rattle.session.specs.Session.{movedIn, acceptFault, append, acceptCall}
 use Rattle.session.proofs.Accepting.{sizes, first-same}

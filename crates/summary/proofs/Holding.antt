@@ -16,7 +16,7 @@ use Rattle.operation.specs.Layout.{baseOf, targetOf}
 use Rattle.operation.specs.Built.{Built}
 use Rattle.operation.specs.Record.{Seq, inBytes, text, encode, fits, ops, recordFault}
 use Rattle.operation.proofs.Sequences.{Limits, fits-limits}
-use Rattle.operation.proofs.Records.{encode-length, ops-encode, fault-encode}
+use Rattle.operation.proofs.Records.{encode-small, ops-encode, fault-encode}
 use Rattle.operational_transform.specs.declared.Written.{Written}
 use Rattle.operational_transform.specs.declared.Written.the-variants.{Bytes, Refused}
 use Rattle.operational_transform.specs.declared.core.Emitter.{Emitter}
@@ -37,10 +37,6 @@ use Rattle.session.proofs.Rows.{still-base, still-target}
 use Rattle.summary.specs.Summing.{Holds, Makes}
 
 -- ---- what is held
-
--- a record within the limits has at most 8 + 3 * 1024 + 32768 bytes
-encode-small : (s : Seq) → T (fits s) → length (encode s) ≤ 35848
-encode-small s h = let l = fits-limits s .0 h in omega (arith, encode-length s, l .records, l .text-bytes)
 
 front-length : (r o : List ℕ) → length r ≤ length (atFront r o)
 unfolding atFront

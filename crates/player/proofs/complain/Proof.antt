@@ -3,8 +3,8 @@ use borrow.Author.Needs.{needs}
 use Rattle.player.proofs.complain.Statement.{statement}
 use Rattle.player.proofs.complain.Tie as tie
 
-number-of-requires : tie.Need-number-of-requires
-number-of-requires c κs = search needs
+number-requires : tie.Need-number-requires
+number-requires c κs = search needs
 
 slice-aggregate-copy : tie.Need-slice-aggregate-copy
 slice-aggregate-copy c = search needs
@@ -52,7 +52,7 @@ pub complain-spec : {M : Type 1} → statement M
 complain-spec =
     tie.close
     (tie.spec
-    number-of-requires
+    number-requires
     slice-aggregate-copy
     copy-requires
     add-put
