@@ -3,7 +3,7 @@ use Prim.Native.Nat.{ℕ, zero, suc, _+_, _*_, _≤_, _<_}
 use native.Mathlib.Omega.{arith}
 use mathlib.Core.Path.{_≡_, refl, sym, ap, ap₂, _∙_}
 use mathlib.Core.Bool.{_&&_}
-use mathlib.Core.List.{List, _∷_, _++_}
+use mathlib.Core.List.{List, _∷_, _++_, map}
 use lib.Dec.{T, eqb}
 use lib.ListN.{length, take, drop, getD, List·getD-append, length-append, length-drop}
 use lib.Seq.{getD-take, length-take-le, drop-append-le, take-at}
@@ -13,7 +13,7 @@ use Rattle.operation.specs.Answer.{needs}
 use Rattle.operation.specs.Op.{total, base, target}
 use Rattle.operation.specs.Built.{chained}
 use Rattle.operation.specs.Layout.{wordAt, recordsOf, textBytesOf, baseOf, targetOf, kindsStart, countsStart, textStart, sizeOf}
-use Rattle.operation.specs.Record.{Seq, encode, entriesFrom, entries, textOf, operations, byteOps, ops, inLimits, soundEntry, insertBytes, sound, wellInserted, givesChars, adds, recordFault}
+use Rattle.operation.specs.Record.{Seq, encode, entriesFrom, entries, textOf, operations, byteOps, inChars, ops, inLimits, soundEntry, insertBytes, sound, wellInserted, givesChars, adds, recordFault}
 use Rattle.operation.proofs.Sequences.{Good}
 use Rattle.operation.proofs.Faults.{InLimits, limits}
 use Rattle.operation.proofs.Walks.{drop-take}
@@ -79,6 +79,10 @@ module _ (r more : List ℕ) (l : InLimits r) where
   same-ops : byteOps other ≡ byteOps r
   unfolding byteOps
   same-ops = ap₂ operations all-entries same-text
+
+  pub ops-behind : ops other ≡ ops r
+  unfolding ops
+  ops-behind = ap (map inChars) same-ops
 
   still-in : T (inLimits other)
   still-in =

@@ -11,7 +11,9 @@ use Rattle.utf8.proofs.Tests.{both}
 use Rattle.utf8.proofs.Texts.{chars-bytes, chars-length, bytes-well, bytes-inj}
 use Rattle.operation.specs.Answer.{goes}
 use Rattle.operation.specs.Record.{Seq, encode, ops}
+use Rattle.operation.proofs.Faults.{limits, faultless}
 use Rattle.operation.proofs.Records.{ops-encode}
+use Rattle.operation.proofs.Theorems.{ops-behind}
 use Rattle.log.proofs.Rows.{Row}
 use Rattle.session.specs.Rows.{playAll}
 use Rattle.session.specs.Session.{summaryCall}
@@ -96,7 +98,7 @@ module _ (h k : History) (sh : SoundIn h) (sk : SoundIn k) (starts : k .start �
   s₁ = fed-sound k (again c mine) sk
 
   edited : k₁ ≡ joined k (ops (c .edit))
-  edited = newest k (again c mine) (ops (c .edit)) w′ refl (newest-there h sh c w k same)
+  edited = newest k (again c mine) (ops (c .edit)) w′ (ops-behind (c .edit) (mine .behindEdit) (limits (c .edit) .0 (faultless (c .edit) .0 (w .faultless) .in-limits))) (newest-there h sh c w k same)
 
   -- and after the counterparts
   abbrev relay : List Call

@@ -8,6 +8,7 @@ use lib.ListN.{length, take}
 use Rattle.utf8.specs.Form.{wellFormed}
 use Rattle.utf8.specs.Chars.{numChars, allOf}
 use Rattle.operation.specs.Answer.{gives, goes}
+use Rattle.operation.specs.Layout.{sizeOf}
 use Rattle.operational_transform.specs.Output.{atFront, Outs}
 use Rattle.log.specs.Log.{encodeAll, countOf, recordsIn, contents, revisions}
 use Rattle.log.specs.Open.{openCall}
@@ -95,9 +96,9 @@ againstNewest log (e ∷ es) lent =
 abbrev pub handedOut : List ℕ → Call → List (List ℕ)
 handedOut log c = recordsIn (countOf log - c .rev) (accept log c .outB)
 
--- the same edit as another session's call
+-- the same edit as another session's call, with other bytes behind it
 abbrev pub again : Call → Lent → Call
-again c b = record { edit = c .edit; rev = c .rev; behind = b .behindLog; out = b .output }
+again c b = record { edit = take (sizeOf (c .edit)) (c .edit) ++ b .behindEdit; rev = c .rev; behind = b .behindLog; out = b .output }
 
 -- ---- the claim
 
