@@ -2,8 +2,8 @@ use Prim.Native.Nat.{_-_, _≤_}
 use mathlib.Core.Path.{_≡_}
 use lib.ListN.{length}
 use borrow.Author.Needs.{needs}
-use Rattle.examples.proofs.line.group_again.Statement.{statement}
-use Rattle.examples.proofs.line.group_again.Tie as tie
+use Rattle.listing.proofs.core.line.group_again.Statement.{statement}
+use Rattle.listing.proofs.core.line.group_again.Tie as tie
 
 abbrev Inv-loop : tie.InvT-loop
 Inv-loop group buf₀ t₀ counter₀ buf t counter = (counter ≤ group) × (length buf ≡ length buf₀)
