@@ -100,7 +100,7 @@ fn repeated(s: State, times: u64, buf: &mut [u8]) -> State {
     t
 }
 
-// What a number was for, once it has ended.
+// What a number was for, once it has ended. A name ends with its line, too.
 fn settled(s: State, buf: &mut [u8]) -> State {
     let v = s.value;
     if s.mode == 3 {
@@ -117,6 +117,10 @@ fn settled(s: State, buf: &mut [u8]) -> State {
 
 fn noted(s: State, v: u64) -> State {
     let mut t = s;
+    if s.mode == 0 {
+        t.word = s.len;
+        return t;
+    }
     if s.mode == 4 {
         t.number = v;
         return with_mode(t, 1);
