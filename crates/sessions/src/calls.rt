@@ -1,9 +1,9 @@
 // The calls by their names.
-use crate::tell;
-use crate::words;
 use listing::core::line::State;
 use listing::core::show;
 use transform::WrittenPair;
+use wording::core::tell;
+use wording::core::words;
 ghost use mathlib.Core.Path.{_≡_};
 ghost use lib.ListN.{length};
 

@@ -15,8 +15,6 @@
 //
 // R, I and D stand for retain, insert and delete. Of several records the first and the last are printed.
 mod calls;
-mod tell;
-mod words;
 
 use listing::core::line;
 use listing::core::line::State;

@@ -1,7 +1,7 @@
 use Prim.Native.Nat.{_-_, _≤_}
 use borrow.Author.Needs.{needs}
-use Rattle.sessions.proofs.words.record.Statement.{statement}
-use Rattle.sessions.proofs.words.record.Tie as tie
+use Rattle.wording.proofs.core.words.record.Statement.{statement}
+use Rattle.wording.proofs.core.words.record.Tie as tie
 
 abbrev Inv-loop : tie.InvT-loop
 Inv-loop rec k₀ t4 k = k ≤ 8

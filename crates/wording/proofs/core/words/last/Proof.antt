@@ -1,7 +1,7 @@
 use Prim.Native.Nat.{_-_, _≤_}
 use borrow.Author.Needs.{needs}
-use Rattle.sessions.proofs.words.last.Statement.{statement}
-use Rattle.sessions.proofs.words.last.Tie as tie
+use Rattle.wording.proofs.core.words.last.Statement.{statement}
+use Rattle.wording.proofs.core.words.last.Tie as tie
 
 abbrev Inv-loop : tie.InvT-loop
 Inv-loop buf at₀ counter₀ at counter = counter ≤ 256

@@ -4,14 +4,14 @@ use operation::Fact;
 use walker::Found;
 ghost use Prim.Native.Nat.{_<_};
 
-pub(crate) fn wide(x: u8) -> usize
+pub fn wide(x: u8) -> usize
     ensures { λ r. ⌜ r < 256 ⌝ }
 {
     x as usize
 }
 
 // The number of revisions that a log states.
-pub(crate) fn count(log: &[u8]) -> u64 {
+pub fn count(log: &[u8]) -> u64 {
     if log.len() < 2 {
         return 0;
     }
@@ -19,7 +19,7 @@ pub(crate) fn count(log: &[u8]) -> u64 {
 }
 
 // Where the record that stands here ends; where there is none, the end of all.
-pub(crate) fn past(buf: &[u8], at: usize) -> usize {
+pub fn past(buf: &[u8], at: usize) -> usize {
     if buf.len() <= at {
         return buf.len();
     }
@@ -48,7 +48,7 @@ fn last(buf: &[u8]) -> usize {
 }
 
 // The records that fill the buffer: the first and the last.
-pub(crate) fn records(buf: &[u8]) {
+pub fn records(buf: &[u8]) {
     if buf.len() == 0 {
         show::text(b"none");
         return;
@@ -116,7 +116,7 @@ fn named(kind: u8, count: u64, inserted: &[u8]) {
 }
 
 // Short ones in quotes; of long ones the length and a sum.
-pub(crate) fn text(t: &[u8]) {
+pub fn text(t: &[u8]) {
     if t.len() <= 64 {
         show::text(b"\"");
         show::text(t);

@@ -1,5 +1,5 @@
 // Answers in words on standard output.
-use crate::words;
+use crate::core::words;
 use listing::core::show;
 use log::core::Scan;
 use log::core::Scanned;
@@ -16,7 +16,7 @@ fn revisions(n: u64) {
 }
 
 // The answer, what the log has then, and the counterparts with the whole output.
-pub(crate) fn accepted(w: WrittenPair, log: &[u8], out: &[u8]) {
+pub fn accepted(w: WrittenPair, log: &[u8], out: &[u8]) {
     match w {
         WrittenPair::Bytes(n, m) => {
             show::number(n as u64);
@@ -64,7 +64,7 @@ fn part(log: &[u8], from: usize, to: usize) {
     }
 }
 
-pub(crate) fn relayed(before: u64, log: &[u8]) {
+pub fn relayed(before: u64, log: &[u8]) {
     let count = words::count(log);
     if before <= count {
         show::number(count - before);
@@ -73,7 +73,7 @@ pub(crate) fn relayed(before: u64, log: &[u8]) {
     revisions(count);
 }
 
-pub(crate) fn opened(w: Written, log: &[u8]) {
+pub fn opened(w: Written, log: &[u8]) {
     number(w);
     show::text(b"; ");
     revisions(words::count(log));
@@ -86,12 +86,12 @@ fn number(w: Written) {
     }
 }
 
-pub(crate) fn byte(old: u8) {
+pub fn byte(old: u8) {
     show::text(b"was ");
     io::print_hex(1, words::wide(old) as u64, 2);
 }
 
-pub(crate) fn summed(w: Written, out: &[u8]) {
+pub fn summed(w: Written, out: &[u8]) {
     number(w);
     match w {
         Written::Bytes(n) => {
@@ -104,7 +104,7 @@ pub(crate) fn summed(w: Written, out: &[u8]) {
     show::bytes(out);
 }
 
-pub(crate) fn played(w: Written, out: &[u8]) {
+pub fn played(w: Written, out: &[u8]) {
     number(w);
     match w {
         Written::Bytes(n) => {
@@ -118,7 +118,7 @@ pub(crate) fn played(w: Written, out: &[u8]) {
 }
 
 // The contents, and the whole buffer.
-pub(crate) fn log(log: &[u8]) {
+pub fn log(log: &[u8]) {
     match log::core::read(log, 0) {
         Scanned::Unreadable => show::text(b"unreadable"),
         Scanned::Of(s) => contents(log, s),
