@@ -1,6 +1,6 @@
 // The calls by their names.
-use crate::line::State;
-use crate::show;
+use listing::core::line::State;
+use listing::core::show;
 ghost use mathlib.Core.Path.{_≡_};
 ghost use lib.ListN.{length};
 

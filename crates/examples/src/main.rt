@@ -1,15 +1,12 @@
 // Runs the calls that standard input lists, a line each, and prints every line with its answer. README, "Examples",
 // says how a line is written.
-ghost use Prim.Native.Nat.{_<_};
-ghost use lib.ListN.{length};
-
 mod calls;
-mod line;
-mod show;
 
-use line::State;
+use listing::core::line;
+use listing::core::line::State;
+use listing::core::show;
 
-// A whole line: its answer is printed behind it.
+// A line's answer is printed behind it.
 fn run(s: State, buf: &[u8]) {
     let w = s.word;
     let e = s.len;
@@ -27,28 +24,23 @@ fn run(s: State, buf: &[u8]) {
     }
 }
 
-// The byte at i: at a line end the line is run, and a new one begins.
-fn byte(input: &[u8], i: usize, s: State, buf: &mut [u8]) -> State
-    requires { ⌜ i < length (now input) ⌝ }
-{
-    let c = input[i];
-    if c != b'\n' {
-        return line::feed(s, c, buf);
-    }
-    let t = line::settled(s, buf);
-    let from = t.start;
-    if from <= i {
-        show::text(&input[from..i]);
-    }
-    run(t, buf);
+// The line that begins at `from`; where the next one begins.
+fn one(input: &[u8], from: usize, buf: &mut [u8]) -> usize {
+    let s = line::read(input, from, buf);
+    show::line(input, s);
+    run(s, buf);
     show::text(b"\n");
-    line::fresh(i + 1)
+    s.next
 }
 
+// There are no more lines than bytes.
 fn lines(input: &[u8], buf: &mut [u8]) {
-    let mut s = line::fresh(0);
-    for i in 0..input.len() {
-        s = byte(input, i, s, buf);
+    let mut at = 0;
+    for _ in 0..input.len() {
+        if input.len() <= at {
+            return;
+        }
+        at = one(input, at, buf);
     }
 }
 

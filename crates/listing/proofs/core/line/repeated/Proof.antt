@@ -2,8 +2,8 @@ use Prim.Native.Nat.{_-_, _≤_}
 use mathlib.Core.Path.{_≡_}
 use lib.ListN.{length}
 use borrow.Author.Needs.{needs}
-use Rattle.examples.proofs.line.repeated.Statement.{statement}
-use Rattle.examples.proofs.line.repeated.Tie as tie
+use Rattle.listing.proofs.core.line.repeated.Statement.{statement}
+use Rattle.listing.proofs.core.line.repeated.Tie as tie
 
 abbrev Inv-loop : tie.InvT-loop
 Inv-loop times buf₀ group more t₀ counter₀ buf t counter = (counter ≤ more) × (length buf ≡ length buf₀)

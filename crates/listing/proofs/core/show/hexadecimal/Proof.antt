@@ -2,8 +2,8 @@ use Prim.Native.Nat.{_-_, _≤_}
 use mathlib.Core.Path.{_≡_}
 use lib.ListN.{length}
 use borrow.Author.Needs.{needs}
-use Rattle.examples.proofs.show.hexadecimal.Statement.{statement}
-use Rattle.examples.proofs.show.hexadecimal.Tie as tie
+use Rattle.listing.proofs.core.show.hexadecimal.Statement.{statement}
+use Rattle.listing.proofs.core.show.hexadecimal.Tie as tie
 
 abbrev Inv-loop : tie.InvT-loop
 Inv-loop t i₀ i-end i = (i ≤ i-end) × (i-end ≡ length t)

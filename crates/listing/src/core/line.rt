@@ -2,8 +2,10 @@
 
 // Modes: 0 the name; 1 an operand; 2 text in quotes; 3 to 5 and 7 a decimal number behind `=`, `#`, `]` or `>`; 6 a remark.
 pub struct State {
-    // where the line begins in the input
+    // where the line begins in the input, where it ends, and where the next one begins
     pub start: usize,
+    pub end: usize,
+    pub next: usize,
     pub mode: u8,
     // where the name ends in the buffer, where the first operand ends (0 while it goes on), and all ends
     pub word: usize,
@@ -20,9 +22,11 @@ pub struct State {
     pub rooms: u64,
 }
 
-pub(crate) fn fresh(start: usize) -> State {
+fn fresh(start: usize) -> State {
     State {
         start,
+        end: start,
+        next: start,
         mode: 0,
         word: 0,
         first: 0,
@@ -96,8 +100,8 @@ fn repeated(s: State, times: u64, buf: &mut [u8]) -> State {
     t
 }
 
-// What a number was for, once it has ended.
-pub(crate) fn settled(s: State, buf: &mut [u8]) -> State {
+// What a number was for, once it has ended. A name ends with its line, too.
+fn settled(s: State, buf: &mut [u8]) -> State {
     let v = s.value;
     if s.mode == 3 {
         let t = pushed(s, (v % 256) as u8, buf);
@@ -113,6 +117,10 @@ pub(crate) fn settled(s: State, buf: &mut [u8]) -> State {
 
 fn noted(s: State, v: u64) -> State {
     let mut t = s;
+    if s.mode == 0 {
+        t.word = s.len;
+        return t;
+    }
     if s.mode == 4 {
         t.number = v;
         return with_mode(t, 1);
@@ -181,7 +189,7 @@ fn counted(s: State, c: u8) -> State {
     t
 }
 
-pub(crate) fn feed(s: State, c: u8, buf: &mut [u8]) -> State {
+fn feed(s: State, c: u8, buf: &mut [u8]) -> State {
     let mode = s.mode;
     match mode {
         0 => {
@@ -215,4 +223,24 @@ pub(crate) fn feed(s: State, c: u8, buf: &mut [u8]) -> State {
             operand(t, c, buf)
         }
     }
+}
+
+fn ended(s: State, end: usize, next: usize) -> State {
+    let mut t = s;
+    t.end = end;
+    t.next = next;
+    t
+}
+
+// The line that begins at `from`, its name and operands end to end in `buf`.
+pub fn read(input: &[u8], from: usize, buf: &mut [u8]) -> State {
+    let mut s = fresh(from);
+    for i in from..input.len() {
+        let c = input[i];
+        if c == b'\n' {
+            return ended(settled(s, buf), i, i + 1);
+        }
+        s = feed(s, c, buf);
+    }
+    ended(settled(s, buf), input.len(), input.len())
 }

@@ -2,8 +2,8 @@ use Prim.Native.Nat.{_-_, _≤_, _<_}
 use mathlib.Core.Path.{_≡_}
 use lib.ListN.{length}
 use borrow.Author.Needs.{needs}
-use Rattle.examples.proofs.show.sum.Statement.{statement}
-use Rattle.examples.proofs.show.sum.Tie as tie
+use Rattle.listing.proofs.core.show.sum.Statement.{statement}
+use Rattle.listing.proofs.core.show.sum.Tie as tie
 
 abbrev Inv-loop : tie.InvT-loop
 Inv-loop t n₀ i₀ i-end n i = (i ≤ i-end) × (i-end ≡ length t) × (n < 4294967291)

@@ -2,20 +2,20 @@ use Prim.Native.Nat.{_-_, _≤_}
 use mathlib.Core.Path.{_≡_}
 use lib.ListN.{length}
 use borrow.Author.Needs.{needs}
-use Rattle.examples.proofs.line.group_again.Statement.{statement}
-use Rattle.examples.proofs.line.group_again.Tie as tie
+use Rattle.sessions.proofs.calls.pass_on.Statement.{statement}
+use Rattle.sessions.proofs.calls.pass_on.Tie as tie
 
 abbrev Inv-loop : tie.InvT-loop
-Inv-loop group buf₀ t₀ counter₀ buf t counter = (counter ≤ group) × (length buf ≡ length buf₀)
+Inv-loop records log₀ at₀ counter₀ log at counter = (counter ≤ 256) × (length log ≡ length log₀)
 
 abbrev μ-loop : tie.MeasureT-loop
-μ-loop group buf₀ t₀ counter₀ buf t counter = group - counter
+μ-loop records log₀ at₀ counter₀ log at counter = 256 - counter
 
 loop-holds : tie.Need-loop-holds Inv-loop μ-loop
 loop-holds c = search needs
 
-again-requires : tie.Need-again-requires Inv-loop μ-loop
-again-requires c κs = search needs
+taken-requires : tie.Need-taken-requires Inv-loop μ-loop
+taken-requires c κs = search needs
 
 add-counter : tie.Need-add-counter Inv-loop μ-loop
 add-counter c = search needs
@@ -32,14 +32,14 @@ same-length c = search needs
 returns : tie.Need-returns Inv-loop μ-loop
 returns c = search needs
 
-pub group-again-spec : {M : Type 1} → statement M
-group-again-spec =
+pub pass-on-spec : {M : Type 1} → statement M
+pass-on-spec =
     tie.close
     (tie.spec
     Inv-loop
     μ-loop
     loop-holds
-    again-requires
+    taken-requires
     add-counter
     loop-less
     loop-again

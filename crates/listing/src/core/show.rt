@@ -1,5 +1,6 @@
 // Answers in words on standard output.
 ghost use Prim.Native.Nat.{_<_};
+use crate::core::line::State;
 use operation::Fact;
 use operation::Noop;
 use operation::Refusal;
@@ -7,15 +8,26 @@ use operational_transform::Written;
 use transform::WrittenPair;
 use walker::Found;
 
-pub(crate) fn text(t: &[u8]) {
+pub fn text(t: &[u8]) {
     io::write_all(1, t);
 }
 
-pub(crate) fn number(n: u64) {
+// The line itself.
+pub fn line(input: &[u8], s: State) {
+    let from = s.start;
+    let end = s.end;
+    if from <= end {
+        if end <= input.len() {
+            text(&input[from..end]);
+        }
+    }
+}
+
+pub fn number(n: u64) {
     io::print_decimal(1, n);
 }
 
-pub(crate) fn yes_or_no(b: bool) {
+pub fn yes_or_no(b: bool) {
     if b {
         text(b"yes");
     } else {
@@ -38,19 +50,19 @@ fn number_of(x: Refusal) -> u64 {
     }
 }
 
-pub(crate) fn refusal(x: Refusal) {
+pub fn refusal(x: Refusal) {
     text(b"refused ");
     number(number_of(x));
 }
 
-pub(crate) fn fact(f: Fact) {
+pub fn fact(f: Fact) {
     match f {
         Fact::Is(n) => number(n as u64),
         Fact::Refused(x) => refusal(x),
     }
 }
 
-pub(crate) fn noop(n: Noop) {
+pub fn noop(n: Noop) {
     match n {
         Noop::Is(b) => yes_or_no(b),
         Noop::Refused(x) => refusal(x),
@@ -58,7 +70,7 @@ pub(crate) fn noop(n: Noop) {
 }
 
 // The numbers of what a step finds; false at the end.
-pub(crate) fn step(f: Found) -> bool {
+pub fn step(f: Found) -> bool {
     match f {
         Found::Op { kind, count } => {
             number(kind as u64);
@@ -74,7 +86,7 @@ pub(crate) fn step(f: Found) -> bool {
 }
 
 // The answer, then the whole output.
-pub(crate) fn written(w: Written, out: &[u8]) {
+pub fn written(w: Written, out: &[u8]) {
     match w {
         Written::Bytes(n) => number(n as u64),
         Written::Refused(x) => refusal(x),
@@ -83,7 +95,7 @@ pub(crate) fn written(w: Written, out: &[u8]) {
     bytes(out);
 }
 
-pub(crate) fn pair(w: WrittenPair, out_a: &[u8], out_b: &[u8]) {
+pub fn pair(w: WrittenPair, out_a: &[u8], out_b: &[u8]) {
     match w {
         WrittenPair::Bytes(n, m) => {
             number(n as u64);
@@ -99,7 +111,7 @@ pub(crate) fn pair(w: WrittenPair, out_a: &[u8], out_b: &[u8]) {
 }
 
 // Short ones in hexadecimal; of long ones the length and a sum.
-pub(crate) fn bytes(t: &[u8]) {
+pub fn bytes(t: &[u8]) {
     if t.len() == 0 {
         text(b"empty");
     } else if t.len() <= 64 {

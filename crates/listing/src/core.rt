@@ -1,0 +1,3 @@
+// Reading and printing, which no contract states.
+pub mod line;
+pub mod show;

@@ -1,0 +1,2 @@
+// What the programs share that run calls listed on standard input.
+pub mod core;

@@ -1,0 +1,3 @@
+// Printing, which no contract states.
+pub mod tell;
+pub mod words;

@@ -1,0 +1,141 @@
+// Answers in words on standard output.
+use crate::core::words;
+use listing::core::show;
+use log::core::Scan;
+use log::core::Scanned;
+use operational_transform::Written;
+use transform::WrittenPair;
+
+fn revisions(n: u64) {
+    show::number(n);
+    if n == 1 {
+        show::text(b" revision");
+    } else {
+        show::text(b" revisions");
+    }
+}
+
+// The answer, what the log has then, and the counterparts with the whole output.
+pub fn accepted(w: WrittenPair, log: &[u8], out: &[u8]) {
+    match w {
+        WrittenPair::Bytes(n, m) => {
+            show::number(n as u64);
+            show::text(b" ");
+            show::number(m as u64);
+            newest(log);
+            show::text(b"; counterparts ");
+            front(out, m);
+        }
+        WrittenPair::Refused(x) => {
+            show::refusal(x);
+            show::text(b"; ");
+            revisions(words::count(log));
+        }
+    }
+    show::text(b"; output ");
+    show::bytes(out);
+}
+
+fn front(out: &[u8], m: usize) {
+    if m <= out.len() {
+        words::records(&out[0..m]);
+    }
+}
+
+// The newest revision.
+fn newest(log: &[u8]) {
+    let count = words::count(log);
+    show::text(b"; revision ");
+    show::number(count);
+    show::text(b" is ");
+    if 1 <= count {
+        match log::core::read(log, count - 1) {
+            Scanned::Unreadable => show::text(b"unreadable"),
+            Scanned::Of(s) => part(log, s.at, s.size),
+        }
+    }
+}
+
+fn part(log: &[u8], from: usize, to: usize) {
+    if from <= to {
+        if to <= log.len() {
+            words::records(&log[from..to]);
+        }
+    }
+}
+
+pub fn relayed(before: u64, log: &[u8]) {
+    let count = words::count(log);
+    if before <= count {
+        show::number(count - before);
+        show::text(b" accepted; ");
+    }
+    revisions(count);
+}
+
+pub fn opened(w: Written, log: &[u8]) {
+    number(w);
+    show::text(b"; ");
+    revisions(words::count(log));
+}
+
+fn number(w: Written) {
+    match w {
+        Written::Bytes(n) => show::number(n as u64),
+        Written::Refused(x) => show::refusal(x),
+    }
+}
+
+pub fn byte(old: u8) {
+    show::text(b"was ");
+    io::print_hex(1, words::wide(old) as u64, 2);
+}
+
+pub fn summed(w: Written, out: &[u8]) {
+    number(w);
+    match w {
+        Written::Bytes(n) => {
+            show::text(b"; ");
+            front(out, n);
+        }
+        Written::Refused(_) => (),
+    }
+    show::text(b"; output ");
+    show::bytes(out);
+}
+
+pub fn played(w: Written, out: &[u8]) {
+    number(w);
+    match w {
+        Written::Bytes(n) => {
+            show::text(b"; ");
+            if n <= out.len() {
+                words::text(&out[0..n]);
+            }
+        }
+        Written::Refused(_) => (),
+    }
+}
+
+// The contents, and the whole buffer.
+pub fn log(log: &[u8]) {
+    match log::core::read(log, 0) {
+        Scanned::Unreadable => show::text(b"unreadable"),
+        Scanned::Of(s) => contents(log, s),
+    }
+    show::text(b"; buffer ");
+    show::bytes(log);
+}
+
+fn contents(log: &[u8], s: Scan) {
+    let size = s.size;
+    revisions(s.count as u64);
+    show::text(b" from length ");
+    show::number(s.start as u64);
+    show::text(b": ");
+    part(log, 4, size);
+    if size <= log.len() {
+        show::text(b"; contents ");
+        show::bytes(&log[0..size]);
+    }
+}

@@ -1,0 +1,2 @@
+// A session's log and records in words.
+pub mod core;
