@@ -35,24 +35,9 @@ pub fn yes_or_no(b: bool) {
     }
 }
 
-fn number_of(x: Refusal) -> u64 {
-    match x {
-        Refusal::Size => 1,
-        Refusal::Entry => 2,
-        Refusal::Utf8 => 3,
-        Refusal::Neighbours => 4,
-        Refusal::Sums => 5,
-        Refusal::Log => 6,
-        Refusal::Revision => 7,
-        Refusal::IncompatibleLengths => 8,
-        Refusal::Limit => 9,
-        Refusal::Room => 10,
-    }
-}
-
 pub fn refusal(x: Refusal) {
     text(b"refused ");
-    number(number_of(x));
+    number(operation::number(x) as u64);
 }
 
 pub fn fact(f: Fact) {
