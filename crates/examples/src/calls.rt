@@ -11,11 +11,6 @@ fn untouched() -> [u8; 40000]
     [0xEE; 40000]
 }
 
-// Where the first operand ends.
-pub(crate) fn first_end(first: usize, end: usize) -> usize {
-    if first == 0 { end } else { first }
-}
-
 pub(crate) fn answer(word: &[u8], a: &[u8], b: &[u8], s: State) {
     if check::same(word, b"transform") {
         both_in(a, b, s.room as usize, s.rooms as usize);

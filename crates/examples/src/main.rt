@@ -13,7 +13,7 @@ fn run(s: State, buf: &[u8]) {
     if s.mode == 6 {
         return;
     }
-    let f = calls::first_end(s.first, e);
+    let f = line::first_end(s);
     if w <= f {
         if f <= e {
             if e <= buf.len() {

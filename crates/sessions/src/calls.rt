@@ -1,4 +1,5 @@
 // The calls by their names.
+use listing::core::line;
 use listing::core::line::State;
 use listing::core::show;
 use transform::WrittenPair;
@@ -14,40 +15,40 @@ pub(crate) fn untouched() -> [u8; 40000]
     [0xEE; 40000]
 }
 
-// Where the first operand ends.
-pub(crate) fn first_end(first: usize, end: usize) -> usize {
-    if first == 0 { end } else { first }
+// The name begins with the session's letter.
+pub(crate) fn is_b(buf: &[u8]) -> bool {
+    if buf.len() == 0 {
+        return false;
+    }
+    buf[0] == b'b'
 }
 
-pub(crate) fn answer(
-    word: &[u8],
-    x: &[u8],
-    y: &[u8],
-    s: State,
-    log: &mut [u8],
-    kept: &mut [u8],
-    last: usize,
-) -> usize {
-    if check::same(word, b".accept") {
-        return repeat(x, s.number, false, times(y), s, log, kept, last);
+fn verb(name: &[u8]) -> u8 {
+    if check::same(name, b".accept") {
+        return 1;
     }
-    if check::same(word, b".newest") {
-        return repeat(x, 0, true, times(y), s, log, kept, last);
+    if check::same(name, b".newest") {
+        return 2;
     }
-    if check::same(word, b".relay") {
-        if last <= kept.len() {
-            relay(&kept[0..last], s.rooms as usize, log);
-        }
-        return last;
+    if check::same(name, b".relay") {
+        return 3;
     }
-    if writes(word, x, s, log) {
-        return last;
+    if check::same(name, b".open") {
+        return 4;
     }
-    if reads(word, x, s, log) {
-        return last;
+    if check::same(name, b".put") {
+        return 5;
     }
-    show::text(b"no such call");
-    last
+    if check::same(name, b".show") {
+        return 6;
+    }
+    if check::same(name, b".summary") {
+        return 7;
+    }
+    if check::same(name, b".play") {
+        return 8;
+    }
+    0
 }
 
 // How often: a number of two bytes, or once.
@@ -58,92 +59,152 @@ fn times(y: &[u8]) -> usize {
     words::wide(y[0]) + 256 * words::wide(y[1])
 }
 
-fn repeat(
-    edit: &[u8],
-    r: u64,
-    newest: bool,
-    times: usize,
-    s: State,
-    log: &mut [u8],
-    kept: &mut [u8],
-    last: usize,
-) -> usize {
-    let room = s.room as usize;
-    let rooms = s.rooms as usize;
-    let mut len = last;
-    for _ in 1..times {
-        len = once(edit, r, newest, room, rooms, log, kept, len, false);
+pub(crate) fn answer(s: State, buf: &[u8], log: &mut [u8], kept: &mut [u8]) {
+    let w = s.word;
+    let e = s.len;
+    let f = line::first_end(s);
+    if 1 <= w {
+        if w <= f {
+            if f <= e {
+                if e <= buf.len() {
+                    let name = verb(&buf[1..w]);
+                    let often = times(&buf[f..e]);
+                    let room = s.room as usize;
+                    let rooms = s.rooms as usize;
+                    call(name, &buf[w..f], often, s.number, room, rooms, log, kept);
+                }
+            }
+        }
     }
-    once(edit, r, newest, room, rooms, log, kept, len, true)
 }
 
-// One edit is accepted, its counterparts are kept, and the answer is told if it is to be.
-fn once(
-    edit: &[u8],
-    r: u64,
-    newest: bool,
+fn call(
+    name: u8,
+    x: &[u8],
+    often: usize,
+    number: u64,
     room: usize,
     rooms: usize,
     log: &mut [u8],
     kept: &mut [u8],
-    last: usize,
-    aloud: bool,
-) -> usize {
-    let mut out = untouched();
-    if rooms <= 40000 {
-        if room <= log.len() {
-            return accept_in(
-                edit,
-                r,
-                newest,
-                &mut log[0..room],
-                &mut out[0..rooms],
-                kept,
-                last,
-                aloud,
-            );
-        }
+) {
+    match name {
+        1 => repeat(x, number, false, often, room, rooms, log, kept),
+        2 => repeat(x, 0, true, often, room, rooms, log, kept),
+        3 => relay(kept, rooms, log),
+        4 => open(number, rooms, log),
+        5 => put(x, number as usize, log),
+        _ => ask(name, x, room, rooms, log),
     }
-    last
 }
 
-fn accept_in(
+// Calls that leave the log alone.
+fn ask(name: u8, x: &[u8], room: usize, rooms: usize, log: &[u8]) {
+    match name {
+        6 => tell::log(log),
+        7 => summary(log, rooms),
+        8 => play(log, x, room, rooms),
+        _ => show::text(b"no such call"),
+    }
+}
+
+fn open(start: u64, room: usize, log: &mut [u8]) {
+    if room <= log.len() {
+        let part = &mut log[0..room];
+        let w = log::open(start, part);
+        tell::opened(w, part);
+    }
+}
+
+fn put(x: &[u8], at: usize, log: &mut [u8]) {
+    if 1 <= x.len() {
+        if at < log.len() {
+            tell::byte(log[at]);
+            log[at] = x[0];
+        }
+    }
+}
+
+fn repeat(
     edit: &[u8],
     r: u64,
     newest: bool,
+    often: usize,
+    room: usize,
+    rooms: usize,
     log: &mut [u8],
-    out: &mut [u8],
     kept: &mut [u8],
-    last: usize,
+) {
+    if room <= log.len() {
+        let part = &mut log[0..room];
+        for _ in 1..often {
+            accept(edit, r, newest, rooms, part, kept, false);
+        }
+        accept(edit, r, newest, rooms, part, kept, true);
+    }
+}
+
+// One edit is accepted, and the answer is told if it is to be.
+fn accept(
+    edit: &[u8],
+    r: u64,
+    newest: bool,
+    rooms: usize,
+    log: &mut [u8],
+    kept: &mut [u8],
     aloud: bool,
-) -> usize {
-    let against = if newest { words::count(log) } else { r };
-    let w = accept::accept(edit, against, log, out);
+) {
+    let mut out = untouched();
+    if rooms <= 40000 {
+        accept_in(
+            edit,
+            against(r, newest, log),
+            log,
+            &mut out[0..rooms],
+            kept,
+            aloud,
+        );
+    }
+}
+
+fn against(r: u64, newest: bool, log: &[u8]) -> u64 {
+    if newest { words::count(log) } else { r }
+}
+
+fn accept_in(edit: &[u8], r: u64, log: &mut [u8], out: &mut [u8], kept: &mut [u8], aloud: bool) {
+    let w = accept::accept(edit, r, log, out);
     if aloud {
         tell::accepted(w, log, out);
     }
     match w {
-        WrittenPair::Bytes(_, m) => keep(out, m, kept, last),
-        WrittenPair::Refused(_) => last,
+        WrittenPair::Bytes(_, m) => keep(out, m, kept),
+        WrittenPair::Refused(_) => (),
     }
 }
 
-// The counterparts are kept for a relay.
-fn keep(out: &[u8], m: usize, kept: &mut [u8], last: usize) -> usize {
+// The counterparts are kept for a relay, behind the number of their bytes.
+fn keep(out: &[u8], m: usize, kept: &mut [u8]) {
     if m <= out.len() {
-        operational_transform::core::copy(kept, 0, out, 0, m);
-        return m;
+        operational_transform::core::put16(kept, 0, m);
+        operational_transform::core::copy(kept, 2, out, 0, m);
     }
-    last
 }
 
-fn relay(records: &[u8], room: usize, log: &mut [u8]) {
-    if room <= log.len() {
-        let part = &mut log[0..room];
-        let before = words::count(part);
-        pass_on(records, part);
-        tell::relayed(before, part);
+fn relay(kept: &[u8], room: usize, log: &mut [u8]) {
+    let m = words::count(kept) as usize;
+    if 2 <= kept.len() {
+        if m <= kept.len() - 2 {
+            if room <= log.len() {
+                relay_in(&kept[2..m + 2], &mut log[0..room]);
+            }
+        }
     }
+}
+
+fn relay_in(records: &[u8], log: &mut [u8]) {
+    let before = words::count(log);
+    pass_on(records, log);
+    tell::relayed(before, log);
 }
 
 fn pass_on(records: &[u8], log: &mut [u8]) {
@@ -177,53 +238,6 @@ fn accepts(rec: &[u8], log: &mut [u8]) -> bool {
             false
         }
     }
-}
-
-// Calls that write the log.
-fn writes(word: &[u8], x: &[u8], s: State, log: &mut [u8]) -> bool {
-    let at = s.number;
-    let room = s.rooms as usize;
-    if check::same(word, b".open") {
-        if room <= log.len() {
-            let part = &mut log[0..room];
-            let w = log::open(at, part);
-            tell::opened(w, part);
-        }
-        return true;
-    }
-    if check::same(word, b".put") {
-        put(x, at as usize, log);
-        return true;
-    }
-    false
-}
-
-fn put(x: &[u8], at: usize, log: &mut [u8]) {
-    if 1 <= x.len() {
-        if at < log.len() {
-            tell::byte(log[at]);
-            log[at] = x[0];
-        }
-    }
-}
-
-// Calls that don't.
-fn reads(word: &[u8], x: &[u8], s: State, log: &[u8]) -> bool {
-    let room = s.room as usize;
-    let rooms = s.rooms as usize;
-    if check::same(word, b".show") {
-        tell::log(log);
-        return true;
-    }
-    if check::same(word, b".summary") {
-        summary(log, rooms);
-        return true;
-    }
-    if check::same(word, b".play") {
-        play(log, x, room, rooms);
-        return true;
-    }
-    false
 }
 
 fn summary(log: &[u8], rooms: usize) {

@@ -20,54 +20,43 @@ use listing::core::line;
 use listing::core::line::State;
 use listing::core::show;
 
-// A line's answer is printed behind it. The result is how many bytes of counterparts are kept.
-fn run(s: State, buf: &[u8], a: &mut [u8], b: &mut [u8], kept: &mut [u8], last: usize) -> usize {
+// A line's answer is printed behind it.
+fn run(s: State, buf: &[u8], a: &mut [u8], b: &mut [u8], kept: &mut [u8]) {
     if s.mode == 6 {
-        return last;
+        return;
     }
-    let w = s.word;
-    let e = s.len;
-    let f = calls::first_end(s.first, e);
-    if 1 <= w {
-        if w <= f {
-            if f <= e {
-                if e <= buf.len() {
-                    show::text(b" -> ");
-                    let x = &buf[w..f];
-                    let y = &buf[f..e];
-                    if buf[0] == b'a' {
-                        return calls::answer(&buf[1..w], x, y, s, a, kept, last);
-                    }
-                    return calls::answer(&buf[1..w], x, y, s, b, kept, last);
-                }
-            }
-        }
+    show::text(b" -> ");
+    if calls::is_b(buf) {
+        calls::answer(s, buf, b, kept);
+    } else {
+        calls::answer(s, buf, a, kept);
     }
-    last
 }
 
-// The line that begins at `from`, and what follows it.
-pub struct Turn {
-    pub at: usize,
-    pub last: usize,
-}
-
-fn one(input: &[u8], t: Turn, buf: &mut [u8], a: &mut [u8], b: &mut [u8], kept: &mut [u8]) -> Turn {
-    let s = line::read(input, t.at, buf);
+// The line that begins at `from`; where the next one begins.
+fn one(
+    input: &[u8],
+    from: usize,
+    buf: &mut [u8],
+    a: &mut [u8],
+    b: &mut [u8],
+    kept: &mut [u8],
+) -> usize {
+    let s = line::read(input, from, buf);
     show::line(input, s);
-    let last = run(s, buf, a, b, kept, t.last);
+    run(s, buf, a, b, kept);
     show::text(b"\n");
-    Turn { at: s.next, last }
+    s.next
 }
 
 // There are no more lines than bytes.
 fn lines(input: &[u8], buf: &mut [u8], a: &mut [u8], b: &mut [u8], kept: &mut [u8]) {
-    let mut t = Turn { at: 0, last: 0 };
+    let mut at = 0;
     for _ in 0..input.len() {
-        if input.len() <= t.at {
+        if input.len() <= at {
             return;
         }
-        t = one(input, t, buf, a, b, kept);
+        at = one(input, at, buf, a, b, kept);
     }
 }
 

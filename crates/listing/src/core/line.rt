@@ -244,3 +244,8 @@ pub fn read(input: &[u8], from: usize, buf: &mut [u8]) -> State {
     }
     ended(settled(s, buf), input.len(), input.len())
 }
+
+// Where the first operand ends.
+pub fn first_end(s: State) -> usize {
+    if s.first == 0 { s.len } else { s.first }
+}

@@ -6,10 +6,10 @@ use Rattle.sessions.proofs.lines.Statement.{statement}
 use Rattle.sessions.proofs.lines.Tie as tie
 
 abbrev Inv-loop : tie.InvT-loop
-Inv-loop input buf₀ a₀ b₀ kept₀ t₀ counter₀ end buf a b kept t counter = (counter ≤ end) × (length buf ≡ length buf₀) × (length a ≡ length a₀) × (length b ≡ length b₀) × (length kept ≡ length kept₀)
+Inv-loop input buf₀ a₀ b₀ kept₀ at₀ counter₀ end buf a b kept at counter = (counter ≤ end) × (length buf ≡ length buf₀) × (length a ≡ length a₀) × (length b ≡ length b₀) × (length kept ≡ length kept₀)
 
 abbrev μ-loop : tie.MeasureT-loop
-μ-loop input buf₀ a₀ b₀ kept₀ t₀ counter₀ end buf a b kept t counter = end - counter
+μ-loop input buf₀ a₀ b₀ kept₀ at₀ counter₀ end buf a b kept at counter = end - counter
 
 loop-holds : tie.Need-loop-holds Inv-loop μ-loop
 loop-holds c = search needs

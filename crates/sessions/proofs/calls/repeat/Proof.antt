@@ -6,16 +6,25 @@ use Rattle.sessions.proofs.calls.repeat.Statement.{statement}
 use Rattle.sessions.proofs.calls.repeat.Tie as tie
 
 abbrev Inv-loop : tie.InvT-loop
-Inv-loop edit r newest times log₀ kept₀ last room rooms len₀ counter₀ log kept len counter = (length log ≡ length log₀) × (length kept ≡ length kept₀)
+Inv-loop edit r newest often room rooms kept₀ part₀ counter₀ kept part counter = (length part ≡ room) × (length kept ≡ length kept₀)
 
 abbrev μ-loop : tie.MeasureT-loop
-μ-loop edit r newest times log₀ kept₀ last room rooms len₀ counter₀ log kept len counter = times - counter
+μ-loop edit r newest often room rooms kept₀ part₀ counter₀ kept part counter = often - counter
+
+sub-part : tie.Need-sub-part Inv-loop μ-loop
+sub-part c = search needs
+
+part-part-start : tie.Need-part-part-start Inv-loop μ-loop
+part-part-start c = search needs
+
+part-part-end : tie.Need-part-part-end Inv-loop μ-loop
+part-part-end c = search needs
 
 loop-holds : tie.Need-loop-holds Inv-loop μ-loop
 loop-holds c = search needs
 
-once-requires : tie.Need-once-requires Inv-loop μ-loop
-once-requires c κs = search needs
+accept-requires : tie.Need-accept-requires Inv-loop μ-loop
+accept-requires c κs = search needs
 
 add-counter : tie.Need-add-counter Inv-loop μ-loop
 add-counter c = search needs
@@ -26,8 +35,8 @@ loop-less c = search needs
 loop-again : tie.Need-loop-again Inv-loop μ-loop
 loop-again c = search needs
 
-once-requires-2 : tie.Need-once-requires-2 Inv-loop μ-loop
-once-requires-2 c κs = search needs
+accept-requires-2 : tie.Need-accept-requires-2 Inv-loop μ-loop
+accept-requires-2 c κs = search needs
 
 same-length : tie.Need-same-length Inv-loop μ-loop
 same-length c = search needs
@@ -38,18 +47,25 @@ same-length-2 c = search needs
 returns : tie.Need-returns Inv-loop μ-loop
 returns c = search needs
 
+returns-2 : tie.Need-returns-2 Inv-loop μ-loop
+returns-2 c = search needs
+
 pub repeat-spec : {M : Type 1} → statement M
 repeat-spec =
     tie.close
     (tie.spec
     Inv-loop
     μ-loop
+    sub-part
+    part-part-start
+    part-part-end
     loop-holds
-    once-requires
+    accept-requires
     add-counter
     loop-less
     loop-again
-    once-requires-2
+    accept-requires-2
     same-length
     same-length-2
-    returns)
+    returns
+    returns-2)
