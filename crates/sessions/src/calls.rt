@@ -23,7 +23,11 @@ pub(crate) fn is_b(buf: &[u8]) -> bool {
     buf[0] == b'b'
 }
 
-fn verb(name: &[u8]) -> u8 {
+fn verb(word: &[u8]) -> u8 {
+    if word.len() == 0 {
+        return 0;
+    }
+    let name = &word[1..];
     if check::same(name, b".accept") {
         return 1;
     }
@@ -60,22 +64,15 @@ fn times(y: &[u8]) -> usize {
 }
 
 pub(crate) fn answer(s: State, buf: &[u8], log: &mut [u8], kept: &mut [u8]) {
-    let w = s.word;
-    let e = s.len;
-    let f = line::first_end(s);
-    if 1 <= w {
-        if w <= f {
-            if f <= e {
-                if e <= buf.len() {
-                    let name = verb(&buf[1..w]);
-                    let often = times(&buf[f..e]);
-                    let room = s.room as usize;
-                    let rooms = s.rooms as usize;
-                    call(name, &buf[w..f], often, s.number, room, rooms, log, kept);
-                }
-            }
-        }
-    }
+    let p = line::ends(s, buf.len());
+    let w = p.name;
+    let f = p.first;
+    let e = p.second;
+    let name = verb(&buf[0..w]);
+    let often = times(&buf[f..e]);
+    let room = s.room as usize;
+    let rooms = s.rooms as usize;
+    call(name, &buf[w..f], often, s.number, room, rooms, log, kept);
 }
 
 fn call(
