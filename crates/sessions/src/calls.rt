@@ -6,21 +6,24 @@ use transform::WrittenPair;
 use wording::core::tell;
 use wording::core::words;
 ghost use mathlib.Core.Path.{_≡_};
+ghost use Prim.Native.Nat.{_≤_};
 ghost use lib.ListN.{length};
 
-// A buffer before its first use. The `ensures` is what lending it needs.
-pub(crate) fn untouched() -> [u8; 40000]
+// An output before a call. The `ensures` is what lending it needs.
+fn untouched() -> [u8; 40000]
     ensures { λ r. ⌜ 40000 ≡ length r ⌝ }
 {
     [0xEE; 40000]
 }
 
-// The name begins with the session's letter.
-pub(crate) fn is_b(buf: &[u8]) -> bool {
+// Where the log stands: the name begins with the session's letter.
+pub(crate) fn place(buf: &[u8]) -> usize
+    ensures { λ r. ⌜ r ≤ 40000 ⌝ }
+{
     if buf.len() == 0 {
-        return false;
+        return 0;
     }
-    buf[0] == b'b'
+    if buf[0] == b'b' { 40000 } else { 0 }
 }
 
 fn verb(word: &[u8]) -> u8 {

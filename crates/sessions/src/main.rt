@@ -21,51 +21,44 @@ use listing::core::line::State;
 use listing::core::show;
 
 // A line's answer is printed behind it.
-fn run(s: State, buf: &[u8], a: &mut [u8], b: &mut [u8], kept: &mut [u8]) {
+fn run(s: State, buf: &[u8], logs: &mut [u8], kept: &mut [u8]) {
     if s.mode == 6 {
         return;
     }
     show::text(b" -> ");
-    if calls::is_b(buf) {
-        calls::answer(s, buf, b, kept);
-    } else {
-        calls::answer(s, buf, a, kept);
+    let from = calls::place(buf);
+    let to = from + 40000;
+    if to <= logs.len() {
+        calls::answer(s, buf, &mut logs[from..to], kept);
     }
 }
 
 // The line that begins at `from`; where the next one begins.
-fn one(
-    input: &[u8],
-    from: usize,
-    buf: &mut [u8],
-    a: &mut [u8],
-    b: &mut [u8],
-    kept: &mut [u8],
-) -> usize {
+fn one(input: &[u8], from: usize, buf: &mut [u8], logs: &mut [u8], kept: &mut [u8]) -> usize {
     let s = line::read(input, from, buf);
     show::line(input, s);
-    run(s, buf, a, b, kept);
+    run(s, buf, logs, kept);
     show::text(b"\n");
     s.next
 }
 
 // There are no more lines than bytes.
-fn lines(input: &[u8], buf: &mut [u8], a: &mut [u8], b: &mut [u8], kept: &mut [u8]) {
+fn lines(input: &[u8], buf: &mut [u8], logs: &mut [u8], kept: &mut [u8]) {
     let mut at = 0;
     for _ in 0..input.len() {
         if input.len() <= at {
             return;
         }
-        at = one(input, at, buf, a, b, kept);
+        at = one(input, at, buf, logs, kept);
     }
 }
 
+// The logs of `a` and `b` have 40,000 bytes each, EE at first.
 fn main() {
     let mut input = io::large_buffer();
     let n = io::read_full(0, &mut input);
     let mut buf = [0u8; 131072];
-    let mut a = calls::untouched();
-    let mut b = calls::untouched();
-    let mut kept = calls::untouched();
-    lines(&input[..n], &mut buf, &mut a, &mut b, &mut kept);
+    let mut logs = [0xEEu8; 80000];
+    let mut kept = [0u8; 40002];
+    lines(&input[..n], &mut buf, &mut logs, &mut kept);
 }
