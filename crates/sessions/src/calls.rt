@@ -6,24 +6,21 @@ use transform::WrittenPair;
 use wording::core::tell;
 use wording::core::words;
 ghost use mathlib.Core.Path.{_≡_};
-ghost use Prim.Native.Nat.{_≤_};
 ghost use lib.ListN.{length};
 
-// An output before a call. The `ensures` is what lending it needs.
-fn untouched() -> [u8; 40000]
+// A buffer before its first use. The `ensures` is what lending it needs.
+pub(crate) fn untouched() -> [u8; 40000]
     ensures { λ r. ⌜ 40000 ≡ length r ⌝ }
 {
     [0xEE; 40000]
 }
 
-// Where the log stands: the name begins with the session's letter.
-pub(crate) fn place(buf: &[u8]) -> usize
-    ensures { λ r. ⌜ r ≤ 40000 ⌝ }
-{
+// The name begins with the session's letter.
+pub(crate) fn is_b(buf: &[u8]) -> bool {
     if buf.len() == 0 {
-        return 0;
+        return false;
     }
-    if buf[0] == b'b' { 40000 } else { 0 }
+    buf[0] == b'b'
 }
 
 fn verb(word: &[u8]) -> u8 {

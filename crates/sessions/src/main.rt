@@ -13,7 +13,8 @@
 //     a.put 07 #4                  writes the byte 07 at place 4 of the log, past all calls
 //     a.show                       the log: its contents, and the whole buffer of 40,000 bytes
 //
-// R, I and D stand for retain, insert and delete. Of several records the first and the last are printed.
+// No buffer has more than 40,000 bytes. R, I and D stand for retain, insert and delete; of several records the first and the
+// last are printed, and of a record its first eight operations.
 mod calls;
 
 use listing::core::line;
@@ -21,44 +22,51 @@ use listing::core::line::State;
 use listing::core::show;
 
 // A line's answer is printed behind it.
-fn run(s: State, buf: &[u8], logs: &mut [u8], kept: &mut [u8]) {
+fn run(s: State, buf: &[u8], a: &mut [u8], b: &mut [u8], kept: &mut [u8]) {
     if s.mode == 6 {
         return;
     }
     show::text(b" -> ");
-    let from = calls::place(buf);
-    let to = from + 40000;
-    if to <= logs.len() {
-        calls::answer(s, buf, &mut logs[from..to], kept);
+    if calls::is_b(buf) {
+        calls::answer(s, buf, b, kept);
+    } else {
+        calls::answer(s, buf, a, kept);
     }
 }
 
 // The line that begins at `from`; where the next one begins.
-fn one(input: &[u8], from: usize, buf: &mut [u8], logs: &mut [u8], kept: &mut [u8]) -> usize {
+fn one(
+    input: &[u8],
+    from: usize,
+    buf: &mut [u8],
+    a: &mut [u8],
+    b: &mut [u8],
+    kept: &mut [u8],
+) -> usize {
     let s = line::read(input, from, buf);
     show::line(input, s);
-    run(s, buf, logs, kept);
+    run(s, buf, a, b, kept);
     show::text(b"\n");
     s.next
 }
 
 // There are no more lines than bytes.
-fn lines(input: &[u8], buf: &mut [u8], logs: &mut [u8], kept: &mut [u8]) {
+fn lines(input: &[u8], buf: &mut [u8], a: &mut [u8], b: &mut [u8], kept: &mut [u8]) {
     let mut at = 0;
     for _ in 0..input.len() {
         if input.len() <= at {
             return;
         }
-        at = one(input, at, buf, logs, kept);
+        at = one(input, at, buf, a, b, kept);
     }
 }
 
-// The logs of `a` and `b` have 40,000 bytes each, EE at first.
 fn main() {
     let mut input = io::large_buffer();
     let n = io::read_full(0, &mut input);
     let mut buf = [0u8; 131072];
-    let mut logs = [0xEEu8; 80000];
+    let mut a = calls::untouched();
+    let mut b = calls::untouched();
     let mut kept = [0u8; 40002];
-    lines(&input[..n], &mut buf, &mut logs, &mut kept);
+    lines(&input[..n], &mut buf, &mut a, &mut b, &mut kept);
 }
