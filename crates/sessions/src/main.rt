@@ -15,8 +15,6 @@
 //
 // No buffer has more than 40,000 bytes. R, I and D stand for retain, insert and delete; of several records the first and the
 // last are printed, and of a record its first eight operations.
-mod calls;
-
 use listing::core::line;
 use listing::core::line::State;
 use listing::core::show;
@@ -27,10 +25,10 @@ fn run(s: State, buf: &[u8], a: &mut [u8], b: &mut [u8], kept: &mut [u8]) {
         return;
     }
     show::text(b" -> ");
-    if calls::is_b(buf) {
-        calls::answer(s, buf, b, kept);
+    if calling::core::is_b(buf) {
+        calling::core::answer(s, buf, b, kept);
     } else {
-        calls::answer(s, buf, a, kept);
+        calling::core::answer(s, buf, a, kept);
     }
 }
 
@@ -65,8 +63,8 @@ fn main() {
     let mut input = io::large_buffer();
     let n = io::read_full(0, &mut input);
     let mut buf = [0u8; 131072];
-    let mut a = calls::untouched();
-    let mut b = calls::untouched();
+    let mut a = calling::core::untouched();
+    let mut b = calling::core::untouched();
     let mut kept = [0u8; 40002];
     lines(&input[..n], &mut buf, &mut a, &mut b, &mut kept);
 }
