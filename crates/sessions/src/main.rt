@@ -2,7 +2,7 @@
 // as in `examples`; its name is the session's letter, a dot and one of these:
 //
 //     a.open #5 >40000             opens the log for texts that have 5 characters, in a buffer of 40,000 bytes
-//     a.accept EDIT, #2 >900 >50   accepts an edit written against revision 2, the log in a buffer of 900 bytes, with an
+//     a.accept EDIT #2 >900 >50    accepts an edit written against revision 2, the log in a buffer of 900 bytes, with an
 //                                  output of 50 bytes for the counterparts
 //     a.accept EDIT, =255 #2 ..    the same 255 times; the last answer is printed
 //     a.newest EDIT, =255 ..       each time against the revision that is then the newest (once without a number)
