@@ -8,20 +8,15 @@ use listing::core::show;
 
 // A line's answer is printed behind it.
 fn run(s: State, buf: &[u8]) {
-    let w = s.word;
-    let e = s.len;
     if s.mode == 6 {
         return;
     }
-    let f = line::first_end(s);
-    if w <= f {
-        if f <= e {
-            if e <= buf.len() {
-                show::text(b" -> ");
-                calls::answer(&buf[0..w], &buf[w..f], &buf[f..e], s);
-            }
-        }
-    }
+    let p = line::ends(s, buf.len());
+    let w = p.name;
+    let f = p.first;
+    let e = p.second;
+    show::text(b" -> ");
+    calls::answer(&buf[0..w], &buf[w..f], &buf[f..e], s);
 }
 
 // The line that begins at `from`; where the next one begins.

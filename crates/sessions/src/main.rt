@@ -2,7 +2,7 @@
 // as in `examples`; its name is the session's letter, a dot and one of these:
 //
 //     a.open #5 >40000             opens the log for texts that have 5 characters, in a buffer of 40,000 bytes
-//     a.accept EDIT, #2 >900 >50   accepts an edit written against revision 2, the log in a buffer of 900 bytes, with an
+//     a.accept EDIT #2 >900 >50    accepts an edit written against revision 2, the log in a buffer of 900 bytes, with an
 //                                  output of 50 bytes for the counterparts
 //     a.accept EDIT, =255 #2 ..    the same 255 times; the last answer is printed
 //     a.newest EDIT, =255 ..       each time against the revision that is then the newest (once without a number)
@@ -13,9 +13,8 @@
 //     a.put 07 #4                  writes the byte 07 at place 4 of the log, past all calls
 //     a.show                       the log: its contents, and the whole buffer of 40,000 bytes
 //
-// R, I and D stand for retain, insert and delete. Of several records the first and the last are printed.
-mod calls;
-
+// No buffer has more than 40,000 bytes. R, I and D stand for retain, insert and delete; of several records the first and the
+// last are printed, and of a record its first eight operations.
 use listing::core::line;
 use listing::core::line::State;
 use listing::core::show;
@@ -26,10 +25,10 @@ fn run(s: State, buf: &[u8], a: &mut [u8], b: &mut [u8], kept: &mut [u8]) {
         return;
     }
     show::text(b" -> ");
-    if calls::is_b(buf) {
-        calls::answer(s, buf, b, kept);
+    if calling::core::is_b(buf) {
+        calling::core::answer(s, buf, b, kept);
     } else {
-        calls::answer(s, buf, a, kept);
+        calling::core::answer(s, buf, a, kept);
     }
 }
 
@@ -64,8 +63,8 @@ fn main() {
     let mut input = io::large_buffer();
     let n = io::read_full(0, &mut input);
     let mut buf = [0u8; 131072];
-    let mut a = calls::untouched();
-    let mut b = calls::untouched();
-    let mut kept = calls::untouched();
+    let mut a = calling::core::untouched();
+    let mut b = calling::core::untouched();
+    let mut kept = [0u8; 40002];
     lines(&input[..n], &mut buf, &mut a, &mut b, &mut kept);
 }

@@ -1,4 +1,5 @@
 // One line of the list, taken a byte at a time: a call's name, then its operands as bytes.
+ghost use Prim.Native.Nat.{_≤_};
 
 // Modes: 0 the name; 1 an operand; 2 text in quotes; 3 to 5 and 7 a decimal number behind `=`, `#`, `]` or `>`; 6 a remark.
 pub struct State {
@@ -245,7 +246,33 @@ pub fn read(input: &[u8], from: usize, buf: &mut [u8]) -> State {
     ended(settled(s, buf), input.len(), input.len())
 }
 
-// Where the first operand ends.
-pub fn first_end(s: State) -> usize {
-    if s.first == 0 { s.len } else { s.first }
+// Where the name, the first operand and the second end in a buffer of n bytes. The `ensures` is what taking them out needs.
+pub struct Parts {
+    pub name: usize,
+    pub first: usize,
+    pub second: usize,
+}
+
+pub fn ends(s: State, n: usize) -> Parts
+    ensures { λ r. ⌜ (r .name ≤ r .first) × (r .first ≤ r .second) × (r .second ≤ n) ⌝ }
+{
+    let name = s.word;
+    let second = s.len;
+    let first = if s.first == 0 { second } else { s.first };
+    if name <= first {
+        if first <= second {
+            if second <= n {
+                return Parts {
+                    name,
+                    first,
+                    second,
+                };
+            }
+        }
+    }
+    Parts {
+        name: 0,
+        first: 0,
+        second: 0,
+    }
 }

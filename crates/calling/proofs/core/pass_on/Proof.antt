@@ -2,8 +2,8 @@ use Prim.Native.Nat.{_-_, _≤_}
 use mathlib.Core.Path.{_≡_}
 use lib.ListN.{length}
 use borrow.Author.Needs.{needs}
-use Rattle.sessions.proofs.calls.pass_on.Statement.{statement}
-use Rattle.sessions.proofs.calls.pass_on.Tie as tie
+use Rattle.calling.proofs.core.pass_on.Statement.{statement}
+use Rattle.calling.proofs.core.pass_on.Tie as tie
 
 abbrev Inv-loop : tie.InvT-loop
 Inv-loop records log₀ at₀ counter₀ log at counter = (counter ≤ 256) × (length log ≡ length log₀)

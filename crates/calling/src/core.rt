@@ -1,4 +1,4 @@
-// The calls by their names.
+// Calls on a log by their names, each with its answer printed: no contract states that.
 use listing::core::line;
 use listing::core::line::State;
 use listing::core::show;
@@ -9,21 +9,25 @@ ghost use mathlib.Core.Path.{_≡_};
 ghost use lib.ListN.{length};
 
 // A buffer before its first use. The `ensures` is what lending it needs.
-pub(crate) fn untouched() -> [u8; 40000]
+pub fn untouched() -> [u8; 40000]
     ensures { λ r. ⌜ 40000 ≡ length r ⌝ }
 {
     [0xEE; 40000]
 }
 
 // The name begins with the session's letter.
-pub(crate) fn is_b(buf: &[u8]) -> bool {
+pub fn is_b(buf: &[u8]) -> bool {
     if buf.len() == 0 {
         return false;
     }
     buf[0] == b'b'
 }
 
-fn verb(name: &[u8]) -> u8 {
+fn verb(word: &[u8]) -> u8 {
+    if word.len() == 0 {
+        return 0;
+    }
+    let name = &word[1..];
     if check::same(name, b".accept") {
         return 1;
     }
@@ -59,23 +63,16 @@ fn times(y: &[u8]) -> usize {
     words::wide(y[0]) + 256 * words::wide(y[1])
 }
 
-pub(crate) fn answer(s: State, buf: &[u8], log: &mut [u8], kept: &mut [u8]) {
-    let w = s.word;
-    let e = s.len;
-    let f = line::first_end(s);
-    if 1 <= w {
-        if w <= f {
-            if f <= e {
-                if e <= buf.len() {
-                    let name = verb(&buf[1..w]);
-                    let often = times(&buf[f..e]);
-                    let room = s.room as usize;
-                    let rooms = s.rooms as usize;
-                    call(name, &buf[w..f], often, s.number, room, rooms, log, kept);
-                }
-            }
-        }
-    }
+pub fn answer(s: State, buf: &[u8], log: &mut [u8], kept: &mut [u8]) {
+    let p = line::ends(s, buf.len());
+    let w = p.name;
+    let f = p.first;
+    let e = p.second;
+    let name = verb(&buf[0..w]);
+    let often = times(&buf[f..e]);
+    let room = s.room as usize;
+    let rooms = s.rooms as usize;
+    call(name, &buf[w..f], often, s.number, room, rooms, log, kept);
 }
 
 fn call(

@@ -2,8 +2,8 @@ use Prim.Native.Nat.{_-_}
 use mathlib.Core.Path.{_≡_}
 use lib.ListN.{length}
 use borrow.Author.Needs.{needs}
-use Rattle.sessions.proofs.calls.repeat.Statement.{statement}
-use Rattle.sessions.proofs.calls.repeat.Tie as tie
+use Rattle.calling.proofs.core.repeat.Statement.{statement}
+use Rattle.calling.proofs.core.repeat.Tie as tie
 
 abbrev Inv-loop : tie.InvT-loop
 Inv-loop edit r newest often room rooms kept₀ part₀ counter₀ kept part counter = (length part ≡ room) × (length kept ≡ length kept₀)

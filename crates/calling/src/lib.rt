@@ -1,0 +1,2 @@
+// What the program `sessions` does with a line.
+pub mod core;
