@@ -1,0 +1,18 @@
+use borrow.Author.Needs.{needs}
+use Rattle.c_api.proofs.ot_open.Statement.{statement}
+use Rattle.c_api.proofs.ot_open.Tie as tie
+
+open-requires : tie.Need-open-requires
+open-requires c κs = search needs
+
+written-requires : tie.Need-written-requires
+written-requires c κs = search needs
+
+same-length : tie.Need-same-length
+same-length c = search needs
+
+returns : tie.Need-returns
+returns c = ((cc), search needs)
+
+pub ot-open-spec : {M : Type 1} → statement M
+ot-open-spec = tie.close (tie.spec open-requires written-requires same-length returns)

@@ -1,0 +1,15 @@
+use borrow.Author.Needs.{needs}
+use Rattle.c_api.proofs.ot_target_len.Statement.{statement}
+use Rattle.c_api.proofs.ot_target_len.Tie as tie
+
+target-len-requires : tie.Need-target-len-requires
+target-len-requires c κs = search needs
+
+fact-requires : tie.Need-fact-requires
+fact-requires c κs = search needs
+
+returns : tie.Need-returns
+returns c = cc
+
+pub ot-target-len-spec : {M : Type 1} → statement M
+ot-target-len-spec = tie.close (tie.spec target-len-requires fact-requires returns)
