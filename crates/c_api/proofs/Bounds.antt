@@ -1,14 +1,14 @@
 -- Two results fit into one number: each is at most the size of 256 records.
 use Prim.Native.Nat.{ℕ, zero, suc, _*_, _≤_}
 use native.Mathlib.Omega.{arith}
-use mathlib.Core.Path.{_≡_, refl, sym, ap, _∙_}
-use mathlib.Core.Bool.{true, _&&_}
+use mathlib.Core.Path.{_≡_, refl, ap}
+use mathlib.Core.Bool.{_&&_}
 use mathlib.Core.List.{List, [], _∷_}
 use lib.Dec.{T, leb, ltb, eqb, le→leb, ltb→lt}
 use lib.ListN.{length, drop, length-append, length-drop}
 use Rattle.utf8.specs.Order.{order}
 use Rattle.utf8.proofs.Tests.{both}
-use Rattle.operation.specs.Answer.{Answer, gives, refused, needs, first, settle}
+use Rattle.operation.specs.Answer.{gives, refused, needs, first, settle}
 use Rattle.operation.specs.Layout.{sizeOf, baseOf}
 use Rattle.operation.specs.Record.{Seq, encode, fits, ops, recordFault}
 use Rattle.operation.proofs.Sequences.{Good}
@@ -17,7 +17,7 @@ use Rattle.operation.proofs.Refusals.{needs-out, first-zero}
 use Rattle.operational_transform.specs.Output.{atFront, Outs, writingBoth}
 use Rattle.operational_transform.specs.Transform.{transform}
 use Rattle.operational_transform.specs.Calls.{recordsFault, transformCall}
-use Rattle.log.specs.Log.{encodeAll, countOf, readable, sizeOfLog, lengthAt, editsIn, revisions}
+use Rattle.log.specs.Log.{encodeAll, countOf, readable, lengthAt, editsIn, revisions}
 use Rattle.log.proofs.Rows.{Each}
 use Rattle.session.specs.Rows.{rebase}
 use Rattle.session.specs.Session.{movedIn, acceptFault, append, acceptCall}

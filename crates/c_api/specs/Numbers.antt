@@ -1,6 +1,6 @@
 -- A call's answer as one number of 64 bits, for callers in C.
-use Prim.Native.Nat.{ℕ, zero, suc, _+_, _*_, _^_}
-use mathlib.Core.Bool.{Bool, true, _&&_}
+use Prim.Native.Nat.{ℕ, zero, suc, _+_, _*_, _-_, _/_, _%_, _^_}
+use mathlib.Core.Bool.{Bool, true, false, cond, _&&_}
 use mathlib.Core.List.{[], _∷_}
 use lib.Dec.{leb}
 use Rattle.operation.specs.Answer.{Answer, gives, refused}
@@ -15,14 +15,22 @@ packed (gives (m ∷ [])) = m
 packed (gives (m ∷ n ∷ ns)) = m + 2 ^ 32 * n
 packed (refused n) = 2 ^ 63 + n
 
--- The results of a call that gives two are at most this: 256 records of 35,848 bytes.
+-- How a caller reads it: the answer of a call that gives one result, and of one that gives two.
+unfoldable pub readOne : ℕ → Answer
+readOne r = cond (leb (2 ^ 63) r) (refused (r - 2 ^ 63)) (gives (r ∷ []))
+
+unfoldable pub readTwo : ℕ → Answer
+readTwo r = cond (leb (2 ^ 63) r) (refused (r - 2 ^ 63)) (gives (r % 2 ^ 32 ∷ r / 2 ^ 32 ∷ []))
+
+-- two results, each at most the size of 256 records of 35,848 bytes; or a refusal
 abbrev pub most : ℕ
 most = 9177088
 
 abbrev pub small : Answer → Bool
-small (gives []) = true
-small (gives (m ∷ [])) = true
-small (gives (m ∷ n ∷ ns)) = leb m most && leb n most
+small (gives []) = false
+small (gives (m ∷ [])) = false
+small (gives (m ∷ n ∷ [])) = leb m most && leb n most
+small (gives (m ∷ n ∷ k ∷ ns)) = false
 small (refused n) = true
 
 -- what a step finds: the kind and 256 times the count; 0 at the end
