@@ -12,7 +12,7 @@ use Rattle.operation.specs.Answer.{gives, refused, needs, first, settle}
 use Rattle.operation.specs.Layout.{sizeOf, baseOf}
 use Rattle.operation.specs.Record.{Seq, encode, fits, ops, recordFault}
 use Rattle.operation.proofs.Sequences.{Good}
-use Rattle.operation.proofs.Records.{ops-good}
+use Rattle.operation.proofs.Records.{encode-small, ops-good}
 use Rattle.operation.proofs.Refusals.{needs-out, first-zero}
 use Rattle.operational_transform.specs.Output.{atFront, Outs, writingBoth}
 use Rattle.operational_transform.specs.Transform.{transform}
@@ -22,7 +22,6 @@ use Rattle.log.proofs.Rows.{Each}
 use Rattle.session.specs.Rows.{rebase}
 use Rattle.session.specs.Session.{movedIn, acceptFault, append, acceptCall}
 use Rattle.session.proofs.Moving.{rebase-length, rebase-good}
-use Rattle.accept.proofs.Passing.{fits-size}
 use Rattle.transform.specs.declared.WrittenPair.{WrittenPair}
 use Rattle.transform.specs.Pairs.{pairOf}
 use Rattle.c_api.specs.Numbers.{most, small}
@@ -56,14 +55,14 @@ transform-small a b x y =
     let (f, z₂) = needs-out (eqb (baseOf a) (baseOf b)) 7 _ z₁ in
     let (k, z₃) = needs-out (fits (s .left) && fits (s .right)) 8 0 z₂ in
     let (l, r) = both (fits (s .left)) (fits (s .right)) .0 k in
-    (omega (arith, fits-size (s .left) l), omega (arith, fits-size (s .right) r)))
+    (omega (arith, encode-small (s .left) l), omega (arith, encode-small (s .right) r)))
 
 -- ---- accept: a record, and at most 255 counterparts
 
 all-small : (es : List Seq) → Each Good es → length (encodeAll es) ≤ 35848 * length es
 unfolding encodeAll
 all-small [] h = omega arith
-all-small (e ∷ es) h = omega (arith, length-append (encode e) (encodeAll es), fits-size e (h .0 .in-limits), all-small es (h .1))
+all-small (e ∷ es) h = omega (arith, length-append (encode e) (encodeAll es), encode-small e (h .0 .in-limits), all-small es (h .1))
 
 edits-length : (n : ℕ) (l : List ℕ) → length (editsIn n l) ≡ n
 unfolding editsIn
@@ -86,7 +85,7 @@ accept-small edit r log out =
     let (e, z₅) = needs-out (ltb (countOf log) 256 && m .kept) 8 _ z₄ in
     let (f, k) = both (ltb (countOf log) 256) (m .kept) .0 e in
     let g = rebase-good (ops edit) vs (ops-good edit a) k in
-    two (length (encode (m .edit))) (length (encodeAll (m .counterparts))) (omega (arith, fits-size (m .edit) (g .0 .in-limits)))
+    two (length (encode (m .edit))) (length (encodeAll (m .counterparts))) (omega (arith, encode-small (m .edit) (g .0 .in-limits)))
     (omega
     (arith, all-small (m .counterparts) (g .1), rebase-length (ops edit) vs, length-drop r (revisions log), edits-length (countOf log) (drop 4 log), ltb→lt (countOf log) 256 f)))
 
