@@ -4,10 +4,10 @@ use Rattle.vectors.proofs.main.Statement.{statement}
 use Rattle.vectors.proofs.main.Tie as tie
 
 abbrev Inv-loop : tie.InvT-loop
-Inv-loop t₀ i₀ t3 t4 t5 i-end t i = Unit {0}
+Inv-loop t₀ i₀ i-end t i = Unit {0}
 
 abbrev μ-loop : tie.MeasureT-loop
-μ-loop t₀ i₀ t3 t4 t5 i-end t i = i-end - i
+μ-loop t₀ i₀ i-end t i = i-end - i
 
 arg-count-requires : tie.Need-arg-count-requires Inv-loop μ-loop
 arg-count-requires c κs = search needs
