@@ -2,13 +2,13 @@
 use Prim.Native.Nat.{ℕ, zero, suc, _+_, _-_, _≤_, _<_}
 use native.Mathlib.Nat.{add-zero}
 use native.Mathlib.Omega.{arith}
-use mathlib.Core.Path.{_≡_, refl, sym, ap, _∙_}
+use mathlib.Core.Path.{_≡_, refl, sym, ap, ap₂, _∙_}
 use mathlib.Core.Bool.{Bool, true, false, cond, not}
 use mathlib.Core.List.{List, [], _∷_, map}
-use lib.Dec.{eqb}
-use lib.ListN.{length, take, drop, getD, length-map, List·getD-map, List·getD-eq-default}
+use lib.Dec.{eqb, leb, ltb}
+use lib.ListN.{length, take, drop, getD, length-map, length-take, List·getD-map, List·getD-eq-default}
 use lib.Seq.{getD-drop}
-use borrow.Author.Tests.{eq-eqb, ne-eqb, eqb-true, eqb-false, not-true, not-false}
+use borrow.Author.Tests.{eq-eqb, ne-eqb, eqb-true, eqb-false, leb-true, leb-false, ltb-true, ltb-false, not-true, not-false}
 use Rattle.utf8.specs.Chars.{allOf}
 use Rattle.utf8.proofs.Tests.{known}
 use Rattle.operation.specs.declared.Refusal.{Refusal}
@@ -26,10 +26,10 @@ use Rattle.operation.specs.Layout.{recordsOf, textBytesOf, baseOf, targe
 use Rattle.operation.specs.Record.{Seq, ByteSeq, inChars, inserted, entries, byteOps, ops, inLimits, soundEntry, insertBytes, sound, wellInserted, givesChars, adds, recordFault}
 use Rattle.operation.specs.Front.{byteOpsLeft}
 use Rattle.operation.specs.Checks.{entriesOf, outcome, start, Sound, Reached}
-use Rattle.operation.specs.Calls.{checkCall, baseCall, targetCall, noEffect, noopCall, textCall}
+use Rattle.operation.specs.Calls.{checkCall, baseCall, targetCall, noEffect, noopCall, textCall, textFrom}
 use Rattle.operation.proofs.Faults.{InLimits, limits, faultless}
 use Rattle.operation.proofs.Records.{byteOps-length, ops-length}
-use Rattle.operation.proofs.Walks.{left-all, left-done, left-retain, left-insert, left-delete}
+use Rattle.operation.proofs.Walks.{left-all, left-done, left-retain, left-insert, left-delete, inserts-more, inserts-all}
 use Rattle.operation.proofs.Checking.{pass-start, reached-room, Reach, reach}
 
 -- which enum's case a number found by a test is
@@ -288,3 +288,76 @@ module _ (r : List ℕ) (f : Fact) (p : factOf f ≡ checkCall r) where
           text-is =
               let e : from + count - from ≡ countAt r k = omega arith in
               ap (λ j. take j (drop from r)) e ∙ at-front from _ _ g (left-insert r k (omega arith) from (sym pk ∙ z))
+
+-- ---- where it begins
+
+-- behind the text of the records before it
+module _ (r : List ℕ) (k from : ℕ) (z : recordFault r ≡ 0) (h : k < recordsOf r) (g : Reached r k from) where
+  pub text-from : from ≡ textFrom r k
+  unfolding textFrom
+  text-from = omega (arith, g .ends, inserts-all r k (omega arith), no-fault r z .adds-up)
+
+  pub from-small : from ≤ 35848
+  from-small = omega (arith, g .ends, no-fault r z .few, no-fault r z .short)
+
+module _ (r : List ℕ) (k : ℕ) (h : 0 < length (textCall r k)) where
+  pub text-passed : recordFault r ≡ 0
+  unfolding textCall
+  text-passed = go (recordFault r) h
+    where
+      go : (m : ℕ) → 0 < length (settle m (λ n. []) (getD (map inserted (byteOps r)) k [])) → m ≡ 0
+      go zero l = refl
+      go (suc m) l = absurd (omega arith)
+
+  checked : gives (sizeOf r ∷ []) ≡ checkCall r
+  unfolding checkCall
+  checked = rw text-passed
+
+  pub text-index : k < recordsOf r
+  text-index = go (leb (recordsOf r) k) refl
+    where
+      go : (b : Bool) → leb (recordsOf r) k ≡ b → k < recordsOf r
+      go true e = absurd (omega (arith, ap length (text-past r (fact.Is (sizeOf r)) checked (sizeOf r) refl (recordsOf r) k refl (leb-true (recordsOf r) k e))))
+      go false e = leb-false (recordsOf r) k e
+
+  text-kind : kindAt r k ≡ 2
+  text-kind = go (eqb (kindAt r k) 2) refl
+    where
+      go : (b : Bool) → eqb (kindAt r k) 2 ≡ b → kindAt r k ≡ 2
+      go true e = eqb-true (kindAt r k) 2 e
+      go false e = absurd (omega (arith, ap length (text-other r (fact.Is (sizeOf r)) checked (sizeOf r) refl (recordsOf r) k refl text-index (kindAt r k) refl (eqb-false (kindAt r k) 2 e))))
+
+  reached : Reach r k
+  reached = reach r (no-fault r text-passed) k (omega (arith, text-index))
+
+  -- how many bytes of the record it is
+  there : take (countAt r k) (drop (textFrom r k) r) ≡ textCall r k
+  there =
+      let from = reached .at in
+      let e : from + countAt r k - from ≡ countAt r k = omega arith in
+      ap₂ (λ n i. take n (drop i r)) (sym e) (sym (text-from r k from text-passed text-index (reached .reached)))
+      ∙ text-is r (fact.Is (sizeOf r)) checked (sizeOf r) refl (recordsOf r) k refl text-index (kindAt r k) refl from (countAt r k) text-kind (reached .reached) refl
+
+  pub text-small : length (textCall r k) ≤ 32768
+  text-small =
+      omega
+      (arith, ap length there, length-take (countAt r k) (drop (textFrom r k) r), inserts-more r k text-index text-kind, inserts-all r k (omega (arith, text-index)), no-fault r text-passed .adds-up, no-fault r text-passed .short)
+
+take-again : (n : ℕ) (l : List ℕ) → take (length (take n l)) l ≡ take n l
+take-again zero l = refl
+take-again (suc n) [] = refl
+take-again (suc n) (x ∷ l) = ap (λ t. x ∷ t) (take-again n l)
+
+-- the text of record k is the part of the record that begins there
+pub text-stands : (r : List ℕ) (k : ℕ) → take (length (textCall r k)) (drop (textFrom r k) r) ≡ textCall r k
+text-stands r k = go (ltb 0 (length (textCall r k))) refl
+  where
+    none : (x l : List ℕ) → length x ≤ 0 → take (length x) l ≡ x
+    none [] l h = refl
+    none (c ∷ x) l h = absurd (omega arith)
+
+    go : (b : Bool) → ltb 0 (length (textCall r k)) ≡ b → take (length (textCall r k)) (drop (textFrom r k) r) ≡ textCall r k
+    go true e =
+        let t = there r k (ltb-true 0 (length (textCall r k)) e) in
+        ap (λ x. take (length x) (drop (textFrom r k) r)) (sym t) ∙ take-again (countAt r k) (drop (textFrom r k) r) ∙ t
+    go false e = none (textCall r k) (drop (textFrom r k) r) (ltb-false 0 (length (textCall r k)) e)

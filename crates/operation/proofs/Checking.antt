@@ -212,7 +212,8 @@ pub reached-start : (r : List ℕ) (n at : ℕ) → Sound r → n ≡ recordsOf 
 unfolding entries
 reached-start r n at s e f =
     record {
-      room = rw (sub-zero (recordsOf r)) (omega (arith, s .room, s .adds-up));
+      whole = s .room;
+      ends = rw (sub-zero (recordsOf r)) (omega (arith, s .adds-up));
       left = sym (left-all r (s .adds-up)) ∙ ap (byteOpsLeft r 0) (sym (f ∙ ap textStart e));
     }
 
@@ -223,18 +224,20 @@ module _ (r : List ℕ) (n k at kind : ℕ) (h : k < n) (e : n ≡ recordsOf r) 
   pub reached-other : (kind ≡ 2 → ⊥) → Reached r (k + 1) at
   reached-other z =
       record {
-        room = omega (arith, inserts-same r k (omega arith) (λ y. z (f ∙ y)), g .room);
+        whole = g .whole;
+        ends = omega (arith, inserts-same r k (omega arith) (λ y. z (f ∙ y)), g .ends);
         left = past ∙ left-other r k (omega arith) at (λ y. z (f ∙ y));
       }
 
   module _ (count : ℕ) (c : count ≡ countAt r k) (z : kind ≡ 2) where
     pub reached-room : at + count ≤ length r
-    reached-room = omega (arith, inserts-more r k (omega arith) (sym f ∙ z), g .room)
+    reached-room = omega (arith, inserts-more r k (omega arith) (sym f ∙ z), g .ends, g .whole)
 
     pub reached-insert : Reached r (k + 1) (at + count)
     reached-insert =
         record {
-          room = omega (arith, inserts-more r k (omega arith) (sym f ∙ z), g .room);
+          whole = g .whole;
+          ends = omega (arith, inserts-more r k (omega arith) (sym f ∙ z), g .ends);
           left = past ∙ ap (drop 1) (left-insert r k (omega arith) at (sym f ∙ z)) ∙ ap (λ j. byteOpsLeft r (k + 1) (at + j)) (sym c);
         }
 

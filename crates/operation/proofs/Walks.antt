@@ -1,9 +1,9 @@
 -- Going through a record: the records from k on, and what the next one adds.
 use Prim.Native.Nat.{ℕ, zero, suc, _+_, _-_, _≤_, _<_}
-use native.Mathlib.Nat.{sub-zero, zero-add, suc-add}
+use native.Mathlib.Nat.{sub-zero, zero-add, add-zero, suc-add}
 use native.Mathlib.Numerals.{add-one}
 use native.Mathlib.Omega.{arith}
-use mathlib.Core.Path.{_≡_, refl, sym, ap, _∙_}
+use mathlib.Core.Path.{_≡_, refl, sym, ap, ap₂, _∙_}
 use mathlib.Core.Bool.{Bool, true, false, cond, _&&_}
 use mathlib.Core.List.{List, [], _∷_}
 use lib.Dec.{T, eqb, leb→le}
@@ -98,3 +98,23 @@ unfolding byteOpsLeft byteOps entries textOf
 left-all r e =
     ap (λ n. operations (entriesFrom r 0 n) (drop (textStart (recordsOf r)) r)) (sub-zero (recordsOf r))
     ∙ sym (operations-take (entriesFrom r 0 (recordsOf r)) (textBytesOf r) (drop (textStart (recordsOf r)) r) (omega arith))
+
+-- the inserts of the records before k and of those from k on are all of them
+inserts-split : (r : List ℕ) (i a b : ℕ) → insertBytes (entriesFrom r i (a + b)) ≡ insertBytes (entriesFrom r i a) + insertBytes (entriesFrom r (i + a) b)
+inserts-split r i zero b = ap₂ (λ n j. insertBytes (entriesFrom r j n)) (zero-add b) (sym (add-zero i)) ∙ sym (zero-add _)
+inserts-split r i (suc a) b =
+    let e : suc i + a ≡ i + suc a = omega arith in
+    ap (λ n. insertBytes (entriesFrom r i n)) (suc-add a b)
+    ∙ go (eqb (kindAt r i) 2) (insertBytes (entriesFrom r (suc i) a)) (insertBytes (entriesFrom r (i + suc a) b)) (inserts-split r (suc i) a b ∙ ap (λ j. insertBytes (entriesFrom r (suc i) a) + insertBytes (entriesFrom r j b)) e)
+  where
+    go : (t : Bool) {x : ℕ} (y z : ℕ) → x ≡ y + z → cond t (countAt r i + x) x ≡ cond t (countAt r i + y) y + z
+    go true y z h = omega arith
+    go false y z h = h
+
+pub inserts-all : (r : List ℕ) (k : ℕ) → k ≤ recordsOf r → insertBytes (entriesFrom r 0 k) + insertBytes (entriesLeft r k) ≡ insertBytes (entries r)
+unfolding entries
+inserts-all r k h =
+    let e : k + (recordsOf r - k) ≡ recordsOf r = omega arith in
+    ap (λ j. insertBytes (entriesFrom r 0 k) + insertBytes (entriesFrom r j (recordsOf r - k))) (sym (zero-add k))
+    ∙ sym (inserts-split r 0 k (recordsOf r - k))
+    ∙ ap (λ n. insertBytes (entriesFrom r 0 n)) e

@@ -66,5 +66,6 @@ pub data Passes (r : List ℕ) (k : ℕ) (p : Pass) : Passed → Type 0 where
 
 -- the text of the records from k on begins at `at`
 pub record Reached (r : List ℕ) (k at : ℕ) : Type 0 where
-  pub room : at + insertBytes (entriesLeft r k) ≤ length r
+  pub whole : sizeOf r ≤ length r
+  pub ends : at + insertBytes (entriesLeft r k) ≡ sizeOf r
   pub left : drop k (byteOps r) ≡ byteOpsLeft r k at

@@ -4,6 +4,7 @@ ghost use Prim.Native.Nat.{_+_, _*_, _^_, _≤_, _<_};
 ghost use lib.ListN.{length};
 ghost use Rattle.operation.specs.Layout.{wordAt, recordsOf, baseOf, targetOf, sizeOf, kindsStart, countsStart, textStart, kindAt, countAt};
 ghost use Rattle.operation.specs.Record.{recordFault, ops};
+ghost use Rattle.operation.specs.Calls.{textFrom};
 ghost use Rattle.operation.specs.Front.{Place, Stands, ahead, Loads, Leaves, Cut};
 
 // The front of what lies ahead in a record: a kind (0 at the end), how many characters are left of it, the bytes of
@@ -90,6 +91,14 @@ pub fn count(rec: &[u8], n: usize, k: usize) -> usize
     ensures { λ r. ⌜ (r ≡ countAt (now (rec .entry)) k) × (r < 65536) ⌝ }
 {
     crate::layout::count(rec, n, k)
+}
+
+// Where the text of record k of n begins, were it an insert.
+pub fn text_from(rec: &[u8], n: usize, k: usize) -> usize
+    requires { ⌜ (recordFault (now rec) ≡ 0) × (n ≡ recordsOf (now rec)) × (k < recordsOf (now rec)) ⌝ }
+    ensures { λ r. ⌜ (r ≡ textFrom (now (rec .entry)) k) × (r ≤ 35848) ⌝ }
+{
+    crate::checks::text_at(rec, n, k)
 }
 
 // The front of a whole record of n.

@@ -1,0 +1,4 @@
+-- c_api
+pub mod Bounds
+pub mod Packing
+pub mod Reading

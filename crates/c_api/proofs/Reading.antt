@@ -1,0 +1,169 @@
+-- Reading a call's number gives back its answer. Outputs are shorter than 2 ^ 63 bytes, as every buffer is.
+use Prim.Native.Nat.{ℕ, zero, suc, _+_, _*_, _-_, _/_, _%_, _^_, _≤_, _<_}
+use native.Mathlib.Omega.{arith}
+use mathlib.Core.Path.{_≡_, refl, ap, ap₂}
+use mathlib.Core.Bool.{true}
+use mathlib.Core.List.{List, [], _∷_}
+use lib.Dec.{T, leb, eqb, leb→le}
+use lib.ListN.{length}
+use borrow.Author.Tests.{le-leb, lt-leb}
+use Rattle.utf8.specs.Chars.{numChars}
+use Rattle.utf8.specs.Text.{chars, bytes}
+use Rattle.utf8.proofs.Tests.{both}
+use Rattle.operation.specs.declared.Refusal.{Refusal}
+use Rattle.operation.specs.declared.Refusal.the-variants.{Size, Entry, Utf8, Neighbours, Sums, Log, Revision, IncompatibleLengths, Limit, Room}
+use Rattle.operation.specs.Answer.{number, Answer, gives, refused, needs, first, settle}
+use Rattle.operation.specs.Op.{retain, insert, delete}
+use Rattle.operation.specs.Layout.{words, baseOf, targetOf, sizeOf}
+use Rattle.operation.specs.Record.{Seq, encode, fits, ops, recordFault}
+use Rattle.operation.specs.Calls.{checkCall, baseCall, targetCall, noEffect, noopCall}
+use Rattle.operation.proofs.Refusals.{needs-out, first-zero}
+use Rattle.operation.proofs.Faults.{InLimits, limits, faultless}
+use Rattle.operational_transform.specs.Output.{atFront, Out, writing}
+use Rattle.operational_transform.specs.Build.{extend}
+use Rattle.operational_transform.specs.Apply.{apply}
+use Rattle.operational_transform.specs.Compose.{compose}
+use Rattle.operational_transform.specs.Invert.{invert}
+use Rattle.operational_transform.specs.Calls.{recordsFault, textFault, deliver, retainCall, deleteCall, insertCall, applyCall, invertCall, composeCall, transformCall}
+use Rattle.log.specs.Log.{startOf, revisions}
+use Rattle.log.specs.Open.{openCall}
+use Rattle.session.specs.Rows.{still, composeAll}
+use Rattle.session.specs.Session.{acceptCall, summaryFault, summaryCall, played, playFault, playCall}
+use Rattle.c_api.specs.Numbers.{packed, readOne, readTwo, most, small}
+use Rattle.c_api.proofs.Bounds.{transform-small, accept-small}
+
+-- a refusal's number is the low byte
+pub low-byte : (x : Refusal) → (2 ^ 63 + number x) % 256 ≡ number x
+low-byte Size = refl
+low-byte Entry = refl
+low-byte Utf8 = refl
+low-byte Neighbours = refl
+low-byte Sums = refl
+low-byte Log = refl
+low-byte Revision = refl
+low-byte IncompatibleLengths = refl
+low-byte Limit = refl
+low-byte Room = refl
+
+-- bit 63
+is-set : (n : ℕ) → leb (2 ^ 63) (2 ^ 63 + n) ≡ true
+is-set n = le-leb (2 ^ 63) (2 ^ 63 + n) (omega arith)
+
+less : (n : ℕ) → 2 ^ 63 + n - 2 ^ 63 ≡ n
+less n = omega arith
+
+-- ---- two results
+
+pub two : (a : Answer) → T (small a) → readTwo (packed a) ≡ a
+unfolding readTwo
+two (gives []) h = absurd h
+two (gives (m ∷ [])) h = absurd h
+two (gives (m ∷ n ∷ [])) h =
+    let (p, q) = both (leb m most) (leb n most) .0 h in
+    let i = leb→le m most p in
+    let j = leb→le n most q in
+    let low : (m + 2 ^ 32 * n) % 2 ^ 32 ≡ m = omega arith in
+    let high : (m + 2 ^ 32 * n) / 2 ^ 32 ≡ n = omega arith in
+    rw (lt-leb (2 ^ 63) (m + 2 ^ 32 * n) (omega arith)) (ap₂ (λ x y. gives (x ∷ y ∷ [])) low high)
+two (gives (m ∷ n ∷ k ∷ ns)) h = absurd h
+two (refused n) h = rw (is-set n) (ap refused (less n))
+
+pub transform-read : (a b x y : List ℕ) → let r = transformCall a b x y .answer in readTwo (packed r) ≡ r
+transform-read a b x y = two (transformCall a b x y .answer) (transform-small a b x y)
+
+pub accept-read : (edit : List ℕ) (r : ℕ) (log out : List ℕ) → let x = acceptCall edit r log out .answer in readTwo (packed x) ≡ x
+accept-read edit r log out = two (acceptCall edit r log out .answer) (accept-small edit r log out)
+
+-- ---- one result: a fact, or the size of what was written
+
+one : (n : ℕ) → n < 2 ^ 63 → readOne n ≡ gives (n ∷ [])
+unfolding readOne
+one n h = rw (lt-leb (2 ^ 63) n h)
+
+none : (n : ℕ) → readOne (2 ^ 63 + n) ≡ refused n
+unfolding readOne
+none n = rw (is-set n) (ap refused (less n))
+
+told : (f n : ℕ) → (f ≡ 0 → n < 2 ^ 63) → let a = settle f refused (gives (n ∷ [])) in readOne (packed a) ≡ a
+told zero n h = one n (h refl)
+told (suc f) n h = none (suc f)
+
+module _ (r : List ℕ) where
+  within : recordFault r ≡ 0 → InLimits r
+  within z = limits r .0 (faultless r .0 z .in-limits)
+
+  pub check-read : readOne (packed (checkCall r)) ≡ checkCall r
+  unfolding checkCall
+  check-read = told (recordFault r) (sizeOf r) (λ z. omega (arith, within z .records, within z .text-bytes))
+
+  pub base-read : readOne (packed (baseCall r)) ≡ baseCall r
+  unfolding baseCall
+  base-read = told (recordFault r) (baseOf r) (λ z. omega (arith, within z .bases))
+
+  pub target-read : readOne (packed (targetCall r)) ≡ targetCall r
+  unfolding targetCall
+  target-read = told (recordFault r) (targetOf r) (λ z. omega (arith, within z .targets))
+
+  pub noop-read : readOne (packed (noopCall r)) ≡ noopCall r
+  unfolding noopCall
+  noop-read = told (recordFault r) (noEffect (ops r)) (λ z. omega (arith, flag (ops r)))
+    where
+      flag : (s : Seq) → noEffect s ≤ 1
+      flag [] = omega arith
+      flag (retain n ∷ []) = omega arith
+      flag (insert x ∷ []) = omega arith
+      flag (delete n ∷ []) = omega arith
+      flag (o ∷ q ∷ s) = omega arith
+
+written : (f : ℕ) (w o : List ℕ) → length o < 2 ^ 63 → let a = writing f w o .answer in readOne (packed a) ≡ a
+unfolding writing
+written f w o h = go (first f (needs (leb (length w) (length o)) 10 0)) (λ z. leb→le (length w) (length o) (needs-out (leb (length w) (length o)) 9 0 (first-zero f _ z .1) .0))
+  where
+    result : ℕ → Out
+    result k = settle k (λ n. record { answer = refused n; out = o }) (record { answer = gives (length w ∷ []); out = atFront w o })
+
+    go : (k : ℕ) → (k ≡ 0 → length w ≤ length o) → readOne (packed (result k .answer)) ≡ result k .answer
+    go zero p = one (length w) (omega (arith, p refl))
+    go (suc k) p = none (suc k)
+
+module _ (o : List ℕ) (h : length o < 2 ^ 63) where
+  delivered : (f : ℕ) (s : Seq) → let a = deliver f s o .answer in readOne (packed a) ≡ a
+  unfolding deliver
+  delivered f s = written (first f (needs (fits s) 9 0)) (encode s) o h
+
+  module _ (r : List ℕ) where
+    pub retain-read : (n : ℕ) → let a = retainCall r n o .answer in readOne (packed a) ≡ a
+    unfolding retainCall
+    retain-read n = delivered (recordFault r) (extend (ops r) (retain n))
+
+    pub delete-read : (n : ℕ) → let a = deleteCall r n o .answer in readOne (packed a) ≡ a
+    unfolding deleteCall
+    delete-read n = delivered (recordFault r) (extend (ops r) (delete n))
+
+    pub insert-read : (t : List ℕ) → let a = insertCall r t o .answer in readOne (packed a) ≡ a
+    unfolding insertCall
+    insert-read t = delivered (textFault r t) (extend (ops r) (insert (chars t)))
+
+    pub apply-read : (t : List ℕ) → let a = applyCall r t o .answer in readOne (packed a) ≡ a
+    unfolding applyCall
+    apply-read t = written (first (textFault r t) (needs (eqb (numChars t) (baseOf r)) 8 0)) (bytes (apply (ops r) (chars t))) o h
+
+    pub invert-read : (t : List ℕ) → let a = invertCall r t o .answer in readOne (packed a) ≡ a
+    unfolding invertCall
+    invert-read t = delivered (textFault r t) (invert (ops r) (chars t))
+
+    pub compose-read : (s : List ℕ) → let a = composeCall r s o .answer in readOne (packed a) ≡ a
+    unfolding composeCall
+    compose-read s = delivered (first (recordsFault r s) (needs (eqb (targetOf r) (baseOf s)) 8 0)) (compose (ops r) (ops s))
+
+  pub open-read : (n : ℕ) → let a = openCall n o .answer in readOne (packed a) ≡ a
+  unfolding openCall
+  open-read n = written (needs (leb n 32768) 9 0) (words (0 ∷ n ∷ [])) o h
+
+  pub summary-read : (log : List ℕ) → let a = summaryCall log o .answer in readOne (packed a) ≡ a
+  unfolding summaryCall
+  summary-read log = written (summaryFault log) (encode (composeAll (still (startOf log)) (revisions log))) o h
+
+  pub play-read : (log t : List ℕ) (x y : ℕ) → let a = playCall log t x y o .answer in readOne (packed a) ≡ a
+  unfolding playCall
+  play-read log t x y = written (playFault log t x y) (played log t) o h

@@ -1,0 +1,20 @@
+use mathlib.Core.Path.{ap, _∙_}
+use borrow.Author.Needs.{needs}
+use Rattle.c_api.specs.Numbers.{packed}
+use Rattle.c_api.proofs.ot_delete.Statement.{statement}
+use Rattle.c_api.proofs.ot_delete.Tie as tie
+
+delete-requires : tie.Need-delete-requires
+delete-requires c κs = search needs
+
+written-requires : tie.Need-written-requires
+written-requires c κs = search needs
+
+same-length : tie.Need-same-length
+same-length c = search needs
+
+returns : tie.Need-returns
+returns c = let h = c .before .before .before .delete .ensures in (c .written .ensures ∙ ap packed (h .0), h .1)
+
+pub ot-delete-spec : {M : Type 1} → statement M
+ot-delete-spec = tie.close (tie.spec delete-requires written-requires same-length returns)

@@ -1,0 +1,2 @@
+-- c_api
+pub mod Numbers

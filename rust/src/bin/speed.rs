@@ -1,0 +1,213 @@
+//! The speed of every call beside the original's, on the same inputs in one run: nanoseconds for a call, best of several windows.
+//! Prints the tables of docs/SPEED.md.
+
+#[cfg(original)]
+extern crate bytecount;
+#[cfg(original)]
+extern crate operational_transform;
+
+#[cfg(not(original))]
+fn main() {
+    println!("skipped: the original isn't at {}; name it by OT_RS", env!("OT_RS_LOOKED_FOR"));
+}
+
+#[cfg(original)]
+fn main() {
+    measured::all();
+}
+
+#[cfg(original)]
+mod measured {
+    use operational_transform::{Operation, OperationSeq};
+    use std::hint::black_box;
+    use std::time::{Duration, Instant};
+
+    const WINDOWS: usize = 9;
+    const WINDOW: Duration = Duration::from_millis(8);
+
+    // Nanoseconds for one call in one window.
+    fn window(call: &mut dyn FnMut()) -> f64 {
+        let mut calls = 0u64;
+        let mut batch = 1u64;
+        let start = Instant::now();
+        loop {
+            for _ in 0..batch {
+                call();
+            }
+            calls += batch;
+            let spent = start.elapsed();
+            if spent >= WINDOW {
+                return spent.as_nanos() as f64 / calls as f64;
+            }
+            batch = (batch * 2).min(1 << 14);
+        }
+    }
+
+    // Both sides in turn, so that they meet the same machine; the best window of each.
+    fn sides(ours: &mut dyn FnMut(), theirs: &mut dyn FnMut()) -> (f64, f64) {
+        let (mut x, mut y) = (f64::MAX, f64::MAX);
+        for _ in 0..WINDOWS {
+            x = x.min(window(ours));
+            y = y.min(window(theirs));
+        }
+        (x, y)
+    }
+
+    pub struct Report {
+        logs: f64,
+        cells: usize,
+        over: usize,
+    }
+
+    impl Report {
+        fn row(&mut self, what: &str, size: &str, ours: &mut dyn FnMut(), theirs: &mut dyn FnMut()) {
+            let (x, y) = sides(ours, theirs);
+            let ratio = x / y;
+            self.logs += ratio.ln();
+            self.cells += 1;
+            self.over += (ratio >= 1.0) as usize;
+            println!("| {what} | {size} | {} | {} | {ratio:.2} |", show(x), show(y));
+        }
+    }
+
+    fn show(ns: f64) -> String {
+        if ns < 100.0 {
+            format!("{ns:.1}")
+        } else {
+            format!("{ns:.0}")
+        }
+    }
+
+    pub fn encode(s: &OperationSeq) -> Vec<u8> {
+        let mut rec = ot::EMPTY.to_vec();
+        for o in s.ops() {
+            let mut out = vec![0; ot::RECORD];
+            let n = match o {
+                Operation::Retain(n) => ot::retain(&rec, *n, &mut out),
+                Operation::Insert(t) => ot::insert(&rec, t.as_bytes(), &mut out),
+                Operation::Delete(n) => ot::delete(&rec, *n, &mut out),
+            };
+            rec = out[..n.unwrap()].to_vec();
+        }
+        rec
+    }
+
+    fn letters(mixed: bool, n: usize, seed: usize) -> String {
+        const MIXED: [char; 8] = ['G', 'e', 'r', 'ä', 't', '€', 'n', '😀'];
+        const ASCII: [char; 8] = ['n', 'i', 'c', 'h', 't', ' ', 'a', 'b'];
+        (0..n).map(|i| if mixed { MIXED[(i + seed) % 8] } else { ASCII[(i + seed) % 8] }).collect()
+    }
+
+    // `records` operations over a base of at least that many characters: retains, inserts and deletes in turn.
+    fn sequence(records: usize, mixed: bool, base: usize, seed: usize) -> OperationSeq {
+        let mut s = OperationSeq::default();
+        let mut k = 0;
+        while s.ops().len() < records {
+            match (k + seed) % 3 {
+                0 => s.retain(2 + (k as u64 + seed as u64) % 3),
+                1 => s.insert(&letters(mixed, 1 + (k + seed) % 5, k)),
+                _ => s.delete(1 + k as u64 % 2),
+            }
+            k += 1;
+        }
+        if s.base_len() < base {
+            s.retain((base - s.base_len()) as u64);
+        }
+        s
+    }
+
+    pub fn all() {
+        let mut report = Report { logs: 0.0, cells: 0, over: 0 };
+        println!("| call | records | ours, ns | the Rust, ns | ratio |");
+        println!("|---|---|---|---|---|");
+        for mixed in [false, true] {
+            let kind = if mixed { "mixed" } else { "ASCII" };
+            for records in [1, 10, 100, 1000] {
+                let size = format!("{records}, {kind}");
+                let base = 4 * records + 8;
+                let x = sequence(records, mixed, base, 0);
+                let base = x.base_len();
+                let y = sequence(records, mixed, base, 1);
+                let y = if y.base_len() == base { y } else { sequence(records, mixed, base, 2) };
+                let y = if y.base_len() == base { y } else { sequence(records, mixed, base, 0) };
+                let z = {
+                    let mut z = sequence(records.saturating_sub(1).max(1), mixed, 0, 1);
+                    while z.base_len() > x.target_len() {
+                        z = sequence(z.ops().len() / 2, mixed, 0, 1);
+                    }
+                    z.retain((x.target_len() - z.base_len()) as u64);
+                    z
+                };
+                let text = letters(mixed, base, 3);
+                let (a, b, c) = (encode(&x), encode(&y), encode(&z));
+                let mut out = vec![0u8; ot::RECORD];
+                let mut other = vec![0u8; ot::RECORD];
+                let mut long = vec![0u8; 4 * ot::RECORD];
+                report.row("apply", &size, &mut || { black_box(ot::apply(black_box(&a), black_box(text.as_bytes()), &mut long).unwrap()); }, &mut || { black_box(black_box(&x).apply(black_box(&text)).unwrap()); });
+                report.row("invert", &size, &mut || { black_box(ot::invert(black_box(&a), black_box(text.as_bytes()), &mut out).unwrap()); }, &mut || { black_box(black_box(&x).invert(black_box(&text))); });
+                report.row("compose", &size, &mut || { black_box(ot::compose(black_box(&a), black_box(&c), &mut out).unwrap()); }, &mut || { black_box(black_box(&x).compose(black_box(&z)).unwrap()); });
+                report.row("transform", &size, &mut || { black_box(ot::transform(black_box(&a), black_box(&b), &mut out, &mut other).unwrap()); }, &mut || { black_box(black_box(&x).transform(black_box(&y)).unwrap()); });
+                let word = letters(mixed, 5, 0);
+                report.row("build (one more)", &size, &mut || { black_box(ot::insert(black_box(&a), black_box(word.as_bytes()), &mut out).unwrap()); }, &mut || { let mut s = black_box(&x).clone(); s.insert(black_box(&word)); black_box(s); });
+            }
+        }
+        println!();
+        println!("| call | bytes | ours, ns | the Rust, ns | ratio |");
+        println!("|---|---|---|---|---|");
+        for mixed in [false, true] {
+            let kind = if mixed { "mixed" } else { "ASCII" };
+            for bytes in [64, 1024, 65_536] {
+                let mut text = letters(mixed, bytes, 0).into_bytes();
+                while text.len() > bytes || std::str::from_utf8(&text).is_err() {
+                    text.pop();
+                }
+                let size = format!("{bytes}, {kind}");
+                report.row("well_formed", &size, &mut || { black_box(ot::well_formed(black_box(&text))); }, &mut || { black_box(std::str::from_utf8(black_box(&text)).is_ok()); });
+                report.row("num_chars", &size, &mut || { black_box(ot::num_chars(black_box(&text))); }, &mut || { black_box(bytecount::num_chars(black_box(&text))); });
+            }
+        }
+        println!();
+        println!("| call | revisions passed | ours, ns | the Rust, ns | ratio |");
+        println!("|---|---|---|---|---|");
+        for passed in [0usize, 1, 16, 255] {
+            let mut history = Vec::new();
+            let mut log = vec![0u8; ot::LOG];
+            let mut len = 40u64;
+            let mut size = ot::open(len, &mut log).unwrap();
+            let mut out = vec![0u8; ot::COUNTERPARTS];
+            for k in 0..passed {
+                let mut v = OperationSeq::default();
+                v.retain(len / 2);
+                v.insert(&letters(k % 2 == 1, 1, k));
+                v.retain(len - len / 2);
+                len += 1;
+                let rec = encode(&v);
+                size += ot::accept(&rec, k as u64, &mut log, &mut out).unwrap().0;
+                history.push(v);
+            }
+            let mut e = OperationSeq::default();
+            e.retain(10);
+            e.delete(3);
+            e.insert("nicht");
+            e.retain(27);
+            let edit = encode(&e);
+            let room = size + 200;
+            let kept = log[..4].to_vec();
+            report.row("accept", &passed.to_string(), &mut || {
+                log[..4].copy_from_slice(&kept);
+                black_box(ot::accept(black_box(&edit), 0, &mut log[..room], &mut out).unwrap());
+            }, &mut || {
+                let mut moved = black_box(&e).clone();
+                let mut counterparts = Vec::new();
+                for v in black_box(&history) {
+                    let (left, right) = moved.transform(v).unwrap();
+                    moved = left;
+                    counterparts.push(right);
+                }
+                black_box((moved, counterparts));
+            });
+        }
+        println!();
+        println!("{} cells, {} of them not below 1; geometric mean of the ratios {:.2}", report.cells, report.over, (report.logs / report.cells as f64).exp());
+    }
+}

@@ -1,0 +1,193 @@
+// Random bytes, damaged records and damaged logs into every function. Each buffer ends where a page begins that may not be
+// touched, and has bytes before it that must stay: a read or a write outside ends the test.
+mod common;
+
+use common::{damaged, Random};
+use ot::Refusal;
+
+const PAGE: usize = 4096;
+
+extern "C" {
+    fn mmap(at: *mut u8, len: usize, prot: i32, flags: i32, fd: i32, offset: i64) -> *mut u8;
+    fn mprotect(at: *mut u8, len: usize, prot: i32) -> i32;
+}
+
+// Whole pages, and behind them one that may not be touched.
+struct Pages {
+    start: *mut u8,
+    len: usize,
+}
+
+impl Pages {
+    fn new(pages: usize) -> Pages {
+        let len = pages * PAGE;
+        unsafe {
+            let start = mmap(std::ptr::null_mut(), len + PAGE, 3, 0x22, -1, 0);
+            assert!(!start.is_null() && start as isize != -1);
+            assert_eq!(mprotect(start.add(len), PAGE, 0), 0);
+            Pages { start, len }
+        }
+    }
+
+    // These bytes, against the page behind; all before them is 0xA5.
+    fn lend(&mut self, bytes: &[u8]) -> &mut [u8] {
+        let all = unsafe { std::slice::from_raw_parts_mut(self.start, self.len) };
+        let at = self.len - bytes.len();
+        all[at.saturating_sub(64)..at].fill(0xA5);
+        all[at..].copy_from_slice(bytes);
+        unsafe { std::slice::from_raw_parts_mut(self.start.add(at), bytes.len()) }
+    }
+
+    fn before_untouched(&self, lent: usize) {
+        let all = unsafe { std::slice::from_raw_parts(self.start, self.len) };
+        let at = self.len - lent;
+        assert!(all[at.saturating_sub(64)..at].iter().all(|b| *b == 0xA5));
+    }
+}
+
+// A buffer to write to: what stood in it, and what may have changed.
+fn settled(before: &[u8], after: &[u8], got: Result<usize, Refusal>) {
+    match got {
+        Ok(n) => assert_eq!(before[n..], after[n..]),
+        Err(_) => assert_eq!(before, after),
+    }
+}
+
+#[test]
+fn nothing_outside_a_result_changes() {
+    let mut random = Random(99);
+    let (mut p, mut q, mut s, mut t, mut u) = (Pages::new(10), Pages::new(10), Pages::new(10), Pages::new(10), Pages::new(10));
+    let mut calls = 0u64;
+    let mut went = 0u64;
+    for round in 0..200_000u64 {
+        let bytes = |random: &mut Random, most: usize| -> Vec<u8> {
+            let n = random.below(most);
+            (0..n).map(|_| random.next() as u8).collect()
+        };
+        // a record, another one, a log of both and a text, each damaged at times
+        let record = |random: &mut Random, base: usize| -> Vec<u8> {
+            let mut rec = ot::EMPTY.to_vec();
+            let mut left = base;
+            for _ in 0..random.below(6) {
+                let mut out = vec![0; 400];
+                let n = 1 + random.below(5);
+                let size = match random.below(3) {
+                    0 => ot::insert(&rec, random.text(n).as_bytes(), &mut out),
+                    1 => ot::retain(&rec, n.min(left) as u64, &mut out),
+                    _ => ot::delete(&rec, n.min(left) as u64, &mut out),
+                }
+                .unwrap();
+                left = base - ot::base_len(&out[..size]).unwrap();
+                rec = out[..size].to_vec();
+            }
+            let mut out = vec![0; 400];
+            let size = ot::retain(&rec, left as u64, &mut out).unwrap();
+            out[..size].to_vec()
+        };
+        let base = random.below(9);
+        let mut a = record(&mut random, base);
+        let target = ot::target_len(&a).unwrap();
+        let same = random.below(2) == 0;
+        let mut b = record(&mut random, if same { base } else { target });
+        let mut log = vec![0; 4];
+        ot::open(base as u64, &mut log).unwrap();
+        log[0] = 1;
+        log.extend(&a);
+        if !same {
+            log[0] = 2;
+            log.extend(&b);
+        }
+        let tail = random.below(80);
+        log.resize(log.len() + tail, 0x5A);
+        let mut text = random.text(base).into_bytes();
+        match round % 5 {
+            0 => a = damaged(&a, &mut random),
+            1 => b = damaged(&b, &mut random),
+            2 => log = damaged(&log, &mut random),
+            3 => {
+                a = bytes(&mut random, 60);
+                text = bytes(&mut random, 20);
+            }
+            _ => {}
+        }
+        let n = [0, 1, 7, 32_768, 32_769, u64::MAX][random.below(6)];
+        let (size_x, size_y) = (random.below(120), random.below(120));
+        let x = vec![0x11; size_x];
+        let y = vec![0x22; size_y];
+        let inputs = |p: &mut Pages, q: &mut Pages, a: &[u8], b: &[u8]| {
+            p.lend(a);
+            q.lend(b);
+        };
+        macro_rules! writes {
+            ($first:expr, $second:expr, $call:expr) => {{
+                inputs(&mut p, &mut q, $first, $second);
+                let (pa, qb) = (p.lend($first) as &[u8], q.lend($second) as &[u8]);
+                let out = s.lend(&x);
+                let got = $call(pa, qb, &mut *out);
+                settled(&x, out, got);
+                assert_eq!((pa, qb), ($first, $second));
+                s.before_untouched(x.len());
+                p.before_untouched($first.len());
+                q.before_untouched($second.len());
+                calls += 1;
+                went += got.is_ok() as u64;
+            }};
+        }
+        let (a, b, log, text) = (&a[..], &b[..], &log[..], &text[..]);
+        writes!(a, text, |r: &[u8], _t: &[u8], o: &mut [u8]| ot::retain(r, n, o));
+        writes!(a, text, |r: &[u8], _t: &[u8], o: &mut [u8]| ot::delete(r, n, o));
+        writes!(a, text, |r: &[u8], t: &[u8], o: &mut [u8]| ot::insert(r, t, o));
+        writes!(a, text, |r: &[u8], t: &[u8], o: &mut [u8]| ot::apply(r, t, o));
+        writes!(a, text, |r: &[u8], t: &[u8], o: &mut [u8]| ot::invert(r, t, o));
+        writes!(a, b, |r: &[u8], t: &[u8], o: &mut [u8]| ot::compose(r, t, o));
+        writes!(log, text, |l: &[u8], _t: &[u8], o: &mut [u8]| ot::summary(l, o));
+        writes!(a, text, |r: &[u8], t: &[u8], o: &mut [u8]| {
+            let found = [ot::check(r), ot::base_len(r), ot::target_len(r), ot::is_noop(r).map(usize::from)];
+            assert!(found.iter().all(|f| f.is_ok() == found[0].is_ok()));
+            let k = n as usize % 5;
+            assert!(ot::insert_text(r, k).len() <= r.len());
+            assert!(ot::step(r, k).is_none() || found[0].is_ok());
+            assert!(ot::num_chars(t) <= t.len() && ot::well_formed(t) == std::str::from_utf8(t).is_ok());
+            ot::open(n, o)
+        });
+        // two outputs
+        let (pa, qb) = (p.lend(a) as &[u8], q.lend(b) as &[u8]);
+        let (ox, oy) = (s.lend(&x), t.lend(&y));
+        let got = ot::transform(pa, qb, ox, oy);
+        settled(&x, ox, got.map(|g| g.0));
+        settled(&y, oy, got.map(|g| g.1));
+        assert_eq!((pa, qb), (a, b));
+        // a log and an output
+        let r = n.min(random.below(4) as u64);
+        let ol = q.lend(log);
+        let oy = t.lend(&y);
+        let got = ot::accept(pa, r, ol, oy);
+        settled(&y, oy, got.map(|g| g.1));
+        match got {
+            Ok((added, _)) => {
+                let end = ol.len() - log.iter().rev().take_while(|b| **b == 0x5A).count();
+                assert_eq!(ol[2..end.min(ol.len())].len(), log[2..end.min(ol.len())].len());
+                assert_eq!(ol[0] as usize + 256 * ol[1] as usize, log[0] as usize + 256 * log[1] as usize + 1);
+                assert!(added >= 8);
+                went += 1;
+            }
+            Err(_) => assert_eq!(ol, log),
+        }
+        assert_eq!(pa, a);
+        q.before_untouched(log.len());
+        t.before_untouched(y.len());
+        // two scratch buffers
+        let (pl, qt) = (p.lend(log) as &[u8], q.lend(text) as &[u8]);
+        let (o1, o2, o3) = (s.lend(&x), t.lend(&y), u.lend(&x));
+        let got = ot::play(pl, qt, o1, o2, o3);
+        settled(&x, o3, got);
+        assert_eq!((pl, qt), (log, text));
+        for (pages, lent) in [(&p, log.len()), (&q, text.len()), (&s, x.len()), (&t, y.len()), (&u, x.len())] {
+            pages.before_untouched(lent);
+        }
+        calls += 3;
+        went += got.is_ok() as u64;
+    }
+    println!("{calls} calls on damaged input; {went} went through; nothing outside a result changed");
+    assert!(went > calls / 20);
+}
