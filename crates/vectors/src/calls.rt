@@ -14,21 +14,19 @@ fn blank() -> [u8; 65536]
     [0xEE; 65536]
 }
 
+// The call's name, with spaces up to the same width.
 pub(crate) fn name(call: u8) {
-    match call {
-        1 => io::write_all(1, b"retain"),
-        2 => io::write_all(1, b"delete"),
-        3 => io::write_all(1, b"insert"),
-        4 => io::write_all(1, b"apply"),
-        5 => io::write_all(1, b"invert"),
-        6 => io::write_all(1, b"compose"),
-        7 => io::write_all(1, b"transform"),
-        8 => io::write_all(1, b"base_len"),
-        9 => io::write_all(1, b"target_len"),
-        10 => io::write_all(1, b"is_noop"),
-        _ => io::write_all(1, b"no call"),
+    entry(
+        b"no call    retain     delete     insert     apply      invert     compose    transform  base_len   target_len is_noop    ",
+        call,
+    );
+}
+
+fn entry(names: &[u8], call: u8) {
+    let at = call as usize * 11;
+    if at + 11 <= names.len() {
+        io::write_all(1, &names[at..at + 11]);
     }
-    ;
 }
 
 // Whether the call gives what is wanted of it: its refusal or sizes, and every byte of its outputs.

@@ -60,11 +60,10 @@ fn counted(t: Tally, call: u8, agrees: bool) -> Tally {
             differ: t.differ,
         };
     }
+    calls::name(call);
     io::write_all(1, b"case ");
     io::print_decimal(1, cases);
-    io::write_all(1, b" differs: ");
-    calls::name(call);
-    io::write_all(1, b"\n");
+    io::write_all(1, b" differs\n");
     Tally {
         cases,
         differ: std::num::wrapping_add_u64(t.differ, 1),

@@ -1,5 +1,6 @@
 //! Writes the list of calls and of the original's answers that the program `vectors` replays: files `part_1`, `part_2` and so on, of
-//! at most 131,072 bytes, into the directory that is its argument, which is crates/vectors/data. None of the proved calls is made.
+//! at most 131,072 bytes, into the directory that is its argument, which is crates/vectors/data (crates/vectors/args
+//! names them). Every answer is the original's, or a refusal that the specification adds to it: none of the proved calls is made.
 //!
 //! A part is cases end to end; numbers are low byte first. A case:
 //!   1 byte: the call: 1 retain, 2 delete, 3 insert, 4 apply, 5 invert, 6 compose, 7 transform, 8 base_len, 9 target_len, 10 is_noop
