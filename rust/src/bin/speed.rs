@@ -208,6 +208,32 @@ mod measured {
             });
         }
         println!();
+        println!("| call | operations | ours, ns | the Rust, ns | ratio |");
+        println!("|---|---|---|---|---|");
+        for records in [1, 10, 100, 1000] {
+            let x = sequence(records, false, 0, 0);
+            let mut rec = vec![0u8; ot::RECORD];
+            let mut out = vec![0u8; ot::RECORD];
+            let (ours, theirs) = sides(
+                &mut || {
+                    rec[..8].copy_from_slice(&ot::EMPTY);
+                    for o in black_box(&x).ops() {
+                        match o {
+                            Operation::Retain(n) => ot::retain(&rec, *n, &mut out),
+                            Operation::Insert(t) => ot::insert(&rec, t.as_bytes(), &mut out),
+                            Operation::Delete(n) => ot::delete(&rec, *n, &mut out),
+                        }
+                        .unwrap();
+                        std::mem::swap(&mut rec, &mut out);
+                    }
+                },
+                &mut || {
+                    black_box(black_box(&x).ops().iter().cloned().collect::<OperationSeq>());
+                },
+            );
+            println!("| build, from nothing | {records} | {} | {} | {:.2} |", show(ours), show(theirs), ours / theirs);
+        }
+        println!();
         println!("{} cells, {} of them not below 1; geometric mean of the ratios {:.2}", report.cells, report.over, (report.logs / report.cells as f64).exp());
     }
 }
