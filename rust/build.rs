@@ -6,10 +6,7 @@ use std::process::Command;
 const ORIGINAL: &str = "../shared/src--operational-transform--src--lib.rs.txt";
 
 fn main() {
-    let root = PathBuf::from(env::var("CARGO_MANIFEST_DIR").unwrap())
-        .parent()
-        .unwrap()
-        .to_path_buf();
+    let root = PathBuf::from(env::var("CARGO_MANIFEST_DIR").unwrap()).parent().unwrap().to_path_buf();
     let library = root.join("target/staticlib");
     println!("cargo:rustc-link-search=native={}", library.display());
     println!("cargo:rustc-link-lib=static=c_api");

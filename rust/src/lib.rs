@@ -40,7 +40,15 @@ mod sys {
             out_b_len: usize,
         ) -> u64;
         pub fn ot_open(start: u64, log: *mut u8, log_len: usize) -> u64;
-        pub fn ot_accept(edit: *const u8, edit_len: usize, r: u64, log: *mut u8, log_len: usize, out: *mut u8, out_len: usize) -> u64;
+        pub fn ot_accept(
+            edit: *const u8,
+            edit_len: usize,
+            r: u64,
+            log: *mut u8,
+            log_len: usize,
+            out: *mut u8,
+            out_len: usize,
+        ) -> u64;
         pub fn ot_summary(log: *const u8, log_len: usize, out: *mut u8, out_len: usize) -> u64;
         pub fn ot_play(
             log: *const u8,

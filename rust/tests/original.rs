@@ -242,7 +242,11 @@ mod compared {
                 tally.pair(&x.0, &y.0, &x.1, &y.1);
             }
         }
-        println!("compared with the original: {} calls on {} small sequences and all their pairs", tally.calls, sets.iter().flatten().count());
+        println!(
+            "compared with the original: {} calls on {} small sequences and all their pairs",
+            tally.calls,
+            sets.iter().flatten().count()
+        );
         assert!(tally.calls > 1_000_000);
     }
 
@@ -330,11 +334,19 @@ mod compared {
             for (n, text) in [(1, "x"), (0, ""), (2, "y")] {
                 tally.builds(&s, &encode(&s), n, text);
             }
-            let whole = seq(&[Op::Insert("q".into()), Op::Delete(s.base_len() / 2), Op::Insert("r".into()), Op::Retain(s.base_len() - s.base_len() / 2)]);
+            let whole = seq(&[
+                Op::Insert("q".into()),
+                Op::Delete(s.base_len() / 2),
+                Op::Insert("r".into()),
+                Op::Retain(s.base_len() - s.base_len() / 2),
+            ]);
             tally.pair(&s, &whole, &encode(&s), &encode(&whole));
             tally.pair(&whole, &s, &encode(&whole), &encode(&s));
         }
-        println!("compared with the original: {} calls on random sequences; refused with 8, 9 and 10: {:?}", tally.calls, tally.refused);
+        println!(
+            "compared with the original: {} calls on random sequences; refused with 8, 9 and 10: {:?}",
+            tally.calls, tally.refused
+        );
         assert!(tally.refused.iter().all(|n| *n > 1000));
     }
 

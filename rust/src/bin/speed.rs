@@ -143,12 +143,59 @@ mod measured {
                 let mut out = vec![0u8; ot::RECORD];
                 let mut other = vec![0u8; ot::RECORD];
                 let mut long = vec![0u8; 4 * ot::RECORD];
-                report.row("apply", &size, &mut || { black_box(ot::apply(black_box(&a), black_box(text.as_bytes()), &mut long).unwrap()); }, &mut || { black_box(black_box(&x).apply(black_box(&text)).unwrap()); });
-                report.row("invert", &size, &mut || { black_box(ot::invert(black_box(&a), black_box(text.as_bytes()), &mut out).unwrap()); }, &mut || { black_box(black_box(&x).invert(black_box(&text))); });
-                report.row("compose", &size, &mut || { black_box(ot::compose(black_box(&a), black_box(&c), &mut out).unwrap()); }, &mut || { black_box(black_box(&x).compose(black_box(&z)).unwrap()); });
-                report.row("transform", &size, &mut || { black_box(ot::transform(black_box(&a), black_box(&b), &mut out, &mut other).unwrap()); }, &mut || { black_box(black_box(&x).transform(black_box(&y)).unwrap()); });
+                report.row(
+                    "apply",
+                    &size,
+                    &mut || {
+                        black_box(ot::apply(black_box(&a), black_box(text.as_bytes()), &mut long).unwrap());
+                    },
+                    &mut || {
+                        black_box(black_box(&x).apply(black_box(&text)).unwrap());
+                    },
+                );
+                report.row(
+                    "invert",
+                    &size,
+                    &mut || {
+                        black_box(ot::invert(black_box(&a), black_box(text.as_bytes()), &mut out).unwrap());
+                    },
+                    &mut || {
+                        black_box(black_box(&x).invert(black_box(&text)));
+                    },
+                );
+                report.row(
+                    "compose",
+                    &size,
+                    &mut || {
+                        black_box(ot::compose(black_box(&a), black_box(&c), &mut out).unwrap());
+                    },
+                    &mut || {
+                        black_box(black_box(&x).compose(black_box(&z)).unwrap());
+                    },
+                );
+                report.row(
+                    "transform",
+                    &size,
+                    &mut || {
+                        black_box(ot::transform(black_box(&a), black_box(&b), &mut out, &mut other).unwrap());
+                    },
+                    &mut || {
+                        black_box(black_box(&x).transform(black_box(&y)).unwrap());
+                    },
+                );
                 let word = letters(mixed, 5, 0);
-                report.row("build (one more)", &size, &mut || { black_box(ot::insert(black_box(&a), black_box(word.as_bytes()), &mut out).unwrap()); }, &mut || { let mut s = black_box(&x).clone(); s.insert(black_box(&word)); black_box(s); });
+                report.row(
+                    "build (one more)",
+                    &size,
+                    &mut || {
+                        black_box(ot::insert(black_box(&a), black_box(word.as_bytes()), &mut out).unwrap());
+                    },
+                    &mut || {
+                        let mut s = black_box(&x).clone();
+                        s.insert(black_box(&word));
+                        black_box(s);
+                    },
+                );
             }
         }
         println!();
@@ -162,8 +209,26 @@ mod measured {
                     text.pop();
                 }
                 let size = format!("{bytes}, {kind}");
-                report.row("well_formed", &size, &mut || { black_box(ot::well_formed(black_box(&text))); }, &mut || { black_box(std::str::from_utf8(black_box(&text)).is_ok()); });
-                report.row("num_chars", &size, &mut || { black_box(ot::num_chars(black_box(&text))); }, &mut || { black_box(bytecount::num_chars(black_box(&text))); });
+                report.row(
+                    "well_formed",
+                    &size,
+                    &mut || {
+                        black_box(ot::well_formed(black_box(&text)));
+                    },
+                    &mut || {
+                        black_box(std::str::from_utf8(black_box(&text)).is_ok());
+                    },
+                );
+                report.row(
+                    "num_chars",
+                    &size,
+                    &mut || {
+                        black_box(ot::num_chars(black_box(&text)));
+                    },
+                    &mut || {
+                        black_box(bytecount::num_chars(black_box(&text)));
+                    },
+                );
             }
         }
         println!();
@@ -193,19 +258,24 @@ mod measured {
             let edit = encode(&e);
             let room = size + 200;
             let kept = log[..4].to_vec();
-            report.row("accept", &passed.to_string(), &mut || {
-                log[..4].copy_from_slice(&kept);
-                black_box(ot::accept(black_box(&edit), 0, &mut log[..room], &mut out).unwrap());
-            }, &mut || {
-                let mut moved = black_box(&e).clone();
-                let mut counterparts = Vec::new();
-                for v in black_box(&history) {
-                    let (left, right) = moved.transform(v).unwrap();
-                    moved = left;
-                    counterparts.push(right);
-                }
-                black_box((moved, counterparts));
-            });
+            report.row(
+                "accept",
+                &passed.to_string(),
+                &mut || {
+                    log[..4].copy_from_slice(&kept);
+                    black_box(ot::accept(black_box(&edit), 0, &mut log[..room], &mut out).unwrap());
+                },
+                &mut || {
+                    let mut moved = black_box(&e).clone();
+                    let mut counterparts = Vec::new();
+                    for v in black_box(&history) {
+                        let (left, right) = moved.transform(v).unwrap();
+                        moved = left;
+                        counterparts.push(right);
+                    }
+                    black_box((moved, counterparts));
+                },
+            );
         }
         println!();
         println!("| call | operations | ours, ns | the Rust, ns | ratio |");
@@ -234,6 +304,11 @@ mod measured {
             println!("| build, from nothing | {records} | {} | {} | {:.2} |", show(ours), show(theirs), ours / theirs);
         }
         println!();
-        println!("{} cells, {} of them not below 1; geometric mean of the ratios {:.2}", report.cells, report.over, (report.logs / report.cells as f64).exp());
+        println!(
+            "{} cells, {} of them not below 1; geometric mean of the ratios {:.2}",
+            report.cells,
+            report.over,
+            (report.logs / report.cells as f64).exp()
+        );
     }
 }

@@ -37,7 +37,8 @@ mod list {
     use std::path::Path;
 
     const PART: usize = 131_072;
-    const NAMES: [&str; 10] = ["retain", "delete", "insert", "apply", "invert", "compose", "transform", "base_len", "target_len", "is_noop"];
+    const NAMES: [&str; 10] =
+        ["retain", "delete", "insert", "apply", "invert", "compose", "transform", "base_len", "target_len", "is_noop"];
     const RETAIN: u8 = 1;
     const DELETE: u8 = 2;
     const INSERT: u8 = 3;
@@ -335,7 +336,8 @@ mod list {
                 list.applied(&s, "a");
             }
             let one = seq(&[i("a"), r(n - 1)]);
-            for ops in [vec![i("😀"), r(n - 1)], vec![r(n - 1), i("aä")], vec![d(1), r(n - 2), i("a")], vec![d(n - 1), i("ä")]] {
+            for ops in [vec![i("😀"), r(n - 1)], vec![r(n - 1), i("aä")], vec![d(1), r(n - 2), i("a")], vec![d(n - 1), i("ä")]]
+            {
                 let s = seq(&ops);
                 if record(&s).is_ok() {
                     list.transformed(&one, &s);

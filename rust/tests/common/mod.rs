@@ -16,7 +16,8 @@ impl Random {
     }
 
     pub fn letter(&mut self) -> char {
-        const LETTERS: [char; 12] = ['a', 'b', ' ', '\u{7F}', 'ä', '\u{80}', '\u{7FF}', '€', '\u{D7FF}', '\u{E000}', '😀', '\u{10FFFF}'];
+        const LETTERS: [char; 12] =
+            ['a', 'b', ' ', '\u{7F}', 'ä', '\u{80}', '\u{7FF}', '€', '\u{D7FF}', '\u{E000}', '😀', '\u{10FFFF}'];
         LETTERS[self.below(LETTERS.len())]
     }
 
