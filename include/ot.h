@@ -110,7 +110,7 @@ uint64_t ot_transform(const uint8_t *a, size_t a_len, const uint8_t *b, size_t b
 uint64_t ot_open(uint64_t start, uint8_t *log, size_t log_len);
 
 /* Takes in an edit that was written against revision r, 0 being the start: it is moved past the revisions that came since and
-   appended as a new one. The counterparts, which take the edit's author from his own text to the newest, go to out, oldest
+   appended as a new one. The counterparts, which take the author's own text to the newest, go to out, oldest
    first, end to end. Two results: how many bytes the log grew by, then how many the counterparts have. */
 uint64_t ot_accept(const uint8_t *edit, size_t edit_len, uint64_t r, uint8_t *log, size_t log_len, uint8_t *out, size_t out_len);
 
