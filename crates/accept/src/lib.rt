@@ -126,7 +126,12 @@ fn admit(edit: &[u8], r: u64, log: &mut [u8], s: Scan, out: &mut [u8]) -> Writte
     if r == count {
         return newest(edit, r, log, s, out);
     }
-    late(edit, r, log, s, (count - r) as usize, out)
+    // Two calls: with one the compiler would inline `late`, and every accept would take its frame.
+    let n = (count - r) as usize;
+    if n == 1 {
+        return late(edit, r, log, s, 1, out);
+    }
+    late(edit, r, log, s, n, out)
 }
 
 fn checked(edit: &[u8], r: u64, log: &mut [u8], out: &mut [u8]) -> WrittenPair
