@@ -10,7 +10,7 @@ ghost use Rattle.operation.specs.Front.{Place, Stands, ahead, Loads, Lea
 // The front of what lies ahead in a record: a kind (0 at the end), how many characters are left of it, the bytes of
 // its text, and the record behind it. The text of the records behind it begins at `to`.
 pub struct Front {
-    pub kind: u8,
+    pub kind: usize,
     pub left: usize,
     pub from: usize,
     pub to: usize,
@@ -123,7 +123,7 @@ pub fn load(rec: &[u8], n: usize, k: usize, at: usize) -> Front
             next: k,
         };
     }
-    let kind = crate::layout::kind(rec, k);
+    let kind = crate::layout::kind(rec, k) as usize;
     let count = crate::layout::count(rec, n, k);
     if kind == 2 {
         let to = at + count;

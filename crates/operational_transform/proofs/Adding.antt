@@ -3,10 +3,12 @@ use Prim.Native.Nat.{ℕ, zero, suc, _+_, _-_, _^_, _≤_, _<_}
 use native.Mathlib.Nat.{add-zero, zero-add, suc-add}
 use native.Mathlib.Omega.{arith}
 use mathlib.Core.Path.{_≡_, refl, sym, ap, ap₂, _∙_}
+use mathlib.Core.Bool.{Bool, true, false}
 use mathlib.Core.List.{List, [], _∷_, _++_, append-assoc, append-nil}
-use lib.Dec.{T}
+use lib.Dec.{T, leb}
 use lib.ListN.{length, take, drop, length-append, length-drop}
 use lib.Seq.{take-all, length-take-le}
+use borrow.Author.Tests.{leb-true, leb-false}
 use Rattle.utf8.specs.Form.{wellFormed}
 use Rattle.utf8.specs.Chars.{numChars}
 use Rattle.utf8.specs.Text.{Char, chars, bytes}
@@ -19,13 +21,13 @@ use Rattle.operation.specs.Front.{frontText, frontOp, Stands, Cut}
 use Rattle.operation.proofs.Fronts.{op-retain, op-insert, op-delete, Kinds, retains, inserts, deletes, kinds}
 use Rattle.operational_transform.specs.declared.core.Emitter.{Emitter}
 use Rattle.operational_transform.specs.Build.{put, add, addAll}
-use Rattle.operational_transform.specs.Emit.{over, flushedRecords, flushed, Under, nothing, textsOf, laid, group, Fresh, first, later-insert, later-delete, Rep, Adds, Retains}
+use Rattle.operational_transform.specs.Emit.{over, flushedRecords, flushed, opens, spilled, insertedBy, deletedBy, Under, nothing, textsOf, laid, group, Fresh, first, later-insert, later-delete, Rep, Adds, Retains}
 use Rattle.operational_transform.proofs.Building.{addAll-append}
 use Rattle.operational_transform.proofs.Growing.{total-reverse}
 use Rattle.operational_transform.proofs.Loops.{add-base, add-target}
 use Rattle.operational_transform.proofs.Widths.{bytes-most}
 use Rattle.operational_transform.proofs.Over.{over-nil}
-use Rattle.operational_transform.proofs.Emitting.{group-text, group-length, lay-group, lay-text}
+use Rattle.operational_transform.proofs.Emitting.{flushed-few, opens-same, opens-again, spilled-same, spilled-again, group-text, group-length, lay-group, lay-text}
 
 -- ---- a run of builders
 
@@ -169,7 +171,7 @@ adds-retain n k e o kl = record {
 pub adds-delete-none : (n k : ℕ) (e : Emitter) (o : List ℕ) → k ≡ 0 → Adds n (delete k ∷ []) e o e o
 adds-delete-none n k e o z = adds-none n (delete k) e o z
 
-pub adds-delete : (n k : ℕ) (e : Emitter) (o : List ℕ) → k ≤ 65536 → e .ret ≤ 0
+adds-delete : (n k : ℕ) (e : Emitter) (o : List ℕ) → k ≤ 65536 → e .ret ≤ 0
     → Adds n (delete k ∷ []) e o (record { ins = e .ins; del = e .del + k; ret = e .ret; records = e .records; text = e .text; base = e .base + k; target = e .target }) o
 unfolding addAll
 adds-delete n k e o kl z =
@@ -206,10 +208,10 @@ module _ {n : ℕ} {out : List ℕ} {acc : Seq} {e : Emitter} {o : List ℕ} (h 
       lay-group e (h .held) (h .done) (h .records) (h .ins) n (textsOf (h .done) ++ bytes (h .held)) out o r (h .wrote (omega arith))
       ∙ ap (λ t. laid n full t out) (sym full-text)
 
-pub adds-delete-new : (n k : ℕ) (e : Emitter) (o : List ℕ) → k ≤ 65536 → (k ≡ 0 → ⊥) → 0 < e .ret → (r : ℕ) (o′ : List ℕ) → r ≡ flushedRecords e → r ≤ e .records + 3 → o′ ≡ flushed n e o
-    → Adds n (delete k ∷ []) e o (record { ins = 0; del = k; ret = 0; records = r; text = e .text; base = e .base + k; target = e .target }) o′
+adds-delete-new : (n k : ℕ) (e : Emitter) (o : List ℕ) → k ≤ 65536 → (k ≡ 0 → ⊥) → 0 < e .ret
+    → Adds n (delete k ∷ []) e o (record { ins = 0; del = k; ret = 0; records = flushedRecords e; text = e .text; base = e .base + k; target = e .target }) (flushed n e o)
 unfolding addAll bytes
-adds-delete-new n k e o kl z p r o′ re rl oe = record {
+adds-delete-new n k e o kl z p = record {
   keeps = λ out acc h.
       let b = delete-behind (h .held) (e .del) (e .ret) (h .done) p k (omega arith) in
       let t = append-nil (textsOf (full h)) in
@@ -219,14 +221,40 @@ adds-delete-new n k e o kl z p r o′ re rl oe = record {
         fresh = b .1;
         is = ap (λ s. add s (delete k)) (h .is) ∙ b .0;
         ins = refl;
-        records = full-length h ∙ sym re;
+        records = full-length h;
         text = ap length (t ∙ full-text h) ∙ h .text;
         base-is = omega (arith, base-add acc (delete k), h .base-is);
         target-is = omega (arith, target-add acc (delete k), h .target-is);
-        wrote = λ w. oe ∙ full-wrote h (omega arith) ∙ ap (λ t. laid n (full h) t out) (sym t);
+        wrote = λ w. full-wrote h (omega arith) ∙ ap (λ t. laid n (full h) t out) (sym t);
       };
-  under = λ m u. omega arith;
+  under = λ m u. omega (arith, flushed-few e);
 }
+
+-- the numbers where no retain is pending, and behind one
+opened-same : (e : Emitter) → e .ret ≤ 0 → opens e ≡ e
+opened-same e h = sym (opens-same e (omega arith))
+
+opened-again : (e : Emitter) → 0 < e .ret → opens e ≡ record { ins = 0; del = 0; ret = 0; records = flushedRecords e; text = e .text; base = e .base; target = e .target }
+opened-again e h = sym (opens-again e (λ z. absurd (omega arith)) refl refl refl)
+
+pub adds-deletes : (n k : ℕ) (e : Emitter) (o : List ℕ) {r : Emitter} {o′ : List ℕ} → k ≤ 65536 → (k ≡ 0 → ⊥) → r ≡ deletedBy k e → o′ ≡ spilled n e o → Adds n (delete k ∷ []) e o r o′
+adds-deletes n k e o {r} {o′} kl z q p = rw q (go (leb (e .ret) 0) refl)
+  where
+    go : (b : Bool) → leb (e .ret) 0 ≡ b → Adds n (delete k ∷ []) e o (deletedBy k e) o′
+    go true b = let h = leb-true (e .ret) 0 b in rw (opened-same e h, p ∙ sym (spilled-same e n o h)) (adds-delete n k e o kl h)
+    go false b =
+        let h = leb-false (e .ret) 0 b in
+        rw (opened-again e h, zero-add k, p ∙ sym (spilled-again e n o h refl)) (adds-delete-new n k e o kl z h)
+
+-- ---- `deleted`, `inserted`
+
+module _ (e g : Emitter) (p : g ≡ opens e) where
+  pub deletes-from : (k : ℕ) → record { ins = g .ins; del = g .del + k; ret = g .ret; records = g .records; text = e .text; base = e .base + k; target = e .target } ≡ deletedBy k e
+  deletes-from k = rw p
+
+  pub inserts-from : (len num : ℕ)
+      → record { ins = g .ins + len; del = g .del; ret = g .ret; records = g .records; text = e .text + len; base = e .base; target = e .target + num } ≡ insertedBy len num e
+  inserts-from len num = rw p
 
 -- ---- `insert`
 
@@ -265,10 +293,10 @@ module _ (n : ℕ) (y : List Char) (e : Emitter) (o : List ℕ) (k j : ℕ) (kl 
         under = λ m u. omega (arith, few);
       }
 
-  insert-new : (k ≡ 0 → ⊥) → 0 < e .ret → (r : ℕ) (o₁ o′ : List ℕ) → r ≡ flushedRecords e → r ≤ e .records + 3 → o₁ ≡ flushed n e o → o′ ≡ over (textStart n + e .text) (bytes y) o₁
-      → Adds n (insert y ∷ []) e o (record { ins = k; del = 0; ret = 0; records = r; text = e .text + k; base = e .base; target = e .target + j }) o′
+  insert-new : (k ≡ 0 → ⊥) → 0 < e .ret → (o′ : List ℕ) → o′ ≡ over (textStart n + e .text) (bytes y) (flushed n e o)
+      → Adds n (insert y ∷ []) e o (record { ins = k; del = 0; ret = 0; records = flushedRecords e; text = e .text + k; base = e .base; target = e .target + j }) o′
   unfolding addAll
-  insert-new kz p r o₁ o′ re rl oe oe′ = record {
+  insert-new kz p o′ oe = record {
     keeps = λ out acc h.
         let b = insert-behind (h .held) (e .del) (e .ret) (h .done) p y (some-chars y (omega arith)) in
         let l : length (textsOf (full h)) ≡ e .text = ap length (full-text h) ∙ h .text in
@@ -278,14 +306,21 @@ module _ (n : ℕ) (y : List Char) (e : Emitter) (o : List ℕ) (k j : ℕ) (kl 
           fresh = b .1;
           is = ap (λ s. add s (insert y)) (h .is) ∙ b .0;
           ins = yk;
-          records = full-length h ∙ sym re;
+          records = full-length h;
           text = length-append (textsOf (full h)) (bytes y) ∙ rw (l, yk);
           base-is = omega (arith, base-add acc (insert y), h .base-is);
           target-is = omega (arith, target-add acc (insert y), h .target-is);
-          wrote = λ w. oe′ ∙ rw (oe, full-wrote h (omega arith), ← l) (lay-text n (full h) (textsOf (full h)) out (bytes y) (omega (arith, full-length h)));
+          wrote = λ w. oe ∙ rw (full-wrote h (omega arith), ← l) (lay-text n (full h) (textsOf (full h)) out (bytes y) (omega (arith, full-length h)));
         };
-    under = λ m u. omega (arith, few);
+    under = λ m u. omega (arith, few, flushed-few e);
   }
+
+  insert-all : (k ≡ 0 → ⊥) → (o′ : List ℕ) → o′ ≡ over (textStart n + e .text) (bytes y) (spilled n e o) → Adds n (insert y ∷ []) e o (insertedBy k j e) o′
+  insert-all kz o′ oe = go (leb (e .ret) 0) refl
+    where
+      go : (b : Bool) → leb (e .ret) 0 ≡ b → Adds n (insert y ∷ []) e o (insertedBy k j e) o′
+      go true b = let h = leb-true (e .ret) 0 b in rw (opened-same e h) (insert-on h o′ (rw (← spilled-same e n o h) at oe))
+      go false b = let h = leb-false (e .ret) 0 b in rw (opened-again e h, zero-add k) (insert-new kz h o′ (rw (← spilled-again e n o h refl) at oe))
 
 -- the text src[from..to]
 module _ (src : List ℕ) (from to num : ℕ) (room : to ≤ length src) (well : T (wellFormed (take (to - from) (drop from src)))) (ch : num ≡ numChars (take (to - from) (drop from src))) where
@@ -308,14 +343,11 @@ module _ (src : List ℕ) (from to num : ℕ) (room : to ≤ length src) (well :
     pub adds-insert-none : to - from ≡ 0 → Adds n (insert (chars (take (to - from) (drop from src))) ∷ []) e o e o
     adds-insert-none z = adds-none n (insert (chars part)) e o (omega (arith, part-bytes, bytes-length (chars part)))
 
-    pub adds-insert : to - from ≤ 2 ^ 18 → e .ret ≤ 0 → {at : ℕ} {o′ : List ℕ} → at ≡ textStart n → o′ ≡ over (at + e .text) (take (to - from) (drop from src)) o
-        → Adds n (insert (chars (take (to - from) (drop from src))) ∷ []) e o (record { ins = e .ins + (to - from); del = e .del; ret = e .ret; records = e .records; text = e .text + (to - from); base = e .base; target = e .target + num }) o′
-    adds-insert lw z {at} {o′} a oe = insert-on n (chars part) e o (to - from) num lw part-bytes part-chars z o′ (placed o a oe)
-
-    pub adds-insert-new : to - from ≤ 2 ^ 18 → (to - from ≡ 0 → ⊥) → 0 < e .ret → {r at : ℕ} {o₁ o′ : List ℕ} → r ≡ flushedRecords e → r ≤ e .records + 3 → o₁ ≡ flushed n e o
-        → at ≡ textStart n → o′ ≡ over (at + e .text) (take (to - from) (drop from src)) o₁
-        → Adds n (insert (chars (take (to - from) (drop from src))) ∷ []) e o (record { ins = to - from; del = 0; ret = 0; records = r; text = e .text + (to - from); base = e .base; target = e .target + num }) o′
-    adds-insert-new lw z p {r} {at} {o₁} {o′} re rl oe a oe′ = insert-new n (chars part) e o (to - from) num lw part-bytes part-chars z p r o₁ o′ re rl oe (placed o₁ a oe′)
+    pub adds-inserts : to - from ≤ 2 ^ 18 → (to - from ≡ 0 → ⊥) → {at : ℕ} {r : Emitter} {o₁ o′ : List ℕ} → r ≡ insertedBy (to - from) num e → at ≡ textStart n → o₁ ≡ spilled n e o → o′ ≡ over (at + e .text) (take (to - from) (drop from src)) o₁
+        → Adds n (insert (chars (take (to - from) (drop from src))) ∷ []) e o r o′
+    adds-inserts lw z {at} {r} {o₁} {o′} q a p oe =
+        rw q
+        (insert-all n (chars part) e o (to - from) num lw part-bytes part-chars z o′ (placed o₁ a oe ∙ ap (over (textStart n + e .text) (bytes (chars part))) p))
 
 -- ---- `part`
 
@@ -337,21 +369,32 @@ module _ (r : List ℕ) (f : Front) (k mid : ℕ) (s : Stands r f) (h : k ≤ f 
   pub part-count : f .kind ≡ 2 → k ≡ numChars (take (mid - f .from) (drop (f .from) r))
   part-count e = sym (ap numChars (part-text e) ∙ sym (chars-length _ (bytes-well _)) ∙ ap length (chars-bytes _) ∙ part-length e)
 
+  part-wide : length (take (mid - f .from) (drop (f .from) r)) ≡ mid - f .from
+  part-wide = length-take-le (mid - f .from) (drop (f .from) r) (omega (arith, part-room, length-drop (f .from) r))
+
   pub part-small : f .kind ≡ 2 → mid - f .from ≤ 2 ^ 18
-  part-small e =
+  part-small e = let x = take k (chars (frontText r f)) in omega (arith, part-wide, ap length (part-text e), bytes-most x, part-length e, s .small)
+
+  pub part-few : f .kind ≡ 2 → k ≤ 2 ^ 18
+  part-few e = omega (arith, s .small)
+
+  part-some : 0 < k → f .kind ≡ 2 → mid - f .from ≡ 0 → ⊥
+  part-some l e z =
       let x = take k (chars (frontText r f)) in
-      let l : length (take (mid - f .from) (drop (f .from) r)) ≡ mid - f .from = length-take-le (mid - f .from) (drop (f .from) r) (omega (arith, part-room, length-drop (f .from) r)) in
-      omega (arith, l, ap length (part-text e), bytes-most x, part-length e, s .small)
+      absurd (omega (arith, part-wide, ap length (part-text e), bytes-length x, part-length e))
 
   module _ (n : ℕ) (e e′ : Emitter) (o o′ : List ℕ) where
     pub part-retain : f .kind ≡ 1 → Retains k e e′ → Adds n (cut k (frontOp r f) ∷ []) e o e′ o
     part-retain z a = rw (op-retain r f z) (a .adds n o)
 
-    pub part-insert : f .kind ≡ 2 → Adds n (insert (chars (take (mid - f .from) (drop (f .from) r))) ∷ []) e o e′ o′ → Adds n (cut k (frontOp r f) ∷ []) e o e′ o′
-    part-insert z a = rw (op-insert r f z) (rw (part-text z, chars-bytes) at a)
+    pub part-inserts : 0 < k → f .kind ≡ 2 → {at : ℕ} {o₁ : List ℕ} → e′ ≡ insertedBy (mid - f .from) k e → at ≡ textStart n → o₁ ≡ spilled n e o
+        → o′ ≡ over (at + e .text) (take (mid - f .from) (drop (f .from) r)) o₁ → Adds n (cut k (frontOp r f) ∷ []) e o e′ o′
+    part-inserts l z w a p q =
+        rw (op-insert r f z)
+        (rw (part-text z, chars-bytes) at (adds-inserts r (f .from) mid k part-room (part-well z) (part-count z) n e o (part-small z) (part-some l z) w a p q))
 
-    pub part-delete : (f .kind ≡ 1 → ⊥) → (f .kind ≡ 2 → ⊥) → Adds n (delete k ∷ []) e o e′ o′ → Adds n (cut k (frontOp r f) ∷ []) e o e′ o′
-    part-delete y z a = rw (op-delete r f y z) a
+    pub part-deletes : 0 < k → (f .kind ≡ 1 → ⊥) → (f .kind ≡ 2 → ⊥) → e′ ≡ deletedBy k e → o′ ≡ spilled n e o → Adds n (cut k (frontOp r f) ∷ []) e o e′ o′
+    part-deletes l y z w p = rw (op-delete r f y z) (adds-deletes n k e o (omega (arith, s .small)) (λ v. absurd (omega arith)) w p)
 
 -- cut behind its last character, it is whole
 pub whole-op : (r : List ℕ) (f : Front) → Stands r f → cut (f .left) (frontOp r f) ≡ frontOp r f

@@ -1,19 +1,19 @@
 -- The emitter's records and text, at their places in the buffer.
-use Prim.Native.Nat.{ℕ, zero, suc, _+_, _*_, _≤_, _<_}
+use Prim.Native.Nat.{ℕ, zero, suc, _+_, _*_, _/_, _%_, _^_, _≤_, _<_}
 use native.Mathlib.Omega.{arith}
 use mathlib.Core.Path.{_≡_, refl, sym, ap, ap₂, _∙_}
 use mathlib.Core.List.{List, [], _∷_, _++_, append-nil}
-use lib.ListN.{length, length-append}
+use lib.ListN.{length, set, length-append, length-set}
 use Rattle.utf8.specs.Text.{Char, bytes}
 use Rattle.operation.specs.Op.{Op, retain, insert, delete, size}
 use Rattle.operation.specs.Layout.{kindsStart, countsStart, textStart}
 use Rattle.operation.specs.Record.{Seq, inBytes, code, inserted}
 use Rattle.operation.proofs.Sequences.{inBytes-size}
 use Rattle.operational_transform.specs.declared.core.Emitter.{Emitter}
-use Rattle.operational_transform.specs.Emit.{over, bytes16, one, emitted, flushedRecords, flushed, kindsOf, countsOf, textsOf, laid, kept, group}
+use Rattle.operational_transform.specs.Emit.{over, bytes16, one, emitted, flushedRecords, flushed, opens, spilled, Under, kindsOf, countsOf, textsOf, laid, kept, group}
 use Rattle.operational_transform.proofs.Meaning.{ifZero-elim}
 use Rattle.operational_transform.proofs.Loops.{empty-bytes}
-use Rattle.operational_transform.proofs.Over.{over-join, over-swap}
+use Rattle.operational_transform.proofs.Over.{over-join, over-swap, put-in, put16-both}
 
 one-none : (c : ℕ) → c ≡ 0 → one c ≡ 0
 one-none c e = ap one e
@@ -40,6 +40,13 @@ module _ (n k kind c : ℕ) (o : List ℕ) where
       → o₂ ≡ emitted n k kind c o
   emit-some z f g p q = q ∙ ap₂ (λ j o. over j (bytes16 c) o) g (p ∙ ap (λ i. over i (kind ∷ []) o) f) ∙ sym (emitted-some (omega arith))
 
+  -- all three bytes have a place
+  pub emit-in : {i j : ℕ} → (c ≡ 0 → ⊥) → i ≡ kindsStart + k → j ≡ countsStart n + 2 * k → set (set (set o i kind) j (c % 256)) (j + 1) (c / 256 % 256) ≡ emitted n k kind c o
+  emit-in {i} {j} z f g = emit-some z f g (put-in o i kind) (put16-both j c (set o i kind) (put-in (set o i kind) j (c % 256)) (put-in _ (j + 1) (c / 256 % 256)))
+
+pub set-inside : (o : List ℕ) (i v j : ℕ) → j + 1 < length o → j < length (set o i v)
+set-inside o i v j h = omega (arith, length-set o i v)
+
 pub count-none : (k c : ℕ) → c ≡ 0 → k ≡ k + one c
 count-none k c e = omega (arith, one-none c e)
 
@@ -56,6 +63,47 @@ module _ (e : Emitter) {x y : ℕ} (p : x ≡ e .records + one (e .ins)) (q : y 
       → o₃ ≡ flushed n e o
   unfolding flushed
   flush-all n o f g h = simp (h, g, f, q, p)
+
+one-few : (c : ℕ) → one c ≤ 1
+one-few zero = omega arith
+one-few (suc c) = omega arith
+
+pub flushed-few : (e : Emitter) → flushedRecords e ≤ e .records + 3
+flushed-few e = omega (arith, one-few (e .ins), one-few (e .del), one-few (e .ret))
+
+-- ---- `some`, `opened`, `spill`
+
+pub some-is : (c : ℕ) → (c ≡ 0 → ⊥) → 1 ≡ one c
+some-is c z = sym (one-some c (omega arith))
+
+module _ (e : Emitter) where
+  pub opens-same : e .ret ≡ 0 → e ≡ opens e
+  unfolding opens
+  opens-same z = rw z
+
+  abbrev again : ℕ → Emitter
+  again r = record { ins = 0; del = 0; ret = 0; records = r; text = e .text; base = e .base; target = e .target }
+
+  pub opens-again : {x y z : ℕ} → (e .ret ≡ 0 → ⊥) → x ≡ one (e .ins) → y ≡ one (e .del) → z ≡ one (e .ret)
+      → record { ins = 0; del = 0; ret = 0; records = e .records + x + y + z; text = e .text; base = e .base; target = e .target } ≡ opens e
+  unfolding opens
+  opens-again {x} {y} {z} h p q r =
+      let s : e .records + x + y + z ≡ flushedRecords e = simp (p, q, r) in
+      ap again s ∙ sym (ifZero-elim (λ w. w ≡ again (flushedRecords e)) (e .ret) (λ w. absurd (h w)) (λ _. refl))
+
+  pub opens-few : Under (2 ^ 40) e → Under (2 ^ 40 + 3) e
+  opens-few u = omega arith
+
+  pub opens-less : {x y z : ℕ} → x ≤ 1 → y ≤ 1 → z ≤ 1 → Under (2 ^ 40) e → Under (2 ^ 40 + 3) (again (e .records + x + y + z))
+  opens-less p q r u = omega arith
+
+  pub spilled-same : (n : ℕ) (o : List ℕ) → e .ret ≤ 0 → o ≡ spilled n e o
+  unfolding spilled
+  spilled-same n o h = let z : e .ret ≡ 0 = omega arith in rw z
+
+  pub spilled-again : (n : ℕ) (o : List ℕ) {o₁ : List ℕ} → 0 < e .ret → o₁ ≡ flushed n e o → o₁ ≡ spilled n e o
+  unfolding spilled
+  spilled-again n o h p = p ∙ sym (ifZero-elim (λ w. w ≡ flushed n e o) (e .ret) (λ w. absurd (omega arith)) (λ _. refl))
 
 -- ---- the parts of a record
 

@@ -58,6 +58,21 @@ flushed n e o =
     emitted n (e .records + one (e .ins) + one (e .del)) 1 (e .ret)
     (emitted n (e .records + one (e .ins)) 3 (e .del) (emitted n (e .records) 2 (e .ins) o))
 
+-- a pending retain closes the group: what is added behind it begins another
+unfoldable pub opens : Emitter → Emitter
+opens e = ifZero (e .ret) e (record { ins = 0; del = 0; ret = 0; records = flushedRecords e; text = e .text; base = e .base; target = e .target })
+
+unfoldable pub spilled : ℕ → Emitter → List ℕ → List ℕ
+unfolding flushed
+spilled n e o = ifZero (e .ret) o (flushed n e o)
+
+-- the numbers after an insert of `len` bytes and `num` characters, and after a delete of k characters
+abbrev pub insertedBy : ℕ → ℕ → Emitter → Emitter
+insertedBy len num e = record { ins = opens e .ins + len; del = opens e .del; ret = opens e .ret; records = opens e .records; text = e .text + len; base = e .base; target = e .target + num }
+
+abbrev pub deletedBy : ℕ → Emitter → Emitter
+deletedBy k e = record { ins = opens e .ins; del = opens e .del + k; ret = opens e .ret; records = opens e .records; text = e .text; base = e .base + k; target = e .target }
+
 -- every number of an emitter is at most k
 pub record Under (k : ℕ) (e : Emitter) : Type 0 where
   pub ins : e .ins ≤ k

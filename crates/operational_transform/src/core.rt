@@ -9,7 +9,7 @@ use operation::Refusal;
 use operation::core::Front;
 ghost use mathlib.Core.Path.{_≡_};
 ghost use mathlib.Core.List.{[], _∷_};
-ghost use Prim.Native.Nat.{_+_, _-_, _^_, _≤_, min};
+ghost use Prim.Native.Nat.{_+_, _-_, _^_, _≤_, _<_, min};
 ghost use lib.Dec.{T};
 ghost use lib.ListN.{length, take, drop};
 ghost use Rattle.utf8.specs.Form.{wellFormed};
@@ -17,7 +17,7 @@ ghost use Rattle.utf8.specs.Chars.{numChars};
 ghost use Rattle.utf8.specs.Text.{chars};
 ghost use Rattle.operation.specs.Op.{insert, delete, cut};
 ghost use Rattle.operation.specs.Front.{frontOp, Stands, Cut};
-ghost use Rattle.operational_transform.specs.Emit.{over, bytes16, one, emitted, flushed, flushedRecords, Under, nothing, Adds, Retains, Finishes, headed, within, sizeIn, judged};
+ghost use Rattle.operational_transform.specs.Emit.{over, bytes16, one, emitted, flushed, flushedRecords, opens, spilled, insertedBy, deletedBy, Under, nothing, Adds, Retains, Finishes, headed, within, sizeIn, judged};
 
 pub struct Emitter {
     // the pending group: bytes of the insert, characters of the delete and of the retain
@@ -89,8 +89,16 @@ fn emit(out: &mut [u8], n: usize, records: usize, kind: u8, count: usize) -> usi
     if count == 0 {
         return records;
     }
-    put(out, operation::core::kind_place(records), kind);
-    put16(out, operation::core::count_place(n, records), count);
+    let k = operation::core::kind_place(records);
+    let at = operation::core::count_place(n, records);
+    if at + 1 < out.len() {
+        out[k] = kind;
+        out[at] = (count % 256) as u8;
+        out[at + 1] = (count / 256 % 256) as u8;
+        return records + 1;
+    }
+    put(out, k, kind);
+    put16(out, at, count);
     records + 1
 }
 
@@ -102,6 +110,74 @@ fn flush(out: &mut [u8], n: usize, e: Emitter) -> usize
     let x = emit(out, n, e.records, 2, e.ins);
     let y = emit(out, n, x, 3, e.del);
     emit(out, n, y, 1, e.ret)
+}
+
+// A pending retain closes the group: what is added behind it begins another.
+fn spill(out: &mut [u8], n: usize, e: Emitter)
+    requires { ⌜ (n ≤ 2 ^ 40) × Under (2 ^ 40) e ⌝ }
+    ensures { λ _. ⌜ now (out .exit) ≡ spilled n e (now (out .entry)) ⌝ }
+{
+    if 0 < e.ret {
+        flush(out, n, e);
+    }
+}
+
+fn some(c: usize) -> usize
+    ensures { λ r. ⌜ (r ≡ one c) × (r ≤ 1) ⌝ }
+{
+    if c == 0 { 0 } else { 1 }
+}
+
+fn opened(e: Emitter) -> Emitter
+    requires { ⌜ Under (2 ^ 40) e ⌝ }
+    ensures { λ r. ⌜ (r ≡ opens e) × Under (2 ^ 40 + 3) r ⌝ }
+{
+    if e.ret == 0 {
+        return e;
+    }
+    Emitter {
+        ins: 0,
+        del: 0,
+        ret: 0,
+        records: e.records + some(e.ins) + some(e.del) + some(e.ret),
+        text: e.text,
+        base: e.base,
+        target: e.target,
+    }
+}
+
+// The numbers after an insert of `len` bytes and `num` characters.
+fn inserted(e: Emitter, len: usize, num: usize) -> Emitter
+    requires { ⌜ (len ≤ 2 ^ 18) × (num ≤ 2 ^ 18) × Under (2 ^ 40) e ⌝ }
+    ensures { λ r. ⌜ r ≡ insertedBy len num e ⌝ }
+{
+    let g = opened(e);
+    Emitter {
+        ins: g.ins + len,
+        del: g.del,
+        ret: g.ret,
+        records: g.records,
+        text: e.text + len,
+        base: e.base,
+        target: e.target + num,
+    }
+}
+
+// The numbers after a delete of k characters.
+fn deleted(e: Emitter, k: usize) -> Emitter
+    requires { ⌜ (k ≤ 65536) × Under (2 ^ 40) e ⌝ }
+    ensures { λ r. ⌜ r ≡ deletedBy k e ⌝ }
+{
+    let g = opened(e);
+    Emitter {
+        ins: g.ins,
+        del: g.del + k,
+        ret: g.ret,
+        records: g.records,
+        text: e.text,
+        base: e.base + k,
+        target: e.target,
+    }
 }
 
 pub fn retain(e: Emitter, k: usize) -> Emitter
@@ -126,27 +202,8 @@ pub fn delete(out: &mut [u8], n: usize, e: Emitter, k: usize) -> Emitter
     if k == 0 {
         return e;
     }
-    if 0 < e.ret {
-        let records = flush(out, n, e);
-        return Emitter {
-            ins: 0,
-            del: k,
-            ret: 0,
-            records,
-            text: e.text,
-            base: e.base + k,
-            target: e.target,
-        };
-    }
-    Emitter {
-        ins: e.ins,
-        del: e.del + k,
-        ret: e.ret,
-        records: e.records,
-        text: e.text,
-        base: e.base + k,
-        target: e.target,
-    }
+    spill(out, n, e);
+    deleted(e, k)
 }
 
 // The text src[from..to], of `num` characters.
@@ -166,30 +223,9 @@ pub fn insert(
     if len == 0 {
         return e;
     }
-    let at = operation::core::text_start(n) + e.text;
-    if 0 < e.ret {
-        let records = flush(out, n, e);
-        copy(out, at, src, from, to);
-        return Emitter {
-            ins: len,
-            del: 0,
-            ret: 0,
-            records,
-            text: e.text + len,
-            base: e.base,
-            target: e.target + num,
-        };
-    }
-    copy(out, at, src, from, to);
-    Emitter {
-        ins: e.ins + len,
-        del: e.del,
-        ret: e.ret,
-        records: e.records,
-        text: e.text + len,
-        base: e.base,
-        target: e.target + num,
-    }
+    spill(out, n, e);
+    copy(out, operation::core::text_start(n) + e.text, src, from, to);
+    inserted(e, len, num)
 }
 
 // The first k characters of the front's operation, whose text ends at `mid`.
@@ -202,17 +238,20 @@ pub fn part(
     k: usize,
     mid: usize,
 ) -> Emitter
-    requires { ⌜ (n ≤ 2 ^ 40) × Stands (now src) f × (k ≤ f .left) × Cut (now src) f k mid × Under (2 ^ 40) e ⌝ }
+    requires { ⌜ (n ≤ 2 ^ 40) × Stands (now src) f × (0 < k) × (k ≤ f .left) × Cut (now src) f k mid × Under (2 ^ 40) e ⌝ }
     ensures { λ r. ⌜ Adds n (cut k (frontOp (now (src .entry)) f) ∷ []) e (now (out .entry)) r (now (out .exit)) ⌝ }
 {
     let kind = f.kind;
     if kind == 1 {
         return retain(e, k);
     }
+    spill(out, n, e);
     if kind == 2 {
-        return insert(out, n, e, src, f.from, mid, k);
+        let from = f.from;
+        copy(out, operation::core::text_start(n) + e.text, src, from, mid);
+        return inserted(e, mid - from, k);
     }
-    delete(out, n, e, k)
+    deleted(e, k)
 }
 
 // The pending group is written, too.

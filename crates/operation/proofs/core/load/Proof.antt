@@ -9,6 +9,9 @@ returns c = search load-end
 kind-requires : tie.Need-kind-requires
 kind-requires c κs = search needs
 
+cast-kind : tie.Need-cast-kind
+cast-kind c = search needs
+
 count-requires : tie.Need-count-requires
 count-requires c κs = search needs
 
@@ -27,14 +30,14 @@ part-num-chars-end c = search (load-room, needs)
 num-chars-requires : tie.Need-num-chars-requires
 num-chars-requires c κs = search needs
 
-add-t11 : tie.Need-add-t11
-add-t11 c = search needs
+add-t12 : tie.Need-add-t12
+add-t12 c = search needs
 
 returns-2 : tie.Need-returns-2
 returns-2 c = search load-insert
 
-add-t14 : tie.Need-add-t14
-add-t14 c = search needs
+add-t15 : tie.Need-add-t15
+add-t15 c = search needs
 
 returns-3 : tie.Need-returns-3
 returns-3 c = search load-other
@@ -45,13 +48,14 @@ load-spec =
     (tie.spec
     returns
     kind-requires
+    cast-kind
     count-requires
     add-to
     sub-num-chars
     part-num-chars-start
     part-num-chars-end
     num-chars-requires
-    add-t11
+    add-t12
     returns-2
-    add-t14
+    add-t15
     returns-3)

@@ -1,5 +1,5 @@
+use Rattle.operational_transform.proofs.Adding.{part-room, part-small, part-few, part-retain, part-inserts, part-deletes}
 use borrow.Author.Needs.{needs}
-use Rattle.operational_transform.proofs.Adding.{part-room, part-small, part-well, part-count, part-retain, part-insert, part-delete}
 use Rattle.operational_transform.proofs.core.part.Statement.{statement}
 use Rattle.operational_transform.proofs.core.part.Tie as tie
 
@@ -9,23 +9,38 @@ retain-requires c κs = search needs
 returns : tie.Need-returns
 returns c = search part-retain
 
-insert-requires : tie.Need-insert-requires
-insert-requires c κs = (search needs, search needs, search part-room, search part-small, search part-well, search part-count, search needs)
+spill-requires : tie.Need-spill-requires
+spill-requires c κs = search needs
+
+text-start-requires : tie.Need-text-start-requires
+text-start-requires c κs = search needs
+
+add-copy : tie.Need-add-copy
+add-copy c = search needs
+
+copy-requires : tie.Need-copy-requires
+copy-requires c κs = (search needs, search needs, search part-room)
+
+sub-inserted : tie.Need-sub-inserted
+sub-inserted c = search needs
+
+inserted-requires : tie.Need-inserted-requires
+inserted-requires c κs = (search part-small, search part-few, search needs)
 
 same-length : tie.Need-same-length
 same-length c = search needs
 
 returns-2 : tie.Need-returns-2
-returns-2 c = search part-insert
+returns-2 c = search part-inserts
 
-delete-requires : tie.Need-delete-requires
-delete-requires c κs = search needs
+deleted-requires : tie.Need-deleted-requires
+deleted-requires c κs = search needs
 
 same-length-2 : tie.Need-same-length-2
 same-length-2 c = search needs
 
 returns-3 : tie.Need-returns-3
-returns-3 c = search part-delete
+returns-3 c = search part-deletes
 
 pub part-spec : {M : Type 1} → statement M
 part-spec =
@@ -33,9 +48,14 @@ part-spec =
     (tie.spec
     retain-requires
     returns
-    insert-requires
+    spill-requires
+    text-start-requires
+    add-copy
+    copy-requires
+    sub-inserted
+    inserted-requires
     same-length
     returns-2
-    delete-requires
+    deleted-requires
     same-length-2
     returns-3)
