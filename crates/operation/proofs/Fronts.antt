@@ -387,3 +387,7 @@ module _ (r : List ℕ) (f : Front) (k : ℕ) (s : Stands r f) where
         whole : (n : ℕ) → 0 < n → ifZero n (opsLeft r (f .next) (f .to)) (rest k (frontOp r f) ∷ opsLeft r (f .next) (f .to)) ≡ rest k (frontOp r f) ∷ opsLeft r (f .next) (f .to)
         whole zero h = absurd (omega arith)
         whole (suc n) h = refl
+
+-- of a front that hasn't ended some characters are left
+pub left-some : (r : List ℕ) (f : Front) → Stands r f → (f .kind ≡ 0 → ⊥) → 0 < f .left
+left-some r f s z = s .some (omega arith)

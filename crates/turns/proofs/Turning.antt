@@ -91,6 +91,21 @@ module _ (a b : List ℕ) (x y : Front) (t : Turn) where
     pub advance-together : (g h : Front) → t ≡ Together → Leaves a x (p .k) g → Leaves b y (p .k) h → Advances a b x y t p (record { x = g; y = h })
     advance-together g h e l m = record { advanced = rw e (l, m) }
 
+-- a step uses some characters
+module _ (turn : Op Char → Op Char → align.Turn) (a b : List ℕ) (x y : Front) (t : Turn) (p : Plan) (h : Planned a b x y t p) (c : Chooses turn a b x y t) where
+  chosen-as : (u : Turn) → t ≡ u → Chosen turn a b x y u
+  chosen-as u e = rw e at (c .chosen)
+
+  pub first-some : t ≡ First → Stands a x → 0 < p .k
+  first-some e s = omega (arith, by a b x y t p h First e .0, s .some (chosen-as First e .0))
+
+  pub second-some : t ≡ Second → Stands b y → 0 < p .k
+  second-some e s = omega (arith, by a b x y t p h Second e .0, s .some (chosen-as Second e .0))
+
+  pub together-some : t ≡ Together → Stands a x → Stands b y → 0 < p .k
+  together-some e s r =
+      omega (arith, by a b x y t p h Together e .0, s .some (chosen-as Together e .0), r .some (chosen-as Together e .1 .0))
+
 module _ (a b : List ℕ) (x y : Front) (t u : Turn) where
   pub chooses-as : (turn : Op Char → Op Char → align.Turn) → t ≡ u → Chooses turn a b x y t → Chooses turn a b x y u
   chooses-as turn e c = rw (← e) c
@@ -98,7 +113,7 @@ module _ (a b : List ℕ) (x y : Front) (t u : Turn) where
   pub planned-as : (p : Plan) → t ≡ u → Planned a b x y t p → Planned a b x y u p
   planned-as p e h = rw (← e) h
 
-pub ruleset Within = (first-k, first-cut, second-k, second-cut, together-x, together-y, together-cut-x, together-cut-y)
+pub ruleset Within = (first-k, first-cut, first-some, second-k, second-cut, second-some, together-x, together-y, together-cut-x, together-cut-y, together-some)
 
 -- ---- fronts and what lies ahead
 

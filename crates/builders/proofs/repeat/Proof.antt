@@ -2,6 +2,7 @@ use mathlib.Core.Path.{_≡_}
 use lib.ListN.{length}
 use Rattle.operation.specs.Front.{ahead}
 use Rattle.builders.proofs.Repeating.{Going, going-start, going-room, going-done, going-less, going-more, whole-cut}
+use Rattle.operation.proofs.Fronts.{left-some}
 use borrow.Author.Needs.{needs}
 use Rattle.builders.proofs.repeat.Statement.{statement}
 use Rattle.builders.proofs.repeat.Tie as tie
@@ -22,7 +23,7 @@ loop-holds : tie.Need-loop-holds Inv-loop μ-loop
 loop-holds c = (search going-start, search needs)
 
 part-requires : tie.Need-part-requires Inv-loop μ-loop
-part-requires c κs = search (whole-cut, going-room, needs)
+part-requires c κs = search (whole-cut, going-room, left-some, needs)
 
 load-requires : tie.Need-load-requires Inv-loop μ-loop
 load-requires c κs = search needs

@@ -1,10 +1,11 @@
+use Rattle.turns.proofs.Turning.{Within}
 use Rattle.compose.proofs.Steps.{meet-insert, meet-nothing, meet-retain}
 use borrow.Author.Needs.{needs}
 use Rattle.compose.proofs.core.meet.Statement.{statement}
 use Rattle.compose.proofs.core.meet.Tie as tie
 
 part-requires : tie.Need-part-requires
-part-requires c κs = search needs
+part-requires c κs = search (Within, needs)
 
 same-length : tie.Need-same-length
 same-length c = search needs
@@ -13,7 +14,7 @@ returns : tie.Need-returns
 returns c = search meet-retain
 
 part-requires-2 : tie.Need-part-requires-2
-part-requires-2 c κs = search needs
+part-requires-2 c κs = search (Within, needs)
 
 same-length-2 : tie.Need-same-length-2
 same-length-2 c = search needs
