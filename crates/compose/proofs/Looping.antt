@@ -2,7 +2,7 @@
 use Prim.Native.Nat.{ℕ, suc, _+_, _*_, _^_, _≤_, _<_}
 use native.Mathlib.Omega.{arith}
 use mathlib.Core.Path.{_≡_, refl, sym, ap, ap₂, _∙_}
-use mathlib.Core.Bool.{false}
+use mathlib.Core.Bool.{Bool, false}
 use mathlib.Core.List.{List, [], _∷_, reverse}
 use lib.Dec.{eqb}
 use lib.ListN.{length}
@@ -11,14 +11,10 @@ use Rattle.operation.specs.declared.Refusal.{Refusal}
 use Rattle.operation.specs.declared.Refusal.the-variants.{IncompatibleLengths}
 use Rattle.operation.specs.declared.Fact.{Fact}
 use Rattle.operation.specs.declared.Fact.the-variants as fact
-use Rattle.operation.specs.declared.core.Front.{Front}
 use Rattle.operation.specs.Answer.{number, factOf, needs, first}
 use Rattle.operation.specs.Layout.{recordsOf, baseOf, targetOf}
 use Rattle.operation.specs.Record.{Seq, ops, recordFault}
 use Rattle.operation.specs.Calls.{checkCall}
-use Rattle.operation.specs.Front.{ahead, Stands}
-use Rattle.operation.proofs.Fronts.{ended-ahead, fault-few}
-use Rattle.operation.proofs.Records.{ops-length}
 use Rattle.operation.proofs.Answers.{Stopped, stopped}
 use Rattle.operational_transform.specs.declared.Written.{Written}
 use Rattle.operational_transform.specs.declared.Written.the-variants as written
@@ -26,62 +22,17 @@ use Rattle.operational_transform.specs.declared.core.Emitter.{Emitter}
 use Rattle.operational_transform.specs.Compose.{composeTurn, made, compose}
 use Rattle.operational_transform.specs.Calls.{recordsFault, deliver, composeCall}
 use Rattle.operational_transform.specs.Emit.{Under, nothing, Rep, Done, Finishes, Writes, judged}
-use Rattle.operational_transform.proofs.Loops.{run-end, compose-runs}
-use Rattle.operational_transform.proofs.Adding.{rep-start, under-start, under-more}
+use Rattle.operational_transform.proofs.Loops.{compose-runs}
 use Rattle.operational_transform.specs.Given.{Gives}
 use Rattle.operational_transform.proofs.Giving.{refuses, gives-refused, gives-written}
 use Rattle.turns.specs.Turns.{liveIs}
-use Rattle.turns.proofs.Turning.{both-ended}
-use Rattle.compose.specs.declared.core.State.{State}
-use Rattle.compose.specs.Composing.{still, Went}
+use Rattle.turns.specs.declared.core.State.{State}
+use Rattle.turns.proofs.Going.{Going, going-all}
 
-pub record Going (n : ℕ) (a b out0 : List ℕ) (s : State) (o : List ℕ) : Type 0 where
-  pub stands-x : Stands a (s .x)
-  pub stands-y : Stands b (s .y)
-  pub turns : ℕ
-  pub bound : turns + (length (ahead a (s .x)) + length (ahead b (s .y))) ≤ 2048
-  pub under : Under (270000 * turns) (s .e)
-  pub acc : Seq
-  pub rep : Rep n out0 acc (s .e) o
-  pub left : still acc (ahead a (s .x)) (ahead b (s .y)) ≡ still [] (ops a) (ops b)
-
-pub going-start : (n : ℕ) (a b o : List ℕ) (x y : Front) (e : Emitter) → recordFault a ≡ 0 → recordFault b ≡ 0 → Stands a x → ahead a x ≡ ops a → Stands b y → ahead b y ≡ ops b → e ≡ nothing
-    → Going n a b o (record { x = x; y = y; e = e }) o
-going-start n a b o x y e za zb sx hx sy hy p =
-    rw p (record {
-      stands-x = sx;
-      stands-y = sy;
-      turns = 0;
-      bound = omega (arith, ap length hx, ap length hy, ops-length a za, ops-length b zb, fault-few a (recordsOf a) za refl, fault-few b (recordsOf b) zb refl);
-      under = under-start;
-      acc = [];
-      rep = rep-start n o;
-      left = ap₂ (still []) hx hy;
-    })
-
-pub going-under : (n : ℕ) (a b out0 : List ℕ) (s : State) (o : List ℕ) → Going n a b out0 s o → Under (2 ^ 39) (s .e)
-going-under n a b out0 s o g = under-more (270000 * g .turns) (2 ^ 39) (s .e) (omega (arith, g .bound)) (g .under)
-
-pub going-more : (n : ℕ) (a b out0 : List ℕ) (s : State) (o : List ℕ) (r : State) (o′ : List ℕ) → Going n a b out0 s o → Went n a b s o r o′ → Going n a b out0 r o′
-going-more n a b out0 s o r o′ g w =
-    record {
-      stands-x = w .stands-x;
-      stands-y = w .stands-y;
-      turns = suc (g .turns);
-      bound = omega (arith, g .bound, w .less);
-      under = under-more (270000 * g .turns + 270000 * length (w .given)) (270000 * suc (g .turns)) (r .e) (omega (arith, w .few)) (w .adds .under (270000 * g .turns) (g .under));
-      acc = _;
-      rep = w .adds .keeps out0 (g .acc) (g .rep);
-      left = sym (w .goes (g .acc)) ∙ g .left;
-    }
-
-pub going-done : (n : ℕ) (a b out0 : List ℕ) (s : State) (o : List ℕ) (r : Emitter) (o′ : List ℕ) → liveIs (s .x) (s .y) ≡ false → Going n a b out0 s o → Finishes n (s .e) o r o′
+pub going-done : (n : ℕ) (a b out0 : List ℕ) (s : State) (o : List ℕ) (v : Bool) (r : Emitter) (o′ : List ℕ) → Going composeTurn made n a b out0 s o → v ≡ liveIs (s .x) (s .y) → v ≡ false → Finishes n (s .e) o r o′
     → Done n (compose (ops a) (ops b)) out0 r o′
-going-done n a b out0 s o r o′ l g f =
-    let (p, q) = both-ended (s .x) (s .y) l in
-    let e : g .acc ≡ still [] (ops a) (ops b) =
-    sym (ap₂ (still (g .acc)) (ended-ahead a (s .x) (g .stands-x) p) (ended-ahead b (s .y) (g .stands-y) q) ∙ run-end composeTurn made (g .acc)) ∙ g .left in
-    rw (compose-runs (ops a) (ops b), ← e) (f .done out0 (g .acc) (g .rep))
+going-done n a b out0 s o v r o′ g w l f =
+    rw (compose-runs (ops a) (ops b), ← going-all composeTurn made n a b out0 s o g (sym w ∙ l)) (f .done out0 (g .acc) (g .rep))
 
 -- ---- the answers
 

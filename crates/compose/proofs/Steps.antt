@@ -26,10 +26,10 @@ use Rattle.turns.specs.declared.core.Turn.{Turn}
 use Rattle.turns.specs.declared.core.Turn.the-variants.{First, Second, Together}
 use Rattle.turns.specs.declared.core.Plan.{Plan}
 use Rattle.turns.specs.declared.core.Fronts.{Fronts}
-use Rattle.turns.specs.Turns.{liveIs, stepOf, Chosen, Chooses, Planned, Advances}
+use Rattle.turns.specs.Turns.{liveIs, stepOf, Chosen, Chooses, Planned, Advances, Went}
 use Rattle.turns.proofs.Turning.{Moves, moves}
-use Rattle.compose.specs.declared.core.State.{State}
-use Rattle.compose.specs.Composing.{whoseIs, Went}
+use Rattle.turns.specs.declared.core.State.{State}
+use Rattle.compose.specs.Composing.{whoseIs}
 
 one-or-two : (r : List ℕ) (f : Front) → Stands r f → (f .kind ≡ 0 → ⊥) → (f .kind ≡ 3 → ⊥) → (f .kind ≡ 1) ⊎ (f .kind ≡ 2)
 one-or-two r f s p q = go (eqb (f .kind) 1) refl
@@ -143,7 +143,7 @@ module _ (n : ℕ) (a b : List ℕ) (x y : Front) (t : Turn) (p : Plan) (e : Emi
   pub give-together : t ≡ Together → Adds n (made (stepOf a b x y Together (p .k))) e o r o′ → Adds n (made (stepOf a b x y t (p .k))) e o r o′
   give-together z q = rw z q
 
-made-few : (w : Step Char) → length (made w) ≤ 1
+made-few : (w : Step Char) → length (made w) ≤ 2
 made-few (one o) = omega arith
 made-few (two p) = omega arith
 made-few (both (retain n) p) = omega arith
@@ -154,7 +154,7 @@ made-few (both (delete n) p) = omega arith
 
 pub went : (n : ℕ) (a b : List ℕ) (s : State) (o : List ℕ) (t : Turn) (p : Plan) (f : Emitter) (r : Fronts) (g h : Front) (o′ : List ℕ) → Stands a (s .x) → Stands b (s .y)
     → liveIs (s .x) (s .y) ≡ true → t ≡ whoseIs (s .x .kind) (s .y .kind) → Planned a b (s .x) (s .y) t p → Advances a b (s .x) (s .y) t p r
-    → Adds n (made (stepOf a b (s .x) (s .y) t (p .k))) (s .e) o f o′ → g ≡ r .x → h ≡ r .y → Went n a b s o (record { x = g; y = h; e = f }) o′
+    → Adds n (made (stepOf a b (s .x) (s .y) t (p .k))) (s .e) o f o′ → g ≡ r .x → h ≡ r .y → Went composeTurn made n a b s o (record { x = g; y = h; e = f }) o′
 went n a b s o t p f r g h o′ sx sy l z q d u e i =
     let m : Moves composeTurn a b (s .x) (s .y) t (p .k) r = moves composeTurn a b (s .x) (s .y) sx sy p r t (chooses-by a b (s .x) (s .y) sx sy t l z) q d in
     rw (e, i) (record {

@@ -4,6 +4,7 @@ use operation::core::Front;
 use operational_transform::Written;
 use operational_transform::core::Emitter;
 use turns::core::Plan;
+use turns::core::State;
 use turns::core::Turn;
 ghost use mathlib.Core.Path.{_≡_};
 ghost use mathlib.Core.Bool.{true};
@@ -16,15 +17,8 @@ ghost use Rattle.operational_transform.specs.Compose.{compose as composeOf};
 ghost use Rattle.operational_transform.specs.Calls.{composeCall};
 ghost use Rattle.operational_transform.specs.Emit.{Under, Adds, Done, Writes};
 ghost use Rattle.operational_transform.specs.Given.{Gives};
-ghost use Rattle.turns.specs.Turns.{liveIs, stepOf, Chooses, Planned};
-ghost use Rattle.compose.specs.Composing.{whoseIs, Went};
-
-// On the way: the two fronts, and what was emitted.
-struct State {
-    x: Front,
-    y: Front,
-    e: Emitter,
-}
+ghost use Rattle.turns.specs.Turns.{liveIs, stepOf, Chooses, Planned, Went};
+ghost use Rattle.compose.specs.Composing.{whoseIs};
 
 // A delete of the first goes before an insert of the second.
 fn whose(x: Front, y: Front) -> Turn
@@ -56,7 +50,7 @@ fn meet(
     y: Front,
     p: Plan,
 ) -> Emitter
-    requires { ⌜ (n ≤ 2 ^ 40) × Under (2 ^ 39) e × Stands (now a) x × Stands (now b) y × Chooses composeTurn (now a) (now b) x y Turn.Together × Planned (now a) (now b) x y Turn.Together p ⌝ }
+    requires { ⌜ (n ≤ 2 ^ 40) × Under (2 ^ 38) e × Stands (now a) x × Stands (now b) y × Chooses composeTurn (now a) (now b) x y Turn.Together × Planned (now a) (now b) x y Turn.Together p ⌝ }
     ensures { λ r. ⌜ Adds n (made (stepOf (now (a .entry)) (now (b .entry)) x y Turn.Together (p .k))) e (now (out .entry)) r (now (out .exit)) ⌝ }
 {
     if x.kind == 1 {
@@ -80,7 +74,7 @@ fn give(
     t: Turn,
     p: Plan,
 ) -> Emitter
-    requires { ⌜ (n ≤ 2 ^ 40) × Under (2 ^ 39) e × Stands (now a) x × Stands (now b) y × Chooses composeTurn (now a) (now b) x y t × Planned (now a) (now b) x y t p ⌝ }
+    requires { ⌜ (n ≤ 2 ^ 40) × Under (2 ^ 38) e × Stands (now a) x × Stands (now b) y × Chooses composeTurn (now a) (now b) x y t × Planned (now a) (now b) x y t p ⌝ }
     ensures { λ r. ⌜ Adds n (made (stepOf (now (a .entry)) (now (b .entry)) x y t (p .k))) e (now (out .entry)) r (now (out .exit)) ⌝ }
 {
     match t {
@@ -90,18 +84,10 @@ fn give(
     }
 }
 
-fn live(s: State) -> bool
-    ensures { λ r. ⌜ r ≡ liveIs (s .x) (s .y) ⌝ }
-{
-    let x = s.x;
-    let y = s.y;
-    turns::core::live(x, y)
-}
-
 // One step.
 fn turn(a: &[u8], na: usize, b: &[u8], nb: usize, out: &mut [u8], n: usize, s: State) -> State
-    requires { ⌜ (na ≡ recordsOf (now a)) × (nb ≡ recordsOf (now b)) × (n ≤ 2 ^ 40) × Under (2 ^ 39) (s .e) × Stands (now a) (s .x) × Stands (now b) (s .y) × (liveIs (s .x) (s .y) ≡ true) ⌝ }
-    ensures { λ r. ⌜ Went n (now (a .entry)) (now (b .entry)) s (now (out .entry)) r (now (out .exit)) ⌝ }
+    requires { ⌜ (na ≡ recordsOf (now a)) × (nb ≡ recordsOf (now b)) × (n ≤ 2 ^ 40) × Under (2 ^ 38) (s .e) × Stands (now a) (s .x) × Stands (now b) (s .y) × (liveIs (s .x) (s .y) ≡ true) ⌝ }
+    ensures { λ r. ⌜ Went composeTurn made n (now (a .entry)) (now (b .entry)) s (now (out .entry)) r (now (out .exit)) ⌝ }
 {
     let x = s.x;
     let y = s.y;
@@ -120,11 +106,8 @@ fn run(a: &[u8], na: usize, b: &[u8], nb: usize, out: &mut [u8], n: usize) -> Em
     requires { ⌜ (na ≡ recordsOf (now a)) × (na ≤ 1024) × (nb ≡ recordsOf (now b)) × (nb ≤ 1024) × (n ≤ 2 ^ 40) × (recordFault (now a) ≡ 0) × (recordFault (now b) ≡ 0) ⌝ }
     ensures { λ r. ⌜ Done n (composeOf (ops (now (a .entry))) (ops (now (b .entry)))) (now (out .entry)) r (now (out .exit)) ⌝ }
 {
-    let x = operation::core::first(a, na);
-    let y = operation::core::first(b, nb);
-    let e = operational_transform::core::start();
-    let mut s = State { x, y, e };
-    while live(s) {
+    let mut s = turns::core::begin(a, na, b, nb);
+    while turns::core::goes_on(s) {
         s = turn(a, na, b, nb, out, n, s);
     }
     let last = s.e;

@@ -1,19 +1,24 @@
 -- Steps over the fronts of two records. Only contracts of `core` and of the crates above cite this.
-use Prim.Native.Nat.{ℕ, min, _≤_, _<_}
+use Prim.Native.Nat.{ℕ, _+_, min, _≤_, _<_}
 use mathlib.Core.Path.{_≡_}
 use mathlib.Core.Logic.{_⊎_}
 use mathlib.Core.Bool.{Bool, not, _&&_}
 use mathlib.Core.List.{List}
 use lib.Dec.{eqb}
+use lib.ListN.{length}
 use Rattle.utf8.specs.Text.{Char}
 use Rattle.operation.specs.declared.core.Front.{Front}
 use Rattle.operation.specs.Op.{Op, cut}
-use Rattle.operation.specs.Front.{frontOp, Stands, Cut, Leaves}
+use Rattle.operation.specs.Record.{Seq, ops}
+use Rattle.operation.specs.Front.{frontOp, ahead, Stands, Cut, Leaves}
 use Rattle.turns.specs.declared.core.Turn.{Turn}
 use Rattle.turns.specs.declared.core.Turn.the-variants.{First, Second, Together}
 use Rattle.turns.specs.declared.core.Plan.{Plan}
 use Rattle.turns.specs.declared.core.Fronts.{Fronts}
-use Rattle.operational_transform.specs.Align.{Step, one, two, both}
+use Rattle.turns.specs.declared.core.State.{State}
+use Rattle.operational_transform.specs.Build.{addAll}
+use Rattle.operational_transform.specs.Emit.{nothing, Adds}
+use Rattle.operational_transform.specs.Align.{Step, one, two, both, steps, each}
 use Rattle.operational_transform.specs.Align as align
 
 abbrev pub liveIs : Front → Front → Bool
@@ -51,3 +56,25 @@ AdvancedBy a b x y Together p r = Leaves a x (p .k) (r .x) × Leaves b y (p .k) 
 
 pub record Advances (a b : List ℕ) (x y : Front) (t : Turn) (p : Plan) (r : Fronts) : Type 0 where
   pub advanced : AdvancedBy a b x y t p r
+
+-- before the first step
+pub record Begun (a b : List ℕ) (s : State) : Type 0 where
+  pub stands-x : Stands a (s .x)
+  pub stands-y : Stands b (s .y)
+  pub all-x : ahead a (s .x) ≡ ops a
+  pub all-y : ahead b (s .y) ≡ ops b
+  pub empty : s .e ≡ nothing
+
+-- what was built, and what the steps still to come add to it
+abbrev pub still : (Op Char → Op Char → align.Turn) → (Step Char → Seq) → Seq → Seq → Seq → Seq
+still turn g acc a b = addAll acc (each g (steps turn a b))
+
+-- one step by a rule `turn`, which gives what `g` says
+pub record Went (turn : Op Char → Op Char → align.Turn) (g : Step Char → Seq) (n : ℕ) (a b : List ℕ) (s : State) (o : List ℕ) (r : State) (o′ : List ℕ) : Type 0 where
+  pub stands-x : Stands a (r .x)
+  pub stands-y : Stands b (r .y)
+  pub given : Seq
+  pub adds : Adds n given (s .e) o (r .e) o′
+  pub few : length given ≤ 2
+  pub goes : (acc : Seq) → still turn g acc (ahead a (s .x)) (ahead b (s .y)) ≡ still turn g (addAll acc given) (ahead a (r .x)) (ahead b (r .y))
+  pub less : length (ahead a (r .x)) + length (ahead b (r .y)) < length (ahead a (s .x)) + length (ahead b (s .y))

@@ -1,9 +1,12 @@
 // A step of compose or transform over the two front records: whose turn it is, and what stays in front.
 use operation::core::Front;
+use operational_transform::core::Emitter;
 ghost use mathlib.Core.Path.{_≡_};
+ghost use Prim.Native.Nat.{_≤_};
 ghost use Rattle.operation.specs.Layout.{recordsOf};
+ghost use Rattle.operation.specs.Record.{recordFault};
 ghost use Rattle.operation.specs.Front.{Stands};
-ghost use Rattle.turns.specs.Turns.{Planned, Advances, liveIs};
+ghost use Rattle.turns.specs.Turns.{Begun, Planned, Advances, liveIs};
 
 // A step uses the first front, the second, or as many characters of both.
 pub enum Turn {
@@ -24,6 +27,24 @@ pub struct Fronts {
     pub y: Front,
 }
 
+// On the way: the two fronts, and what was emitted.
+pub struct State {
+    pub x: Front,
+    pub y: Front,
+    pub e: Emitter,
+}
+
+// The fronts of two whole records; nothing was emitted.
+pub fn begin(a: &[u8], na: usize, b: &[u8], nb: usize) -> State
+    requires { ⌜ (na ≡ recordsOf (now a)) × (na ≤ 1024) × (nb ≡ recordsOf (now b)) × (nb ≤ 1024) × (recordFault (now a) ≡ 0) × (recordFault (now b) ≡ 0) ⌝ }
+    ensures { λ s. ⌜ Begun (now (a .entry)) (now (b .entry)) s ⌝ }
+{
+    let x = operation::core::first(a, na);
+    let y = operation::core::first(b, nb);
+    let e = operational_transform::core::start();
+    State { x, y, e }
+}
+
 // Whether anything is left of either record.
 pub fn live(x: Front, y: Front) -> bool
     ensures { λ r. ⌜ r ≡ liveIs x y ⌝ }
@@ -32,6 +53,14 @@ pub fn live(x: Front, y: Front) -> bool
         return y.kind != 0;
     }
     true
+}
+
+pub fn goes_on(s: State) -> bool
+    ensures { λ r. ⌜ r ≡ liveIs (s .x) (s .y) ⌝ }
+{
+    let x = s.x;
+    let y = s.y;
+    live(x, y)
 }
 
 pub fn measure(a: &[u8], b: &[u8], x: Front, y: Front, t: Turn) -> Plan
