@@ -29,7 +29,7 @@ use Rattle.operational_transform.proofs.Delivering.{sized-fits, sized-length, w
 use Rattle.transform.specs.declared.WrittenPair.{WrittenPair}
 use Rattle.transform.specs.declared.WrittenPair.the-variants as written
 use Rattle.transform.specs.declared.core.Pair.{Pair}
-use Rattle.transform.specs.Pairs.{pairOf, judgedBoth, DoneBoth, SizedBoth, Transforms}
+use Rattle.transform.specs.Pairs.{pairOf, judgedBoth, SizedBoth, Transforms}
 
 -- ---- `judge`
 
@@ -57,9 +57,6 @@ module _ (e f : Emitter) (x y : ℕ) (u : Bool) (pu : u ≡ within e) where
       judge-bytes g h = rw (sym pu ∙ not-false u hu, sym pv ∙ not-false v hv, le-leb (sizeIn e) x (omega arith), le-leb (sizeIn f) y (omega arith), pp, pq)
 
 -- ---- the call
-
-pub sized-both : (n m : ℕ) (s : Sides Char) (x y : List ℕ) (r : Pair) (x′ y′ : List ℕ) → DoneBoth n m s x y r x′ y′ → SizedBoth s r
-sized-both n m s x y r x′ y′ d = record { left = d .left .sizes; right = d .right .sizes; under-left = d .left .small; under-right = d .right .small }
 
 -- where the lengths differ, or a record is refused
 fault-is : (a b x y : List ℕ) (k : ℕ) → first (recordsFault a b) (needs (eqb (baseOf a) (baseOf b)) 8 (needs (fits (transform order (ops a) (ops b) .left) && fits (transform order (ops a) (ops b) .right)) 9 0)) ≡ suc k

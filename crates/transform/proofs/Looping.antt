@@ -1,90 +1,39 @@
--- The loop of transform.
-use Prim.Native.Nat.{ℕ, suc, _+_, _*_, _^_, _≤_}
-use native.Mathlib.Omega.{arith}
-use mathlib.Core.Path.{_≡_, refl, sym, ap, ap₂, _∙_}
+-- The loop of one side, and the other side.
+use Prim.Native.Nat.{ℕ, _^_, _≤_}
+use mathlib.Core.Path.{_≡_, sym, ap, _∙_, subst}
 use mathlib.Core.Bool.{Bool, false}
-use mathlib.Core.List.{List, [], reverse}
-use lib.ListN.{length}
+use mathlib.Core.List.{List, reverse}
 use Rattle.utf8.specs.Order.{order}
-use Rattle.operation.specs.Layout.{recordsOf}
-use Rattle.operation.specs.Record.{Seq, ops, recordFault}
-use Rattle.operation.specs.Front.{ahead, Stands}
-use Rattle.operation.proofs.Fronts.{ended-ahead, fault-few}
-use Rattle.operation.proofs.Records.{ops-length}
-use Rattle.operational_transform.specs.Transform.{transformTurn, keepBoth, lefts, rights, transform}
-use Rattle.operational_transform.specs.Emit.{Under, Rep, Done}
-use Rattle.operational_transform.proofs.Loops.{run-end, transform-runs}
-use Rattle.operational_transform.proofs.Adding.{rep-start, under-start, under-more}
+use Rattle.operation.specs.Record.{Seq, ops}
+use Rattle.operational_transform.specs.declared.core.Emitter.{Emitter}
+use Rattle.operational_transform.specs.Transform.{transformTurn, keepBoth, lefts, transform}
+use Rattle.operational_transform.specs.Emit.{Under, Sizes, Done, Finishes, Writes}
+use Rattle.operational_transform.proofs.Loops.{transform-runs}
+use Rattle.operational_transform.proofs.Theorems.{transform-swaps}
+use Rattle.turns.specs.declared.core.State.{State}
 use Rattle.turns.specs.Turns.{liveIs}
-use Rattle.turns.proofs.Turning.{both-ended}
-use Rattle.transform.specs.declared.core.State.{State}
+use Rattle.turns.proofs.Going.{Going, going-all}
 use Rattle.transform.specs.declared.core.Pair.{Pair}
-use Rattle.transform.specs.Sides.{stillLeft, stillRight, Begun, Went, Ended}
-use Rattle.transform.specs.Pairs.{DoneBoth}
+use Rattle.transform.specs.Pairs.{SizedBoth}
 
-pub record Going (n m : ℕ) (a b x0 y0 : List ℕ) (s : State) (o q : List ℕ) : Type 0 where
-  pub stands-x : Stands a (s .x)
-  pub stands-y : Stands b (s .y)
-  pub turns : ℕ
-  pub bound : turns + (length (ahead a (s .x)) + length (ahead b (s .y))) ≤ 2048
-  pub under-e : Under (540000 * turns) (s .e)
-  pub under-f : Under (540000 * turns) (s .f)
-  pub acc-left : Seq
-  pub acc-right : Seq
-  pub rep-left : Rep n x0 acc-left (s .e) o
-  pub rep-right : Rep m y0 acc-right (s .f) q
-  pub left : stillLeft acc-left (ahead a (s .x)) (ahead b (s .y)) ≡ stillLeft [] (ops a) (ops b)
-  pub right : stillRight acc-right (ahead a (s .x)) (ahead b (s .y)) ≡ stillRight [] (ops a) (ops b)
+pub going-done : (n : ℕ) (a b out0 : List ℕ) (s : State) (o : List ℕ) (v : Bool) (r : Emitter) (o′ : List ℕ) → Going (transformTurn order) (lefts keepBoth) n a b out0 s o → v ≡ liveIs (s .x) (s .y) → v ≡ false
+    → Finishes n (s .e) o r o′ → Done n (transform order (ops a) (ops b) .left) out0 r o′
+unfolding transform
+going-done n a b out0 s o v r o′ g w l f =
+    let e : transform order (ops a) (ops b) .left ≡ reverse (g .acc) =
+    ap (λ t. t .left) (transform-runs keepBoth order (ops a) (ops b)) ∙ ap reverse (sym (going-all (transformTurn order) (lefts keepBoth) n a b out0 s o g (sym w ∙ l))) in
+    subst (λ t. Done n t out0 r o′) (sym e) (f .done out0 (g .acc) (g .rep))
 
-pub going-start : (n m : ℕ) (a b o q : List ℕ) (s : State) → recordFault a ≡ 0 → recordFault b ≡ 0 → Begun a b s → Going n m a b o q s o q
-going-start n m a b o q s za zb h =
-    record {
-      stands-x = h .stands-x;
-      stands-y = h .stands-y;
-      turns = 0;
-      bound = omega (arith, ap length (h .all-x), ap length (h .all-y), ops-length a za, ops-length b zb, fault-few a (recordsOf a) za refl, fault-few b (recordsOf b) zb refl);
-      under-e = rw (h .empty-e) under-start;
-      under-f = rw (h .empty-f) under-start;
-      acc-left = [];
-      acc-right = [];
-      rep-left = rw (h .empty-e) (rep-start n o);
-      rep-right = rw (h .empty-f) (rep-start m q);
-      left = ap₂ (stillLeft []) (h .all-x) (h .all-y);
-      right = ap₂ (stillRight []) (h .all-x) (h .all-y);
-    }
+pub sized-side : (n : ℕ) (s : Seq) (x : List ℕ) (r : Emitter) (x′ : List ℕ) → Done n s x r x′ → Sizes s r × Under (2 ^ 40) r
+sized-side n s x r x′ d = (d .sizes, d .small)
 
-module _ (n m : ℕ) (a b x0 y0 : List ℕ) (s : State) (o q : List ℕ) (g : Going n m a b x0 y0 s o q) where
-  pub going-under-e : Under (2 ^ 38) (s .e)
-  going-under-e = under-more (540000 * g .turns) (2 ^ 38) (s .e) (omega (arith, g .bound)) (g .under-e)
+-- the right side is the left of the two exchanged
+right-is : (a b : Seq) → transform order b a .left ≡ transform order a b .right
+right-is a b = ap (λ s. s .left) (transform-swaps a b)
 
-  pub going-under-f : Under (2 ^ 38) (s .f)
-  going-under-f = under-more (540000 * g .turns) (2 ^ 38) (s .f) (omega (arith, g .bound)) (g .under-f)
+pub sized-both : (a b : Seq) (e f : Emitter) → Sizes (transform order a b .left) e × Under (2 ^ 40) e → Sizes (transform order b a .left) f × Under (2 ^ 40) f
+    → SizedBoth (transform order a b) (record { e = e; f = f })
+sized-both a b e f (l, u) (r, v) = record { left = l; right = rw (right-is a b) at r; under-left = u; under-right = v }
 
-  pub going-more : (r : State) (o′ q′ : List ℕ) → Went n m a b s o q r o′ q′ → Going n m a b x0 y0 r o′ q′
-  going-more r o′ q′ w =
-      record {
-        stands-x = w .stands-x;
-        stands-y = w .stands-y;
-        turns = suc (g .turns);
-        bound = omega (arith, g .bound, w .less);
-        under-e = under-more (540000 * g .turns + 270000 * length (w .left)) (540000 * suc (g .turns)) (r .e) (omega (arith, w .few-left)) (w .adds-left .under (540000 * g .turns) (g .under-e));
-        under-f = under-more (540000 * g .turns + 270000 * length (w .right)) (540000 * suc (g .turns)) (r .f) (omega (arith, w .few-right)) (w .adds-right .under (540000 * g .turns) (g .under-f));
-        acc-left = _;
-        acc-right = _;
-        rep-left = w .adds-left .keeps x0 (g .acc-left) (g .rep-left);
-        rep-right = w .adds-right .keeps y0 (g .acc-right) (g .rep-right);
-        left = sym (w .goes-left (g .acc-left)) ∙ g .left;
-        right = sym (w .goes-right (g .acc-right)) ∙ g .right;
-      }
-
-  pub going-done : (v : Bool) (r : Pair) (o′ q′ : List ℕ) → v ≡ liveIs (s .x) (s .y) → v ≡ false → Ended n m s o q r o′ q′
-      → DoneBoth n m (transform order (ops a) (ops b)) x0 y0 r o′ q′
-  unfolding transform
-  going-done v r o′ q′ w l h =
-      let (p, z) = both-ended (s .x) (s .y) (sym w ∙ l) in
-      let ea = ended-ahead a (s .x) (g .stands-x) p in
-      let eb = ended-ahead b (s .y) (g .stands-y) z in
-      let el : g .acc-left ≡ stillLeft [] (ops a) (ops b) = sym (ap₂ (stillLeft (g .acc-left)) ea eb ∙ run-end (transformTurn order) (lefts keepBoth) (g .acc-left)) ∙ g .left in
-      let er : g .acc-right ≡ stillRight [] (ops a) (ops b) = sym (ap₂ (stillRight (g .acc-right)) ea eb ∙ run-end (transformTurn order) (rights keepBoth) (g .acc-right)) ∙ g .right in
-      rw (transform-runs keepBoth order (ops a) (ops b), ← el, ← er)
-      (record { left = h .left .done x0 (g .acc-left) (g .rep-left); right = h .right .done y0 (g .acc-right) (g .rep-right) })
+pub write-right : (m : ℕ) (a b : Seq) (o o′ : List ℕ) → Writes m (transform order b a .left) o o′ → Writes m (transform order a b .right) o o′
+write-right m a b o o′ w = rw (right-is a b) at w

@@ -1,6 +1,5 @@
--- The steps of transform on fronts: whose turn it is, and what either side is given.
+-- The steps of transform on fronts: whose turn it is, and what the first becomes.
 use Prim.Native.Nat.{ℕ, _+_, _*_, _^_, _≤_, _<_, min}
-use native.Mathlib.Nat.{min-comm}
 use native.Mathlib.Omega.{arith}
 use mathlib.Core.Path.{_≡_, refl, sym, ap, ap₂, _∙_}
 use mathlib.Core.Logic.{inl, inr}
@@ -15,27 +14,26 @@ use Rattle.utf8.specs.declared.core.Ordering.the-variants.{Less, Equal, Greater
 use Rattle.utf8.specs.Text.{Char, chars}
 use Rattle.utf8.specs.Order.{byteOrder, order}
 use Rattle.utf8.proofs.Leads.{within-bounds}
-use Rattle.utf8.proofs.Texts.{chars-length, order-chars}
+use Rattle.utf8.proofs.Texts.{chars-length, order-chars, order-equal}
 use Rattle.operation.specs.declared.core.Front.{Front}
 use Rattle.operation.specs.Op.{Op, retain, insert, delete, gives, cut}
 use Rattle.operation.specs.Record.{Seq}
-use Rattle.operation.specs.Front.{frontText, frontOp, ahead, Stands, Cut}
-use Rattle.operation.proofs.Fronts.{op-retain, op-insert, op-delete, Kinds, retains, inserts, deletes, kinds}
+use Rattle.operation.specs.Front.{frontText, frontOp, ahead, Stands, Cut, Leaves}
+use Rattle.operation.proofs.Fronts.{op-retain, op-insert, op-delete, Kinds, retains, inserts, deletes, kinds, cut-all, cut-none}
 use Rattle.operational_transform.specs.declared.core.Emitter.{Emitter}
-use Rattle.operational_transform.specs.Align.{Step, one, two, both}
 use Rattle.operational_transform.specs.Align as align
-use Rattle.operational_transform.specs.Transform.{lesser, transformTurn, keepBoth, past, lefts, rights}
+use Rattle.operational_transform.specs.Build.{addAll}
+use Rattle.operational_transform.specs.Transform.{lesser, transformTurn, keepBoth, past, lefts}
 use Rattle.operational_transform.specs.Emit.{Under, Adds, Retains}
 use Rattle.operational_transform.proofs.Adding.{adds-nil, adds-append, whole-op, under-more}
 use Rattle.turns.specs.declared.core.Turn.{Turn}
 use Rattle.turns.specs.declared.core.Turn.the-variants.{First, Second, Together}
 use Rattle.turns.specs.declared.core.Plan.{Plan}
 use Rattle.turns.specs.declared.core.Fronts.{Fronts}
-use Rattle.turns.specs.Turns.{liveIs, stepOf, Chosen, Chooses, PlannedBy, Planned, Advances}
-use Rattle.turns.proofs.Turning.{Moves, moves}
-use Rattle.transform.specs.declared.core.State.{State}
-use Rattle.transform.specs.declared.core.Pair.{Pair}
-use Rattle.transform.specs.Sides.{flip, givesOf, sideGives, SidePlannedBy, SidePlanned, Given, Went}
+use Rattle.turns.specs.declared.core.State.{State}
+use Rattle.turns.specs.Turns.{liveIs, stepOf, Chosen, Chooses, still, Went}
+use Rattle.turns.proofs.Turning.{Moves, moves, plan-first, plan-second, plan-together}
+use Rattle.transform.specs.Sides.{givesOf, FirstWent, SecondWent, BothWent}
 
 -- ---- whose turn it is
 
@@ -105,17 +103,6 @@ module _ (a b : List ℕ) (x y : Front) where
         pub chosen-greater : w ≡ Greater → Chooses (transformTurn order) a b x y Second
         chosen-greater z = record { chosen = (omega arith, inr (ranked Greater z)) }
 
--- ---- the turn, seen from the other side
-
-pub flip-first : (t : Turn) → t ≡ First → Second ≡ flip t
-flip-first t e = rw e
-
-pub flip-second : (t : Turn) → t ≡ Second → First ≡ flip t
-flip-second t e = rw e
-
-pub flip-together : (t : Turn) → t ≡ Together → Together ≡ flip t
-flip-together t e = rw e
-
 -- ---- what a front's operation gives
 
 pub gives-none : (f : Front) → f .kind ≡ 3 → 0 ≡ givesOf f
@@ -142,11 +129,11 @@ gives-is r f s = go (kinds r f)
 -- ---- as many characters of both
 
 module _ (n : ℕ) (mine theirs : List ℕ) (f g : Front) (k : ℕ) (e : Emitter) (o : List ℕ) where
-  pub past-retain : (r : Emitter) (o′ : List ℕ) → g .kind ≡ 1 → Adds n (cut k (frontOp mine f) ∷ []) e o r o′ → Adds n (sideGives mine theirs f g Together k) e o r o′
+  pub past-retain : (r : Emitter) (o′ : List ℕ) → g .kind ≡ 1 → Adds n (cut k (frontOp mine f) ∷ []) e o r o′ → Adds n (past keepBoth (cut k (frontOp theirs g)) (cut k (frontOp mine f))) e o r o′
   past-retain r o′ z h = rw (op-retain theirs g z) h
 
   pub past-insert : (d r : Emitter) (o′ : List ℕ) → g .kind ≡ 2 → Stands theirs g → k ≤ g .left → Adds n (cut k (frontOp theirs g) ∷ []) e o d o′ → Retains k d r
-      → Adds n (sideGives mine theirs f g Together k) e o r o′
+      → Adds n (past keepBoth (cut k (frontOp theirs g)) (cut k (frontOp mine f))) e o r o′
   past-insert d r o′ z s l h q =
       let x = chars (frontText theirs g) in
       let c : length (take k x) ≡ k = length-take-le k x (omega (arith, chars-length (frontText theirs g) (s .text z .0), s .text z .1)) in
@@ -154,109 +141,145 @@ module _ (n : ℕ) (mine theirs : List ℕ) (f g : Front) (k : ℕ) (e : Emitter
       let w : Adds n (insert (take k x) ∷ retain (length (take k x)) ∷ []) e o r o′ = rw c (adds-append n h′ (q .adds n o′)) in
       rw (op-insert theirs g z) w
 
-  pub past-delete : (g .kind ≡ 1 → ⊥) → (g .kind ≡ 2 → ⊥) → Adds n (sideGives mine theirs f g Together k) e o e o
+  pub past-delete : (g .kind ≡ 1 → ⊥) → (g .kind ≡ 2 → ⊥) → Adds n (past keepBoth (cut k (frontOp theirs g)) (cut k (frontOp mine f))) e o e o
   past-delete z w = rw (op-delete theirs g z w) (adds-nil n e o)
 
 pub under-part : (n : ℕ) (p : Op Char) (e : Emitter) (o : List ℕ) (d : Emitter) (o′ : List ℕ) → Under (2 ^ 38) e → Adds n (p ∷ []) e o d o′ → Under (2 ^ 40) d
 under-part n p e o d o′ u h = under-more _ (2 ^ 40) d (omega arith) (h .under (2 ^ 38) u)
 
--- ---- a side
+-- ---- a step
 
-module _ (mine theirs : List ℕ) (f g : Front) (t : Turn) (k i j : ℕ) (h : SidePlanned mine theirs f g t k i j) where
-  by : (u : Turn) → t ≡ u → SidePlannedBy mine theirs f g u k i j
-  by u e = rw e at (h .planned)
+-- of two operations that go together no insert is cut
+module _ (a b : List ℕ) (x y : Front) (sx : Stands a x) (sy : Stands b y) (c : Chooses (transformTurn order) a b x y Together) (k : ℕ) (h : k ≡ min (x .left) (y .left)) where
+  goes : turnRule (frontOp a x) (frontOp b y) ≡ align.together
+  goes = c .chosen .1 .1
 
-  pub side-k : t ≡ First → k ≤ f .left
-  side-k e = omega (arith, by First e .0)
+  -- two inserts that go together have as many characters
+  equal-left : x .kind ≡ 2 → y .kind ≡ 2 → x .left ≡ y .left
+  equal-left e f =
+      let s = chars (frontText a x) in
+      let t = chars (frontText b y) in
+      let q : s ≡ t = order-equal s t (equal (order s t) (sym (ap₂ turnRule (op-insert a x e) (op-insert b y f)) ∙ goes)) in
+      sx .text e .1 ∙ sym (chars-length (frontText a x) (sx .text e .0)) ∙ ap length q ∙ chars-length (frontText b y) (sy .text f .0) ∙ sym (sy .text f .1)
+    where
+      equal : (u : Ordering) → lesser u ≡ align.together → u ≡ Equal
+      equal Less p = absurd (let z : _≡_ {A = ℕ} 0 1 = cc p in omega arith)
+      equal Equal p = refl
+      equal Greater p = absurd (let z : _≡_ {A = ℕ} 0 1 = cc p in omega arith)
 
-  pub side-cut : t ≡ First → Cut mine f k i
-  side-cut e = by First e .1
+  insert-both : x .kind ≡ 2 → y .kind ≡ 2
+  insert-both e = go (eqb (y .kind) 2) refl
+    where
+      first-not : {w : Op Char} → frontOp b y ≡ w → transformTurn order (insert (chars (frontText a x))) w ≡ align.first → align.first ≡ align.together
+      first-not p q = sym q ∙ sym (ap₂ turnRule (op-insert a x e) p) ∙ goes
 
-  pub both-mine : t ≡ Together → k ≤ f .left
-  both-mine e = omega (arith, by Together e .0)
+      go : (t : Bool) → eqb (y .kind) 2 ≡ t → y .kind ≡ 2
+      go true t = eqb-true (y .kind) 2 t
+      go false t = no (no-insert b y (eqb-false (y .kind) 2 t))
+        where
+          no : NoInsert b y → y .kind ≡ 2
+          no (keeps w) = absurd (let z : _≡_ {A = ℕ} 0 1 = cc (first-not w refl) in omega arith)
+          no (drops w) = absurd (let z : _≡_ {A = ℕ} 0 1 = cc (first-not w refl) in omega arith)
 
-  pub both-theirs : t ≡ Together → k ≤ g .left
-  both-theirs e = omega (arith, by Together e .0)
+  both-insert : y .kind ≡ 2 → x .kind ≡ 2
+  both-insert e = go (eqb (x .kind) 2) refl
+    where
+      second-not : {w : Op Char} → frontOp a x ≡ w → transformTurn order w (insert (chars (frontText b y))) ≡ align.second → align.second ≡ align.together
+      second-not p q = sym q ∙ sym (ap₂ turnRule p (op-insert b y e)) ∙ goes
 
-  pub both-cut-mine : t ≡ Together → Cut mine f k i
-  both-cut-mine e = by Together e .1 .0
+      go : (t : Bool) → eqb (x .kind) 2 ≡ t → x .kind ≡ 2
+      go true t = eqb-true (x .kind) 2 t
+      go false t = no (no-insert a x (eqb-false (x .kind) 2 t))
+        where
+          no : NoInsert a x → x .kind ≡ 2
+          no (keeps w) = absurd (let z : _≡_ {A = ℕ} 0 1 = cc (second-not w refl) in omega arith)
+          no (drops w) = absurd (let z : _≡_ {A = ℕ} 0 1 = cc (second-not w refl) in omega arith)
 
-  pub both-cut-theirs : t ≡ Together → Cut theirs g k j
-  both-cut-theirs e = by Together e .1 .1
+  pub uncut-x : Cut a x k (x .to)
+  uncut-x = go (eqb (x .kind) 2) refl
+    where
+      go : (t : Bool) → eqb (x .kind) 2 ≡ t → Cut a x k (x .to)
+      go true t = let e = eqb-true (x .kind) 2 t in cut-all a x sx k (omega (arith, equal-left e (insert-both e)))
+      go false t = cut-none a x sx k (sx .none (eqb-false (x .kind) 2 t))
 
-  module _ (n : ℕ) (e : Emitter) (o : List ℕ) (r : Emitter) (o′ : List ℕ) where
-    pub side-first : t ≡ First → Stands mine f → Adds n (cut k (frontOp mine f) ∷ []) e o r o′ → Adds n (sideGives mine theirs f g t k) e o r o′
-    side-first z s q =
-        let w : cut k (frontOp mine f) ≡ frontOp mine f = ap (λ m. cut m (frontOp mine f)) (by First z .0) ∙ whole-op mine f s in
-        let u : Adds n (frontOp mine f ∷ []) e o r o′ = rw w at q in
-        rw z u
+  pub uncut-y : Cut b y k (y .to)
+  uncut-y = go (eqb (y .kind) 2) refl
+    where
+      go : (t : Bool) → eqb (y .kind) 2 ≡ t → Cut b y k (y .to)
+      go true t = let e = eqb-true (y .kind) 2 t in cut-all b y sy k (omega (arith, equal-left (both-insert e) e))
+      go false t = cut-none b y sy k (sy .none (eqb-false (y .kind) 2 t))
 
-    pub side-together : t ≡ Together → Adds n (sideGives mine theirs f g Together k) e o r o′ → Adds n (sideGives mine theirs f g t k) e o r o′
-    side-together z q = rw z q
+  pub both-some : 0 < k
+  both-some = omega (arith, sx .some (c .chosen .0), sy .some (c .chosen .1 .0))
 
-pub ruleset Side = (side-k, side-cut, both-mine, both-theirs, both-cut-mine, both-cut-theirs)
+pub whole-cut : (r : List ℕ) (f : Front) → Stands r f → Cut r f (f .left) (f .to)
+whole-cut r f s = cut-all r f s (f .left) refl
 
-pub side-second : (n : ℕ) (mine theirs : List ℕ) (f g : Front) (t : Turn) (k : ℕ) (e : Emitter) (o : List ℕ) (m : ℕ) (r : Emitter) → t ≡ Second → Stands theirs g → m ≡ givesOf g → Retains m e r
-    → Adds n (sideGives mine theirs f g t k) e o r o
-side-second n mine theirs f g t k e o m r z s p q =
-    let u : Adds n (retain (gives (frontOp theirs g)) ∷ []) e o r o = rw (← gives-is theirs g s, ← p) (q .adds n o) in
-    rw z u
+pub first-went : (n : ℕ) (a : List ℕ) (s : State) (o : List ℕ) (g : Front) (e : Emitter) (o′ : List ℕ) → Stands a (s .x) → Leaves a (s .x) (s .x .left) g
+    → Adds n (cut (s .x .left) (frontOp a (s .x)) ∷ []) (s .e) o e o′ → FirstWent n a s o (record { x = g; y = s .y; e = e }) o′
+first-went n a s o g e o′ h l q = record { x = l; y = refl; adds = rw (whole-op a (s .x) h) at q }
 
--- ---- both sides
+pub second-went : (b : List ℕ) (s : State) (h : Front) (e : Emitter) (k : ℕ) → Stands b (s .y) → Leaves b (s .y) (s .y .left) h → k ≡ givesOf (s .y) → Retains k (s .e) e
+    → SecondWent b s (record { x = s .x; y = h; e = e })
+second-went b s h e k t l p q = record { x = refl; y = l; retains = rw (p ∙ gives-is b (s .y) t) at q }
 
-module _ (a b : List ℕ) (x y : Front) where
-  pub plan-left : (t : Turn) (p : Plan) → Planned a b x y t p → SidePlanned a b x y t (p .k) (p .i) (p .j)
-  plan-left First p h = record { planned = h .planned }
-  plan-left Second p h = record { planned = h .planned .0 }
-  plan-left Together p h = record { planned = h .planned }
+pub both-went : (n : ℕ) (a b : List ℕ) (s : State) (o : List ℕ) (k : ℕ) (g h : Front) (e : Emitter) (o′ : List ℕ) → k ≡ min (s .x .left) (s .y .left) → Leaves a (s .x) k g → Leaves b (s .y) k h
+    → Adds n (past keepBoth (cut k (frontOp b (s .y))) (cut k (frontOp a (s .x)))) (s .e) o e o′ → BothWent n a b s o (record { x = g; y = h; e = e }) o′
+both-went n a b s o k g h e o′ p l m q = record { k = k; lesser = p; x = l; y = m; adds = q }
 
-  plan-flipped : (t : Turn) (p : Plan) → Planned a b x y t p → SidePlanned b a y x (flip t) (p .k) (p .j) (p .i)
-  plan-flipped First p h = record { planned = h .planned .0 }
-  plan-flipped Second p h = record { planned = h .planned }
-  plan-flipped Together p h = let (q, (c, d)) = h .planned in record { planned = (q ∙ min-comm (x .left) (y .left), (d, c)) }
+past-few : (p q : Op Char) → length (past keepBoth p q) ≤ 2
+past-few (retain m) q = omega arith
+past-few (insert s) q = omega arith
+past-few (delete m) q = omega arith
 
-  pub plan-right : (t u : Turn) (p : Plan) → u ≡ flip t → Planned a b x y t p → SidePlanned b a y x u (p .k) (p .j) (p .i)
-  plan-right t u p e h = rw e (plan-flipped t p h)
+module _ (n : ℕ) (a b : List ℕ) (s : State) (o : List ℕ) (t : Turn) (c : Chooses (transformTurn order) a b (s .x) (s .y) t) (sx : Stands a (s .x)) (sy : Stands b (s .y)) (r : State) where
+  abbrev fronts : Fronts
+  fronts = record { x = r .x; y = r .y }
 
-  left-is : (t : Turn) (k : ℕ) → sideGives a b x y t k ≡ lefts keepBoth (stepOf a b x y t k)
-  left-is First k = refl
-  left-is Second k = refl
-  left-is Together k = refl
+  chosen-as : (u : Turn) → t ≡ u → Chooses (transformTurn order) a b (s .x) (s .y) u
+  chosen-as u e = rw e at c
 
-  right-is : (t : Turn) (k : ℕ) → sideGives b a y x (flip t) k ≡ rights keepBoth (stepOf a b x y t k)
-  right-is First k = refl
-  right-is Second k = refl
-  right-is Together k = refl
+  went : (u : Turn) (p : Plan) → Moves turnRule a b (s .x) (s .y) u (p .k) fronts → (given : Seq) → lefts keepBoth (stepOf a b (s .x) (s .y) u (p .k)) ≡ given → length given ≤ 2 → (o′ : List ℕ)
+      → Adds n given (s .e) o (r .e) o′ → Went (transformTurn order) (lefts keepBoth) n a b s o r o′
+  went u p m given e few o′ h =
+      record {
+        stands-x = m .stands-x;
+        stands-y = m .stands-y;
+        given = given;
+        adds = h;
+        few = few;
+        goes = λ acc. m .goes (lefts keepBoth) acc ∙ ap (λ w. still turnRule (lefts keepBoth) (addAll acc w) (ahead a (r .x)) (ahead b (r .y))) e;
+        less = m .less;
+      }
 
-side-few : (mine theirs : List ℕ) (f g : Front) (t : Turn) (k : ℕ) → length (sideGives mine theirs f g t k) ≤ 2
-side-few mine theirs f g First k = omega arith
-side-few mine theirs f g Second k = omega arith
-side-few mine theirs f g Together k = go (cut k (frontOp theirs g))
-  where
-    go : (p : Op Char) → length (past keepBoth p (cut k (frontOp mine f))) ≤ 2
-    go (retain m) = omega arith
-    go (insert s) = omega arith
-    go (delete m) = omega arith
+  pub went-first : t ≡ First → (o′ : List ℕ) → FirstWent n a s o r o′ → Went (transformTurn order) (lefts keepBoth) n a b s o r o′
+  went-first e o′ h =
+      let p : Plan = record { k = s .x .left; i = s .x .to; j = s .y .to } in
+      let m : Moves turnRule a b (s .x) (s .y) First (p .k) fronts =
+      moves turnRule a b (s .x) (s .y) sx sy p fronts First (chosen-as First e) (plan-first a b (s .x) (s .y) First sx refl (s .y .to)) (record { advanced = (h .x, h .y) }) in
+      went First p m (frontOp a (s .x) ∷ []) refl (omega arith) o′ (h .adds)
 
-pub given : (n m : ℕ) (a b : List ℕ) (s : State) (t u : Turn) (k : ℕ) (o q : List ℕ) (e f : Emitter) (o′ q′ : List ℕ) → u ≡ flip t
-    → Adds n (sideGives a b (s .x) (s .y) t k) (s .e) o e o′ → Adds m (sideGives b a (s .y) (s .x) u k) (s .f) q f q′ → Given n m a b s t k o q (record { e = e; f = f }) o′ q′
-given n m a b s t u k o q e f o′ q′ z h l = record { left = h; right = rw z at l }
+  pub went-second : t ≡ Second → SecondWent b s r → Went (transformTurn order) (lefts keepBoth) n a b s o r o
+  went-second e h =
+      let p : Plan = record { k = s .y .left; i = s .x .to; j = s .y .to } in
+      let m : Moves turnRule a b (s .x) (s .y) Second (p .k) fronts =
+      moves turnRule a b (s .x) (s .y) sx sy p fronts Second (chosen-as Second e) (plan-second a b (s .x) (s .y) Second sy refl (s .x .to)) (record { advanced = (h .x, h .y) }) in
+      went Second p m (retain (gives (frontOp b (s .y))) ∷ []) refl (omega arith) o (h .retains .adds n o)
 
-pub went : (n m : ℕ) (a b : List ℕ) (s : State) (o q : List ℕ) (t : Turn) (p : Plan) (r : Fronts) (g : Pair) (o′ q′ : List ℕ) → Stands a (s .x) → Stands b (s .y)
-    → Chooses (transformTurn order) a b (s .x) (s .y) t → Planned a b (s .x) (s .y) t p → Advances a b (s .x) (s .y) t p r → Given n m a b s t (p .k) o q g o′ q′
-    → Went n m a b s o q (record { x = r .x; y = r .y; e = g .e; f = g .f }) o′ q′
-went n m a b s o q t p r g o′ q′ sx sy c h d w =
-    let v : Moves (transformTurn order) a b (s .x) (s .y) t (p .k) r = moves (transformTurn order) a b (s .x) (s .y) sx sy p r t c h d in
-    record {
-      stands-x = v .stands-x;
-      stands-y = v .stands-y;
-      left = lefts keepBoth (stepOf a b (s .x) (s .y) t (p .k));
-      right = rights keepBoth (stepOf a b (s .x) (s .y) t (p .k));
-      adds-left = rw (← left-is a b (s .x) (s .y) t (p .k)) (w .left);
-      adds-right = rw (← right-is a b (s .x) (s .y) t (p .k)) (w .right);
-      few-left = rw (← left-is a b (s .x) (s .y) t (p .k)) (side-few a b (s .x) (s .y) t (p .k));
-      few-right = rw (← right-is a b (s .x) (s .y) t (p .k)) (side-few b a (s .y) (s .x) (flip t) (p .k));
-      goes-left = λ acc. v .goes (lefts keepBoth) acc;
-      goes-right = λ acc. v .goes (rights keepBoth) acc;
-      less = v .less;
-    }
+  pub went-together : t ≡ Together → (o′ : List ℕ) → BothWent n a b s o r o′ → Went (transformTurn order) (lefts keepBoth) n a b s o r o′
+  went-together e o′ h =
+      let p : Plan = record { k = h .k; i = s .x .to; j = s .y .to } in
+      let cx = uncut-x a b (s .x) (s .y) sx sy (chosen-as Together e) (h .k) (h .lesser) in
+      let cy = uncut-y a b (s .x) (s .y) sx sy (chosen-as Together e) (h .k) (h .lesser) in
+      let m : Moves turnRule a b (s .x) (s .y) Together (p .k) fronts =
+      moves turnRule a b (s .x) (s .y) sx sy p fronts Together (chosen-as Together e) (plan-together a b (s .x) (s .y) Together (h .k) (s .x .to) (s .y .to) refl (h .lesser) cx cy) (record { advanced = (h .x, h .y) }) in
+      went Together p m (past keepBoth (cut (h .k) (frontOp b (s .y))) (cut (h .k) (frontOp a (s .x)))) refl (past-few (cut (h .k) (frontOp b (s .y))) (cut (h .k) (frontOp a (s .x)))) o′ (h .adds)
+
+pub together-as : (a b : List ℕ) (x y : Front) (t : Turn) → t ≡ Together → Chooses (transformTurn order) a b x y t → Chooses (transformTurn order) a b x y Together
+together-as a b x y t e c = rw e at c
+
+pub first-live : (a b : List ℕ) (x y : Front) (t : Turn) → t ≡ First → Chooses (transformTurn order) a b x y t → 0 < x .kind
+first-live a b x y t e c = (rw e at c) .chosen .0
+
+pub left-live : (r : List ℕ) (f : Front) → Stands r f → 0 < f .kind → 0 < f .left
+left-live r f s h = s .some h

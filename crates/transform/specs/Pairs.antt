@@ -10,7 +10,7 @@ use Rattle.operation.specs.Answer.{Answer, gives, refused, number}
 use Rattle.operational_transform.specs.declared.core.Emitter.{Emitter}
 use Rattle.operational_transform.specs.Transform.{Sides}
 use Rattle.operational_transform.specs.Calls.{transformCall}
-use Rattle.operational_transform.specs.Emit.{Under, Sizes, Done, within, sizeIn}
+use Rattle.operational_transform.specs.Emit.{Under, Sizes, within, sizeIn}
 use Rattle.transform.specs.declared.WrittenPair.{WrittenPair}
 use Rattle.transform.specs.declared.WrittenPair.the-variants as written
 use Rattle.transform.specs.declared.core.Pair.{Pair}
@@ -25,10 +25,6 @@ pairOf (written.Refused x) = refused (number x)
 unfoldable pub judgedBoth : Emitter → Emitter → ℕ → ℕ → WrittenPair
 judgedBoth e f x y =
     cond (within e && within f) (cond (leb (sizeIn e) x && leb (sizeIn f) y) (written.Bytes (sizeIn e) (sizeIn f)) (written.Refused Room)) (written.Refused Limit)
-
-pub record DoneBoth (n m : ℕ) (s : Sides Char) (x y : List ℕ) (r : Pair) (x′ y′ : List ℕ) : Type 0 where
-  pub left : Done n (s .left) x (r .e) x′
-  pub right : Done m (s .right) y (r .f) y′
 
 pub record SizedBoth (s : Sides Char) (r : Pair) : Type 0 where
   pub left : Sizes (s .left) (r .e)

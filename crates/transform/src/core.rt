@@ -1,10 +1,10 @@
-// Transform over the fronts of two records that were checked. A side is what one of the two sequences becomes; the rule is the
-// same for both.
+// Transform over the fronts of two records that were checked: what the first becomes past the second. The other side is the same
+// with the two exchanged.
 use crate::WrittenPair;
 use operation::Refusal;
 use operation::core::Front;
 use operational_transform::core::Emitter;
-use turns::core::Plan;
+use turns::core::State;
 use turns::core::Turn;
 use utf8::core::Ordering;
 ghost use mathlib.Core.Path.{_≡_};
@@ -12,14 +12,16 @@ ghost use mathlib.Core.Bool.{true, _&&_};
 ghost use Prim.Native.Nat.{_^_, _≤_, _<_};
 ghost use Rattle.utf8.specs.Order.{byteOrder, order};
 ghost use Rattle.operation.specs.Layout.{recordsOf};
+ghost use Rattle.operation.specs.Op.{cut};
 ghost use Rattle.operation.specs.Record.{ops, recordFault};
-ghost use Rattle.operation.specs.Front.{frontText, Stands, Cut};
-ghost use Rattle.operational_transform.specs.Transform.{transformTurn};
+ghost use Rattle.operation.specs.Front.{frontText, frontOp, Stands, Cut};
+ghost use Rattle.operational_transform.specs.Transform.{transformTurn, keepBoth, lefts};
+ghost use Rattle.operational_transform.specs.Transform.{past as stays};
 ghost use Rattle.operational_transform.specs.Transform.{transform as transformOf};
-ghost use Rattle.operational_transform.specs.Emit.{Under, Adds, Writes, within};
-ghost use Rattle.turns.specs.Turns.{liveIs, Chooses, Planned};
-ghost use Rattle.transform.specs.Pairs.{judgedBoth, DoneBoth, SizedBoth, Transforms};
-ghost use Rattle.transform.specs.Sides.{flip, givesOf, sideGives, SidePlanned, Given, Begun, Went, Ended};
+ghost use Rattle.operational_transform.specs.Emit.{Under, Adds, Sizes, Done, Writes, within};
+ghost use Rattle.turns.specs.Turns.{liveIs, Chooses, Went};
+ghost use Rattle.transform.specs.Pairs.{judgedBoth, SizedBoth, Transforms};
+ghost use Rattle.transform.specs.Sides.{givesOf, FirstWent, SecondWent, BothWent};
 
 // Of two inserts that meet, the lesser by byte order goes first.
 fn rank(a: &[u8], b: &[u8], x: Front, y: Front) -> Ordering
@@ -59,16 +61,6 @@ pub fn whose(a: &[u8], b: &[u8], x: Front, y: Front) -> Turn
     Turn::Together
 }
 
-pub fn other(t: Turn) -> Turn
-    ensures { λ r. ⌜ r ≡ flip t ⌝ }
-{
-    match t {
-        Turn::First => Turn::Second,
-        Turn::Second => Turn::First,
-        Turn::Together => Turn::Together,
-    }
-}
-
 // How many characters a front's operation gives.
 fn gives(f: Front) -> usize
     requires { ⌜ f .left < 65536 ⌝ }
@@ -80,7 +72,7 @@ fn gives(f: Front) -> usize
     f.left
 }
 
-// As many characters of both: what stays of mine past theirs.
+// As many characters of both: what stays of mine past theirs. Equal inserts are both kept.
 fn past(
     out: &mut [u8],
     n: usize,
@@ -93,8 +85,8 @@ fn past(
     j: usize,
     k: usize,
 ) -> Emitter
-    requires { ⌜ (n ≤ 2 ^ 40) × Under (2 ^ 38) e × Stands (now mine) f × Stands (now theirs) g × (k ≤ f .left) × (k ≤ g .left) × Cut (now mine) f k i × Cut (now theirs) g k j ⌝ }
-    ensures { λ r. ⌜ Adds n (sideGives (now (mine .entry)) (now (theirs .entry)) f g Turn.Together k) e (now (out .entry)) r (now (out .exit)) ⌝ }
+    requires { ⌜ (n ≤ 2 ^ 40) × Under (2 ^ 38) e × Stands (now mine) f × Stands (now theirs) g × (0 < k) × (k ≤ f .left) × (k ≤ g .left) × Cut (now mine) f k i × Cut (now theirs) g k j ⌝ }
+    ensures { λ r. ⌜ Adds n (stays keepBoth (cut k (frontOp (now (theirs .entry)) g)) (cut k (frontOp (now (mine .entry)) f))) e (now (out .entry)) r (now (out .exit)) ⌝ }
 {
     if g.kind == 1 {
         return operational_transform::core::part(out, n, e, mine, f, k, i);
@@ -106,36 +98,87 @@ fn past(
     e
 }
 
-// What a step gives my side; in `t` the first is mine.
-pub fn side(
-    out: &mut [u8],
-    n: usize,
-    e: Emitter,
-    mine: &[u8],
-    f: Front,
-    i: usize,
-    theirs: &[u8],
-    g: Front,
-    j: usize,
-    t: Turn,
-    k: usize,
-) -> Emitter
-    requires { ⌜ (n ≤ 2 ^ 40) × Under (2 ^ 38) e × Stands (now mine) f × Stands (now theirs) g × SidePlanned (now mine) (now theirs) f g t k i j ⌝ }
-    ensures { λ r. ⌜ Adds n (sideGives (now (mine .entry)) (now (theirs .entry)) f g t k) e (now (out .entry)) r (now (out .exit)) ⌝ }
+// The first's operation goes by itself.
+fn first(a: &[u8], na: usize, out: &mut [u8], n: usize, s: State) -> State
+    requires { ⌜ (na ≡ recordsOf (now a)) × (n ≤ 2 ^ 40) × Under (2 ^ 38) (s .e) × Stands (now a) (s .x) × (0 < s .x .kind) ⌝ }
+    ensures { λ r. ⌜ FirstWent n (now (a .entry)) s (now (out .entry)) r (now (out .exit)) ⌝ }
 {
-    match t {
-        Turn::First => operational_transform::core::part(out, n, e, mine, f, k, i),
-        Turn::Second => operational_transform::core::retain(e, gives(g)),
-        Turn::Together => past(out, n, e, mine, f, i, theirs, g, j, k),
+    let x = s.x;
+    let y = s.y;
+    let e = s.e;
+    let k = x.left;
+    let to = x.to;
+    let f = operational_transform::core::part(out, n, e, a, x, k, to);
+    let g = operation::core::rest(a, na, x, k, to);
+    State { x: g, y, e: f }
+}
+
+// The second's operation goes by itself: what it gives is retained.
+fn second(b: &[u8], nb: usize, s: State) -> State
+    requires { ⌜ (nb ≡ recordsOf (now b)) × Under (2 ^ 38) (s .e) × Stands (now b) (s .y) ⌝ }
+    ensures { λ r. ⌜ SecondWent (now (b .entry)) s r ⌝ }
+{
+    let x = s.x;
+    let y = s.y;
+    let e = s.e;
+    let k = y.left;
+    let to = y.to;
+    let f = operational_transform::core::retain(e, gives(y));
+    let h = operation::core::rest(b, nb, y, k, to);
+    State { x, y: h, e: f }
+}
+
+// As many characters of both. No insert is cut: two that go together are equal.
+fn together(a: &[u8], na: usize, b: &[u8], nb: usize, out: &mut [u8], n: usize, s: State) -> State
+    requires { ⌜ (na ≡ recordsOf (now a)) × (nb ≡ recordsOf (now b)) × (n ≤ 2 ^ 40) × Under (2 ^ 38) (s .e) × Stands (now a) (s .x) × Stands (now b) (s .y) × Chooses (transformTurn order) (now a) (now b) (s .x) (s .y) Turn.Together ⌝ }
+    ensures { λ r. ⌜ BothWent n (now (a .entry)) (now (b .entry)) s (now (out .entry)) r (now (out .exit)) ⌝ }
+{
+    let x = s.x;
+    let y = s.y;
+    let e = s.e;
+    let k = operational_transform::core::lesser(x.left, y.left);
+    let i = x.to;
+    let j = y.to;
+    let f = past(out, n, e, a, x, i, b, y, j, k);
+    let g = operation::core::rest(a, na, x, k, i);
+    let h = operation::core::rest(b, nb, y, k, j);
+    State { x: g, y: h, e: f }
+}
+
+// One step.
+fn turn(a: &[u8], na: usize, b: &[u8], nb: usize, out: &mut [u8], n: usize, s: State) -> State
+    requires { ⌜ (na ≡ recordsOf (now a)) × (nb ≡ recordsOf (now b)) × (n ≤ 2 ^ 40) × Under (2 ^ 38) (s .e) × Stands (now a) (s .x) × Stands (now b) (s .y) × (liveIs (s .x) (s .y) ≡ true) ⌝ }
+    ensures { λ r. ⌜ Went (transformTurn order) (lefts keepBoth) n (now (a .entry)) (now (b .entry)) s (now (out .entry)) r (now (out .exit)) ⌝ }
+{
+    let x = s.x;
+    let y = s.y;
+    match whose(a, b, x, y) {
+        Turn::First => first(a, na, out, n, s),
+        Turn::Second => second(b, nb, s),
+        Turn::Together => together(a, na, b, nb, out, n, s),
     }
 }
 
-// On the way: the two fronts, and what was emitted on either side.
-pub struct State {
-    pub x: Front,
-    pub y: Front,
-    pub e: Emitter,
-    pub f: Emitter,
+// All of one side, for a result of n records.
+fn run(a: &[u8], na: usize, b: &[u8], nb: usize, out: &mut [u8], n: usize) -> Emitter
+    requires { ⌜ (na ≡ recordsOf (now a)) × (na ≤ 1024) × (nb ≡ recordsOf (now b)) × (nb ≤ 1024) × (n ≤ 2 ^ 40) × (recordFault (now a) ≡ 0) × (recordFault (now b) ≡ 0) ⌝ }
+    ensures { λ r. ⌜ Done n (transformOf order (ops (now (a .entry))) (ops (now (b .entry))) .left) (now (out .entry)) r (now (out .exit)) ⌝ }
+{
+    let mut s = turns::core::begin(a, na, b, nb);
+    while turns::core::goes_on(s) {
+        s = turn(a, na, b, nb, out, n, s);
+    }
+    let last = s.e;
+    operational_transform::core::finish(out, n, last)
+}
+
+// The sizes of one side: a run on a buffer in which nothing has a place.
+fn side(a: &[u8], na: usize, b: &[u8], nb: usize) -> Emitter
+    requires { ⌜ (na ≡ recordsOf (now a)) × (na ≤ 1024) × (nb ≡ recordsOf (now b)) × (nb ≤ 1024) × (recordFault (now a) ≡ 0) × (recordFault (now b) ≡ 0) ⌝ }
+    ensures { λ r. ⌜ Sizes (transformOf order (ops (now (a .entry))) (ops (now (b .entry))) .left) r × Under (2 ^ 40) r ⌝ }
+{
+    let mut none = [0u8; 0];
+    run(a, na, b, nb, &mut none, 0)
 }
 
 pub struct Pair {
@@ -143,124 +186,23 @@ pub struct Pair {
     pub f: Emitter,
 }
 
-pub fn live(s: State) -> bool
-    ensures { λ r. ⌜ r ≡ liveIs (s .x) (s .y) ⌝ }
-{
-    let x = s.x;
-    let y = s.y;
-    turns::core::live(x, y)
-}
-
-// What a step gives to both sides.
-fn sides(
-    a: &[u8],
-    b: &[u8],
-    out_a: &mut [u8],
-    n: usize,
-    out_b: &mut [u8],
-    m: usize,
-    s: State,
-    t: Turn,
-    p: Plan,
-) -> Pair
-    requires { ⌜ (n ≤ 2 ^ 40) × (m ≤ 2 ^ 40) × Under (2 ^ 38) (s .e) × Under (2 ^ 38) (s .f) × Stands (now a) (s .x) × Stands (now b) (s .y) × Planned (now a) (now b) (s .x) (s .y) t p ⌝ }
-    ensures { λ r. ⌜ Given n m (now (a .entry)) (now (b .entry)) s t (p .k) (now («out_a» .entry)) (now («out_b» .entry)) r (now («out_a» .exit)) (now («out_b» .exit)) ⌝ }
-{
-    let x = s.x;
-    let y = s.y;
-    let e = s.e;
-    let f = s.f;
-    let u = other(t);
-    let g = side(out_a, n, e, a, x, p.i, b, y, p.j, t, p.k);
-    let h = side(out_b, m, f, b, y, p.j, a, x, p.i, u, p.k);
-    Pair { e: g, f: h }
-}
-
-// The fronts of two whole records; nothing was emitted.
-pub fn begin(a: &[u8], na: usize, b: &[u8], nb: usize) -> State
-    requires { ⌜ (na ≡ recordsOf (now a)) × (na ≤ 1024) × (nb ≡ recordsOf (now b)) × (nb ≤ 1024) × (recordFault (now a) ≡ 0) × (recordFault (now b) ≡ 0) ⌝ }
-    ensures { λ s. ⌜ Begun (now (a .entry)) (now (b .entry)) s ⌝ }
-{
-    let x = operation::core::first(a, na);
-    let y = operation::core::first(b, nb);
-    let e = operational_transform::core::start();
-    State { x, y, e, f: e }
-}
-
-// One step.
-pub fn turn(
-    a: &[u8],
-    na: usize,
-    b: &[u8],
-    nb: usize,
-    out_a: &mut [u8],
-    n: usize,
-    out_b: &mut [u8],
-    m: usize,
-    s: State,
-) -> State
-    requires { ⌜ (na ≡ recordsOf (now a)) × (nb ≡ recordsOf (now b)) × (n ≤ 2 ^ 40) × (m ≤ 2 ^ 40) × Under (2 ^ 38) (s .e) × Under (2 ^ 38) (s .f) × Stands (now a) (s .x) × Stands (now b) (s .y) × (liveIs (s .x) (s .y) ≡ true) ⌝ }
-    ensures { λ r. ⌜ Went n m (now (a .entry)) (now (b .entry)) s (now («out_a» .entry)) (now («out_b» .entry)) r (now («out_a» .exit)) (now («out_b» .exit)) ⌝ }
-{
-    let x = s.x;
-    let y = s.y;
-    let t = whose(a, b, x, y);
-    let p = turns::core::measure(a, b, x, y, t);
-    let r = turns::core::advance(a, na, b, nb, x, y, t, p);
-    let g = sides(a, b, out_a, n, out_b, m, s, t, p);
-    let rx = r.x;
-    let ry = r.y;
-    let ge = g.e;
-    let gf = g.f;
-    State {
-        x: rx,
-        y: ry,
-        e: ge,
-        f: gf,
-    }
-}
-
-// The pending groups are written, too.
-pub fn end(out_a: &mut [u8], n: usize, out_b: &mut [u8], m: usize, s: State) -> Pair
-    requires { ⌜ (n ≤ 2 ^ 40) × (m ≤ 2 ^ 40) × Under (2 ^ 38) (s .e) × Under (2 ^ 38) (s .f) ⌝ }
-    ensures { λ r. ⌜ Ended n m s (now («out_a» .entry)) (now («out_b» .entry)) r (now («out_a» .exit)) (now («out_b» .exit)) ⌝ }
-{
-    let e = s.e;
-    let f = s.f;
-    let g = operational_transform::core::finish(out_a, n, e);
-    let h = operational_transform::core::finish(out_b, m, f);
-    Pair { e: g, f: h }
-}
-
-// All of transform, for results of n and m records.
-fn run(
-    a: &[u8],
-    na: usize,
-    b: &[u8],
-    nb: usize,
-    out_a: &mut [u8],
-    n: usize,
-    out_b: &mut [u8],
-    m: usize,
-) -> Pair
-    requires { ⌜ (na ≡ recordsOf (now a)) × (na ≤ 1024) × (nb ≡ recordsOf (now b)) × (nb ≤ 1024) × (n ≤ 2 ^ 40) × (m ≤ 2 ^ 40) × (recordFault (now a) ≡ 0) × (recordFault (now b) ≡ 0) ⌝ }
-    ensures { λ r. ⌜ DoneBoth n m (transformOf order (ops (now (a .entry))) (ops (now (b .entry)))) (now («out_a» .entry)) (now («out_b» .entry)) r (now («out_a» .exit)) (now («out_b» .exit)) ⌝ }
-{
-    let mut s = begin(a, na, b, nb);
-    while live(s) {
-        s = turn(a, na, b, nb, out_a, n, out_b, m, s);
-    }
-    end(out_a, n, out_b, m, s)
-}
-
-// The sizes of the results: a run on buffers in which nothing has a place.
+// The sizes of the results.
 pub fn sized(a: &[u8], na: usize, b: &[u8], nb: usize) -> Pair
     requires { ⌜ (na ≡ recordsOf (now a)) × (na ≤ 1024) × (nb ≡ recordsOf (now b)) × (nb ≤ 1024) × (recordFault (now a) ≡ 0) × (recordFault (now b) ≡ 0) ⌝ }
     ensures { λ r. ⌜ SizedBoth (transformOf order (ops (now (a .entry))) (ops (now (b .entry)))) r ⌝ }
 {
-    let mut x = [0u8; 0];
-    let mut y = [0u8; 0];
-    run(a, na, b, nb, &mut x, 0, &mut y, 0)
+    let e = side(a, na, b, nb);
+    let f = side(b, nb, a, na);
+    Pair { e, f }
+}
+
+// The record of one side, of n records.
+pub fn write_side(a: &[u8], na: usize, b: &[u8], nb: usize, out: &mut [u8], n: usize)
+    requires { ⌜ (na ≡ recordsOf (now a)) × (na ≤ 1024) × (nb ≡ recordsOf (now b)) × (nb ≤ 1024) × (n ≤ 2 ^ 40) × (recordFault (now a) ≡ 0) × (recordFault (now b) ≡ 0) ⌝ }
+    ensures { λ _. ⌜ Writes n (transformOf order (ops (now (a .entry))) (ops (now (b .entry))) .left) (now (out .entry)) (now (out .exit)) ⌝ }
+{
+    let e = run(a, na, b, nb, out, n);
+    operational_transform::core::header(out, e);
 }
 
 // The records of results of n and m records.
@@ -277,11 +219,8 @@ pub fn write(
     requires { ⌜ (na ≡ recordsOf (now a)) × (na ≤ 1024) × (nb ≡ recordsOf (now b)) × (nb ≤ 1024) × (n ≤ 2 ^ 40) × (m ≤ 2 ^ 40) × (recordFault (now a) ≡ 0) × (recordFault (now b) ≡ 0) ⌝ }
     ensures { λ _. ⌜ Writes n (transformOf order (ops (now (a .entry))) (ops (now (b .entry))) .left) (now («out_a» .entry)) (now («out_a» .exit)) × Writes m (transformOf order (ops (now (a .entry))) (ops (now (b .entry))) .right) (now («out_b» .entry)) (now («out_b» .exit)) ⌝ }
 {
-    let p = run(a, na, b, nb, out_a, n, out_b, m);
-    let e = p.e;
-    let f = p.f;
-    operational_transform::core::header(out_a, e);
-    operational_transform::core::header(out_b, f);
+    write_side(a, na, b, nb, out_a, n);
+    write_side(b, nb, a, na, out_b, m);
 }
 
 // 9 where either side passes a limit, then 10 where either output is too short.

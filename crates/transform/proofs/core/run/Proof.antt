@@ -3,43 +3,43 @@ use mathlib.Core.Path.{_≡_}
 use lib.ListN.{length}
 use borrow.Author.Needs.{needs}
 use Rattle.operation.specs.Front.{ahead}
+use Rattle.utf8.specs.Order.{order}
+use Rattle.operational_transform.specs.Transform.{transformTurn, keepBoth, lefts}
 use Rattle.turns.proofs.Turning.{live-is}
-use Rattle.transform.proofs.Looping.{Going, going-start, going-under-e, going-under-f, going-more, going-done}
+use Rattle.turns.proofs.Going.{Going, going-start, going-under, going-more}
+use Rattle.transform.proofs.Looping.{going-done}
 use Rattle.transform.proofs.core.run.Statement.{statement}
 use Rattle.transform.proofs.core.run.Tie as tie
 
 abbrev Inv-loop : tie.InvT-loop
-Inv-loop a na b nb out-a₀ n out-b₀ m s₀ out-a out-b s = Going n m a b out-a₀ out-b₀ s out-a out-b × ((length out-a ≡ length out-a₀) × (length out-b ≡ length out-b₀))
+Inv-loop a na b nb out₀ n s₀ out s = Going (transformTurn order) (lefts keepBoth) n a b out₀ s out × (length out ≡ length out₀)
 
 abbrev μ-loop : tie.MeasureT-loop
-μ-loop a na b nb out-a₀ n out-b₀ m s₀ out-a out-b s = length (ahead a (s .x)) + length (ahead b (s .y))
+μ-loop a na b nb out₀ n s₀ out s = length (ahead a (s .x)) + length (ahead b (s .y))
 
 begin-requires : tie.Need-begin-requires Inv-loop μ-loop
 begin-requires c κs = search needs
 
 loop-holds : tie.Need-loop-holds Inv-loop μ-loop
-loop-holds c = (search going-start, (search needs, search needs))
+loop-holds c = (search going-start, search needs)
 
-live-requires : tie.Need-live-requires Inv-loop μ-loop
-live-requires c κs = search needs
+goes-on-requires : tie.Need-goes-on-requires Inv-loop μ-loop
+goes-on-requires c κs = search needs
 
 turn-requires : tie.Need-turn-requires Inv-loop μ-loop
-turn-requires c κs = search (going-under-e, going-under-f, live-is, needs)
+turn-requires c κs = search (going-under, live-is, needs)
 
 loop-less : tie.Need-loop-less Inv-loop μ-loop
-loop-less c = c .before .before .before .before .turn .ensures .less
+loop-less c = c .before .before .turn .ensures .less
 
 loop-again : tie.Need-loop-again Inv-loop μ-loop
-loop-again c = (search going-more, (search needs, search needs))
+loop-again c = (search going-more, search needs)
 
-end-requires : tie.Need-end-requires Inv-loop μ-loop
-end-requires c κs = search (going-under-e, going-under-f, needs)
+finish-requires : tie.Need-finish-requires Inv-loop μ-loop
+finish-requires c κs = search (going-under, needs)
 
 same-length : tie.Need-same-length Inv-loop μ-loop
 same-length c = search needs
-
-same-length-2 : tie.Need-same-length-2 Inv-loop μ-loop
-same-length-2 c = search needs
 
 returns : tie.Need-returns Inv-loop μ-loop
 returns c = search going-done
@@ -52,11 +52,10 @@ run-spec =
     μ-loop
     begin-requires
     loop-holds
-    live-requires
+    goes-on-requires
     turn-requires
     loop-less
     loop-again
-    end-requires
+    finish-requires
     same-length
-    same-length-2
     returns)

@@ -1,43 +1,57 @@
-use Rattle.transform.proofs.Siding.{went}
 use borrow.Author.Needs.{needs}
+use Rattle.transform.proofs.Siding.{first-live, together-as, went-first, went-second, went-together}
 use Rattle.transform.proofs.core.turn.Statement.{statement}
 use Rattle.transform.proofs.core.turn.Tie as tie
 
 whose-requires : tie.Need-whose-requires
 whose-requires c κs = search needs
 
-measure-requires : tie.Need-measure-requires
-measure-requires c κs = search needs
+enum-told : tie.Need-enum-told
+enum-told c = search needs
 
-advance-requires : tie.Need-advance-requires
-advance-requires c κs = search needs
+first-requires : tie.Need-first-requires
+first-requires c κs = search (first-live, needs)
 
-sides-requires : tie.Need-sides-requires
-sides-requires c κs = search needs
+enum-told-2 : tie.Need-enum-told-2
+enum-told-2 c = search needs
+
+second-requires : tie.Need-second-requires
+second-requires c κs = search needs
+
+enum-told-3 : tie.Need-enum-told-3
+enum-told-3 c = search needs
+
+together-requires : tie.Need-together-requires
+together-requires c κs = search (together-as, needs)
 
 same-length : tie.Need-same-length
 same-length c = search needs
 
+returns : tie.Need-returns
+returns c = search went-first
+
+returns-2 : tie.Need-returns-2
+returns-2 c = search went-second
+
 same-length-2 : tie.Need-same-length-2
 same-length-2 c = search needs
 
-returns : tie.Need-returns
-returns c =
-    let start = c .before .before .before .before .before .before .before .before .before .before .before .before .before .before .before .before .before .before .before .before in
-    let t = c .before .before .before .before .before .before .before .before .before .before .before .before .before .whose in
-    let p = c .before .before .before .before .before .before .before .before .before .before .before .before .measure in
-    let r = c .before .before .before .before .before .before .before .before .before .before .before .advance in
-    let g = c .before .before .before .before .before .before .before .before .sides in
-    went _ _ _ _ (start .args .s) _ _ (t .result) (p .result) (r .result) (g .result) _ _ (start .pre .6) (start .pre .7) (t .ensures) (p .ensures) (r .ensures) (g .ensures)
+returns-3 : tie.Need-returns-3
+returns-3 c = search went-together
 
 pub turn-spec : {M : Type 1} → statement M
 turn-spec =
     tie.close
     (tie.spec
     whose-requires
-    measure-requires
-    advance-requires
-    sides-requires
+    enum-told
+    first-requires
+    enum-told-2
+    second-requires
+    enum-told-3
+    together-requires
     same-length
+    returns
+    returns-2
     same-length-2
-    returns)
+    returns-3)
