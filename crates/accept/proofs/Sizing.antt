@@ -1,7 +1,7 @@
 -- Both sides of a transform, sized by a run that writes nothing.
-use Prim.Native.Nat.{ℕ, _+_, _<_}
+use Prim.Native.Nat.{ℕ, _+_, _^_, _<_}
 use native.Mathlib.Omega.{arith}
-use mathlib.Core.Path.{_≡_, refl, sym, _∙_, subst₂}
+use mathlib.Core.Path.{_≡_, refl, sym, _∙_, subst}
 use mathlib.Core.Bool.{Bool, true, false, not, _&&_, and-eq-true-iff}
 use mathlib.Core.List.{List, [], _∷_}
 use lib.ListN.{length}
@@ -9,19 +9,30 @@ use borrow.Author.Tests.{not-true, not-false}
 use Rattle.utf8.specs.Order.{order}
 use Rattle.operation.specs.Record.{ops}
 use Rattle.operation.specs.Front.{ahead}
-use Rattle.operational_transform.specs.Transform.{transform}
-use Rattle.operational_transform.specs.Emit.{within}
-use Rattle.turns.specs.Turns.{liveIs}
-use Rattle.transform.specs.declared.core.State.{State}
+use Rattle.operational_transform.specs.declared.core.Emitter.{Emitter}
+use Rattle.operational_transform.specs.Transform.{transformTurn, keepBoth, lefts, transform}
+use Rattle.operational_transform.specs.Emit.{Under, Sizes, Finishes, within}
+use Rattle.turns.specs.declared.core.State.{State}
+use Rattle.turns.specs.Turns.{liveIs, Went}
+use Rattle.turns.proofs.Going.{Going}
 use Rattle.transform.specs.declared.core.Pair.{Pair}
-use Rattle.transform.specs.Sides.{Went, Ended}
 use Rattle.transform.specs.Pairs.{SizedBoth}
-use Rattle.transform.proofs.Looping.{Going, going-done}
-use Rattle.transform.proofs.Answering.{sized-both}
+use Rattle.transform.proofs.Looping.{going-done, sized-side, sized-both}
+use Rattle.accept.specs.Running.{EndsWith}
 
-pub sized-run : (a b x0 y0 : List ℕ) (s : State) (o q : List ℕ) → Going 0 0 a b x0 y0 s o q → (v : Bool) → v ≡ liveIs (s .x) (s .y) → not v ≡ true → (r : Pair) (o′ q′ : List ℕ)
-    → Ended 0 0 s o q r o′ q′ → SizedBoth (transform order (ops a) (ops b)) r
-sized-run a b x0 y0 s o q g v e h r o′ q′ f = sized-both 0 0 _ x0 y0 r o′ q′ (going-done 0 0 a b x0 y0 s o q g v r o′ q′ e (not-true v h) f)
+-- a slice of no bytes stays one
+empty : (o : List ℕ) → length o ≡ 0 → o ≡ []
+empty [] h = refl
+empty (x ∷ o) h = absurd (omega arith)
+
+pub sized-run : (a b x0 : List ℕ) (s : State) → Going (transformTurn order) (lefts keepBoth) 0 a b x0 s [] → (v : Bool) → v ≡ liveIs (s .x) (s .y) → not v ≡ true → (r : Pair)
+    → EndsWith a b s r → SizedBoth (transform order (ops a) (ops b)) r
+sized-run a b x0 s g v e h r f =
+    sized-both (ops a) (ops b) (r .e) (r .f) (sized-side 0 _ x0 (r .e) [] (going-done 0 a b x0 s [] v (r .e) [] g e (not-true v h) (f .left))) (f .right, f .under)
+
+pub ends-with : (a b : List ℕ) (s : State) (e f : Emitter) (o : List ℕ) → length o ≡ 0 → Finishes 0 (s .e) [] e o → Sizes (transform order (ops b) (ops a) .left) f × Under (2 ^ 40) f
+    → EndsWith a b s (record { e = e; f = f })
+ends-with a b s e f o z h (r, u) = record { left = subst (Finishes 0 (s .e) [] e) (empty o z) h; right = r; under = u }
 
 -- a test that was not refused
 pub passed : (v w : Bool) → v ≡ w → not v ≡ false → w ≡ true
@@ -41,16 +52,5 @@ module _ (p : Pair) (v : Bool) (e : v ≡ (within (p .e) && within (p .f))) (h :
   pub keep-right : within (p .f) ≡ true
   keep-right = and-eq-true-iff (within (p .e)) (within (p .f)) .0 (sym e ∙ not-false v h) .1
 
--- a slice of no bytes stays one
-empty : (o : List ℕ) → length o ≡ 0 → o ≡ []
-empty [] h = refl
-empty (x ∷ o) h = absurd (omega arith)
-
-pub ended-empty : (s : State) (r : Pair) (o q : List ℕ) → length o ≡ 0 → length q ≡ 0 → Ended 0 0 s [] [] r o q → Ended 0 0 s [] [] r [] []
-ended-empty s r o q m n h = subst₂ (λ (x y : List ℕ). Ended 0 0 s [] [] r x y) (empty o m) (empty q n) h
-
-pub went-empty : (a b : List ℕ) (s r : State) (o q : List ℕ) → length o ≡ 0 → length q ≡ 0 → Went 0 0 a b s [] [] r o q → Went 0 0 a b s [] [] r [] []
-went-empty a b s r o q m n h = subst₂ (λ (x y : List ℕ). Went 0 0 a b s [] [] r x y) (empty o m) (empty q n) h
-
-pub went-less : (a b : List ℕ) (s r : State) → Went 0 0 a b s [] [] r [] [] → length (ahead a (r .x)) + length (ahead b (r .y)) < length (ahead a (s .x)) + length (ahead b (s .y))
+pub went-less : (a b : List ℕ) (s r : State) → Went (transformTurn order) (lefts keepBoth) 0 a b s [] r [] → length (ahead a (r .x)) + length (ahead b (r .y)) < length (ahead a (s .x)) + length (ahead b (s .y))
 went-less a b s r w = w .less

@@ -1,8 +1,8 @@
 -- What the functions below `accept` promise each other. No entry's contract cites this.
-use Prim.Native.Nat.{ℕ, _+_, _*_, _≤_}
+use Prim.Native.Nat.{ℕ, _+_, _*_, _^_, _≤_}
 use mathlib.Core.Path.{_≡_}
 use mathlib.Core.Bool.{true, false}
-use mathlib.Core.List.{List}
+use mathlib.Core.List.{List, []}
 use lib.Dec.{T}
 use lib.ListN.{length, take}
 use Rattle.utf8.specs.Text.{Char}
@@ -10,7 +10,11 @@ use Rattle.operation.specs.declared.Refusal.{Refusal}
 use Rattle.operation.specs.declared.Refusal.the-variants.{Limit}
 use Rattle.operation.specs.Layout.{sizeOf}
 use Rattle.operation.specs.Record.{Seq, encode, fits, ops, recordFault}
-use Rattle.operational_transform.specs.Transform.{Sides}
+use Rattle.utf8.specs.Order.{order}
+use Rattle.operational_transform.specs.Transform.{Sides, transform}
+use Rattle.operational_transform.specs.Emit.{Under, Sizes, Finishes}
+use Rattle.turns.specs.declared.core.State.{State}
+use Rattle.transform.specs.declared.core.Pair.{Pair}
 use Rattle.operational_transform.specs.Output.{atFront}
 use Rattle.log.specs.Log.{encodeAll, readableFrom}
 use Rattle.session.specs.Rows.{rebase}
@@ -28,6 +32,12 @@ pub record Holds (e : Seq) (cur : List ℕ) : Type 0 where
   pub fault : recordFault cur ≡ 0
   pub edit : ops cur ≡ e
   pub bytes-are : take (sizeOf cur) cur ≡ encode e
+
+-- behind the last step: what was emitted is finished, and the other side is sized
+pub record EndsWith (cur rec : List ℕ) (s : State) (r : Pair) : Type 0 where
+  pub left : Finishes 0 (s .e) [] (r .e) []
+  pub right : Sizes (transform order (ops rec) (ops cur) .left) (r .f)
+  pub under : Under (2 ^ 40) (r .f)
 
 -- both sides keep the limits
 pub record Fit (s : Sides Char) : Type 0 where

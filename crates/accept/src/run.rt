@@ -1,25 +1,30 @@
 // An edit is moved past revisions. It stands in a buffer of 35,848 bytes, the most that a record takes, and so does what it
 // becomes.
 use operation::Refusal;
+use operation::core::Front;
+use operational_transform::core::Emitter;
 use transform::core::Pair;
-use transform::core::State;
+use turns::core::State;
+use turns::core::Turn;
 ghost use mathlib.Core.Path.{_≡_};
 ghost use mathlib.Core.Bool.{true, _&&_};
 ghost use mathlib.Core.List.{[], _++_};
-ghost use Prim.Native.Nat.{_+_, _^_, _≤_};
+ghost use Prim.Native.Nat.{_+_, _^_, _≤_, _<_};
 ghost use lib.ListN.{length, take, drop};
 ghost use Rattle.utf8.specs.Order.{order};
 ghost use Rattle.operation.specs.Layout.{recordsOf};
+ghost use Rattle.operation.specs.Op.{cut};
 ghost use Rattle.operation.specs.Record.{encode, ops, recordFault};
+ghost use Rattle.operation.specs.Front.{frontOp, Stands, Cut};
+ghost use Rattle.operational_transform.specs.Transform.{transformTurn, past, keepBoth, lefts};
 ghost use Rattle.operational_transform.specs.Transform.{transform as transformOf};
-ghost use Rattle.operational_transform.specs.Emit.{Under, within};
-ghost use Rattle.operation.specs.Front.{Stands};
+ghost use Rattle.operational_transform.specs.Emit.{Under, Adds, within};
 ghost use Rattle.operational_transform.specs.Output.{atFront};
-ghost use Rattle.turns.specs.Turns.{liveIs};
-ghost use Rattle.transform.specs.Sides.{Went, Ended};
+ghost use Rattle.turns.specs.Turns.{liveIs, Chooses, Went};
+ghost use Rattle.transform.specs.Sides.{FirstWent, BothWent};
 ghost use Rattle.transform.specs.Pairs.{SizedBoth};
 ghost use Rattle.log.specs.Log.{editsIn};
-ghost use Rattle.accept.specs.Running.{Lie, Holds, Fit, Passes, GoesOn, Runs, Roomy, HandsOut};
+ghost use Rattle.accept.specs.Running.{Lie, Holds, Fit, EndsWith, Passes, GoesOn, Runs, Roomy, HandsOut};
 
 // How many bytes the counterparts have, or why the run ended.
 pub(crate) enum Run {
@@ -39,23 +44,75 @@ fn pass(cur: &mut [u8], na: usize, rec: &[u8], nb: usize, next: &mut [u8], out: 
     operational_transform::core::copy(cur, 0, next, 0, len);
 }
 
-// A step of the run that sizes both sides and writes nothing.
-fn turn(cur: &[u8], na: usize, rec: &[u8], nb: usize, s: State) -> State
-    requires { ⌜ (na ≡ recordsOf (now cur)) × (nb ≡ recordsOf (now rec)) × Under (2 ^ 38) (s .e) × Under (2 ^ 38) (s .f) × Stands (now cur) (s .x) × Stands (now rec) (s .y) × (liveIs (s .x) (s .y) ≡ true) ⌝ }
-    ensures { λ r. ⌜ Went 0 0 (now (cur .entry)) (now (rec .entry)) s [] [] r [] [] ⌝ }
+// The edit's operation goes by itself. Here and in the next three functions numbers are taken and nothing is written.
+fn first(cur: &[u8], na: usize, s: State) -> State
+    requires { ⌜ (na ≡ recordsOf (now cur)) × Under (2 ^ 38) (s .e) × Stands (now cur) (s .x) × (0 < s .x .kind) ⌝ }
+    ensures { λ r. ⌜ FirstWent 0 (now (cur .entry)) s [] r [] ⌝ }
 {
-    let mut x = [0u8; 0];
-    let mut y = [0u8; 0];
-    transform::core::turn(cur, na, rec, nb, &mut x, 0, &mut y, 0, s)
+    let x = s.x;
+    let y = s.y;
+    let e = s.e;
+    let k = x.left;
+    let to = x.to;
+    let f = operational_transform::core::tally(cur, e, x, k, to);
+    let g = operation::core::rest(cur, na, x, k, to);
+    State { x: g, y, e: f }
 }
 
-fn end(s: State) -> Pair
-    requires { ⌜ Under (2 ^ 38) (s .e) × Under (2 ^ 38) (s .f) ⌝ }
-    ensures { λ r. ⌜ Ended 0 0 s [] [] r [] [] ⌝ }
+fn stays(cur: &[u8], rec: &[u8], e: Emitter, x: Front, y: Front, k: usize) -> Emitter
+    requires { ⌜ Under (2 ^ 38) e × Stands (now cur) x × Stands (now rec) y × (0 < k) × (k ≤ x .left) × (k ≤ y .left) × Cut (now cur) x k (x .to) × Cut (now rec) y k (y .to) ⌝ }
+    ensures { λ r. ⌜ Adds 0 (past keepBoth (cut k (frontOp (now (rec .entry)) y)) (cut k (frontOp (now (cur .entry)) x))) e [] r [] ⌝ }
 {
-    let mut x = [0u8; 0];
-    let mut y = [0u8; 0];
-    transform::core::end(&mut x, 0, &mut y, 0, s)
+    if y.kind == 1 {
+        return operational_transform::core::tally(cur, e, x, k, x.to);
+    }
+    if y.kind == 2 {
+        let d = operational_transform::core::tally(rec, e, y, k, y.to);
+        return operational_transform::core::retain(d, k);
+    }
+    e
+}
+
+fn together(cur: &[u8], na: usize, rec: &[u8], nb: usize, s: State) -> State
+    requires { ⌜ (na ≡ recordsOf (now cur)) × (nb ≡ recordsOf (now rec)) × Under (2 ^ 38) (s .e) × Stands (now cur) (s .x) × Stands (now rec) (s .y) × Chooses (transformTurn order) (now cur) (now rec) (s .x) (s .y) Turn.Together ⌝ }
+    ensures { λ r. ⌜ BothWent 0 (now (cur .entry)) (now (rec .entry)) s [] r [] ⌝ }
+{
+    let x = s.x;
+    let y = s.y;
+    let e = s.e;
+    let k = operational_transform::core::lesser(x.left, y.left);
+    let i = x.to;
+    let j = y.to;
+    let f = stays(cur, rec, e, x, y, k);
+    let g = operation::core::rest(cur, na, x, k, i);
+    let h = operation::core::rest(rec, nb, y, k, j);
+    State { x: g, y: h, e: f }
+}
+
+// A step over the front records.
+fn turn(cur: &[u8], na: usize, rec: &[u8], nb: usize, s: State) -> State
+    requires { ⌜ (na ≡ recordsOf (now cur)) × (nb ≡ recordsOf (now rec)) × Under (2 ^ 38) (s .e) × Stands (now cur) (s .x) × Stands (now rec) (s .y) × (liveIs (s .x) (s .y) ≡ true) ⌝ }
+    ensures { λ r. ⌜ Went (transformTurn order) (lefts keepBoth) 0 (now (cur .entry)) (now (rec .entry)) s [] r [] ⌝ }
+{
+    let x = s.x;
+    let y = s.y;
+    match transform::core::whose(cur, rec, x, y) {
+        Turn::First => first(cur, na, s),
+        Turn::Second => transform::core::second(rec, nb, s),
+        Turn::Together => together(cur, na, rec, nb, s),
+    }
+}
+
+// The sizes of both sides, the edit's having been gone through.
+fn end(cur: &[u8], na: usize, rec: &[u8], nb: usize, s: State) -> Pair
+    requires { ⌜ (na ≡ recordsOf (now cur)) × (na ≤ 1024) × (nb ≡ recordsOf (now rec)) × (nb ≤ 1024) × (recordFault (now cur) ≡ 0) × (recordFault (now rec) ≡ 0) × Under (2 ^ 38) (s .e) ⌝ }
+    ensures { λ r. ⌜ EndsWith (now (cur .entry)) (now (rec .entry)) s r ⌝ }
+{
+    let mut none = [0u8; 0];
+    let last = s.e;
+    let e = operational_transform::core::finish(&mut none, 0, last);
+    let f = transform::core::side(rec, nb, cur, na);
+    Pair { e, f }
 }
 
 fn keep_limits(p: Pair) -> bool
@@ -111,10 +168,10 @@ pub(crate) fn rebase(log: &[u8], from: usize, n: usize, cur: &mut [u8], next: &m
         let rec = &log[at..];
         let na = operation::core::records(cur);
         let nb = operation::core::records(rec);
-        let mut s = transform::core::begin(cur, na, rec, nb);
+        let mut s = turns::core::begin(cur, na, rec, nb);
         let p = loop {
-            if !transform::core::live(s) {
-                let p = end(s);
+            if !turns::core::goes_on(s) {
+                let p = end(cur, na, rec, nb, s);
                 if !keep_limits(p) {
                     break 'run Run::Refused(Refusal::Limit);
                 }

@@ -13,7 +13,7 @@ use Rattle.operational_transform.specs.declared.core.Emitter.{Emitter}
 use Rattle.operational_transform.specs.Emit.{over, bytes16, one, emitted, flushedRecords, flushed, opens, spilled, Under, kindsOf, countsOf, textsOf, laid, kept, group}
 use Rattle.operational_transform.proofs.Meaning.{ifZero-elim}
 use Rattle.operational_transform.proofs.Loops.{empty-bytes}
-use Rattle.operational_transform.proofs.Over.{over-join, over-swap, put-in, put16-both}
+use Rattle.operational_transform.proofs.Over.{over-none, over-join, over-swap, put-in, put16-both}
 
 one-none : (c : ℕ) → c ≡ 0 → one c ≡ 0
 one-none c e = ap one e
@@ -104,6 +104,14 @@ module _ (e : Emitter) where
   pub spilled-again : (n : ℕ) (o : List ℕ) {o₁ : List ℕ} → 0 < e .ret → o₁ ≡ flushed n e o → o₁ ≡ spilled n e o
   unfolding spilled
   spilled-again n o h p = p ∙ sym (ifZero-elim (λ w. w ≡ flushed n e o) (e .ret) (λ w. absurd (omega arith)) (λ _. refl))
+
+emitted-over : (n k kind c : ℕ) → emitted n k kind c [] ≡ []
+unfolding emitted
+emitted-over n k kind c = ifZero-elim (λ q. q ≡ []) c (λ _. refl) (λ _. simp over-none)
+
+pub spilled-none : (n : ℕ) (e : Emitter) → spilled n e [] ≡ []
+unfolding spilled flushed
+spilled-none n e = ifZero-elim (λ q. q ≡ []) (e .ret) (λ _. refl) (λ _. simp emitted-over)
 
 -- ---- the parts of a record
 

@@ -254,6 +254,22 @@ pub fn part(
     deleted(e, k)
 }
 
+// The numbers after the same; nothing is written. The text isn't looked at: `src` is what the contract speaks of.
+pub fn tally(src: &[u8], e: Emitter, f: Front, k: usize, mid: usize) -> Emitter
+    requires { ⌜ Stands (now src) f × (0 < k) × (k ≤ f .left) × Cut (now src) f k mid × Under (2 ^ 40) e ⌝ }
+    ensures { λ r. ⌜ Adds 0 (cut k (frontOp (now (src .entry)) f) ∷ []) e [] r [] ⌝ }
+{
+    let kind = f.kind;
+    if kind == 1 {
+        return retain(e, k);
+    }
+    if kind == 2 {
+        let from = f.from;
+        return inserted(e, mid - from, k);
+    }
+    deleted(e, k)
+}
+
 // The pending group is written, too.
 pub fn finish(out: &mut [u8], n: usize, e: Emitter) -> Emitter
     requires { ⌜ (n ≤ 2 ^ 40) × Under (2 ^ 39) e ⌝ }

@@ -114,7 +114,7 @@ fn first(a: &[u8], na: usize, out: &mut [u8], n: usize, s: State) -> State
 }
 
 // The second's operation goes by itself: what it gives is retained.
-fn second(b: &[u8], nb: usize, s: State) -> State
+pub fn second(b: &[u8], nb: usize, s: State) -> State
     requires { ⌜ (nb ≡ recordsOf (now b)) × Under (2 ^ 38) (s .e) × Stands (now b) (s .y) ⌝ }
     ensures { λ r. ⌜ SecondWent (now (b .entry)) s r ⌝ }
 {
@@ -173,7 +173,7 @@ fn run(a: &[u8], na: usize, b: &[u8], nb: usize, out: &mut [u8], n: usize) -> Em
 }
 
 // The sizes of one side: a run on a buffer in which nothing has a place.
-fn side(a: &[u8], na: usize, b: &[u8], nb: usize) -> Emitter
+pub fn side(a: &[u8], na: usize, b: &[u8], nb: usize) -> Emitter
     requires { ⌜ (na ≡ recordsOf (now a)) × (na ≤ 1024) × (nb ≡ recordsOf (now b)) × (nb ≤ 1024) × (recordFault (now a) ≡ 0) × (recordFault (now b) ≡ 0) ⌝ }
     ensures { λ r. ⌜ Sizes (transformOf order (ops (now (a .entry))) (ops (now (b .entry))) .left) r × Under (2 ^ 40) r ⌝ }
 {

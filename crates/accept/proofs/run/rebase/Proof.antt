@@ -6,14 +6,16 @@ use lib.ListN.{length}
 use borrow.Author.Needs.{needs}
 use Rattle.operation.specs.Record.{ops}
 use Rattle.operation.specs.Front.{ahead}
-use Rattle.transform.proofs.Looping.{Going, going-start, going-under-e, going-under-f, going-more}
+use Rattle.utf8.specs.Order.{order}
+use Rattle.operational_transform.specs.Transform.{transformTurn, keepBoth, lefts}
+use Rattle.turns.proofs.Going.{Going, going-start, going-under, going-more}
 use Rattle.accept.proofs.Sizing.{sized-run, passed, keep-left, keep-right, went-less}
 use Rattle.accept.proofs.Moving.{Moving, moving-start, moving-small, moving-place, moving-end, moving-record, moving-stop, moving-again}
 use Rattle.accept.proofs.run.rebase.Statement.{statement}
 use Rattle.accept.proofs.run.rebase.Tie as tie
 
 abbrev Inv-loop : tie.InvT-loop
-Inv-loop log from n cur next spot left at rec na nb s₀ s = Going 0 0 cur rec [] [] s [] []
+Inv-loop log from n cur next spot left at rec na nb s₀ s = Going (transformTurn order) (lefts keepBoth) 0 cur rec [] s []
 
 abbrev μ-loop : tie.MeasureT-loop
 μ-loop log from n cur next spot left at rec na nb s₀ s = length (ahead cur (s .x)) + length (ahead rec (s .y))
@@ -48,17 +50,17 @@ begin-requires c κs = search (moving-record, needs)
 loop-holds : tie.Need-loop-holds Inv-loop μ-loop Inv-run μ-run
 loop-holds c = search (going-start, moving-record)
 
-live-requires : tie.Need-live-requires Inv-loop μ-loop Inv-run μ-run
-live-requires c κs = search needs
+goes-on-requires : tie.Need-goes-on-requires Inv-loop μ-loop Inv-run μ-run
+goes-on-requires c κs = search needs
 
 end-requires : tie.Need-end-requires Inv-loop μ-loop Inv-run μ-run
-end-requires c κs = search (going-under-e, going-under-f)
+end-requires c κs = search (going-under, moving-record, needs)
 
 keep-limits-requires : tie.Need-keep-limits-requires Inv-loop μ-loop Inv-run μ-run
 keep-limits-requires c κs = search needs
 
 turn-requires : tie.Need-turn-requires Inv-loop μ-loop Inv-run μ-run
-turn-requires c κs = search (passed, going-under-e, going-under-f, needs)
+turn-requires c κs = search (passed, going-under, needs)
 
 loop-less : tie.Need-loop-less Inv-loop μ-loop Inv-run μ-run
 loop-less c = search went-less
@@ -70,15 +72,15 @@ go-on-requires : tie.Need-go-on-requires Inv-loop μ-loop Inv-run μ-run
 go-on-requires c κs =
     let keep = c .before .before .before .keep-limits in
     let en = c .before .before .before .before .end in
-    let live = c .before .before .before .before .before .before .live in
-    let loop = c .before .before .before .before .before .before .before .loop in
-    let run = c .before .before .before .before .before .before .before .before .before .before .before .before .before .before .before .run in
-    let none = c .before .before .before .before .before .before .before .before .before .before .before .before .before .before .if1 .left in
-    let d = sized-run _ _ _ _ (loop .s) _ _ (loop .inv) _ (live .ensures) (c .before .before .before .before .before .if2 .taken) (en .result) _ _ (en .ensures) in
+    let goes = c .before .before .before .before .before .before .before .goes-on in
+    let loop = c .before .before .before .before .before .before .before .before .loop in
+    let run = c .before .before .before .before .before .before .before .before .before .before .before .before .before .before .before .before .run in
+    let none = c .before .before .before .before .before .before .before .before .before .before .before .before .before .before .before .if1 .left in
+    let d = sized-run _ _ _ (loop .s) (loop .inv) _ (goes .ensures) (c .before .before .before .before .before .before .if2 .taken) (en .result) (en .ensures) in
     let m = run .inv .0 in
-    let start = c .before .before .before .before .before .before .before .before .before .before .before .before .before .before .before .before .before .before .before in
-    let recs = c .before .before .before .before .before .before .before .before .before .before .before .records in
-    let recs2 = c .before .before .before .before .before .before .before .before .before .before .records2 in
+    let start = c .before .before .before .before .before .before .before .before .before .before .before .before .before .before .before .before .before .before .before .before in
+    let recs = c .before .before .before .before .before .before .before .before .before .before .before .before .records in
+    let recs2 = c .before .before .before .before .before .before .before .before .before .before .before .records2 in
     let kept = c .before .before .if3 .left in (
       recs .ensures .0,
       recs .ensures .1,
@@ -96,20 +98,20 @@ go-on-requires c κs =
     )
 
 sub-left : tie.Need-sub-left Inv-loop μ-loop Inv-run μ-run
-sub-left c = omega (arith, c .before .before .before .before .before .before .before .before .before .before .before .before .before .before .before .before .before .before .before .if1 .left)
+sub-left c = omega (arith, c .before .before .before .before .before .before .before .before .before .before .before .before .before .before .before .before .before .before .before .before .if1 .left)
 
 run-less : tie.Need-run-less Inv-loop μ-loop Inv-run μ-run
-run-less c = omega (arith, c .before .before .before .before .before .before .before .before .before .before .before .before .before .before .before .before .before .before .before .if1 .left)
+run-less c = omega (arith, c .before .before .before .before .before .before .before .before .before .before .before .before .before .before .before .before .before .before .before .before .if1 .left)
 
 run-again : tie.Need-run-again Inv-loop μ-loop Inv-run μ-run
 run-again c =
     let keep = c .before .before .before .before .before .before .before .before .keep-limits in
     let en = c .before .before .before .before .before .before .before .before .before .end in
-    let live = c .before .before .before .before .before .before .before .before .before .before .before .live in
-    let loop = c .before .before .before .before .before .before .before .before .before .before .before .before .loop in
-    let run = c .before .before .before .before .before .before .before .before .before .before .before .before .before .before .before .before .before .before .before .before .run in
-    let none = c .before .before .before .before .before .before .before .before .before .before .before .before .before .before .before .before .before .before .before .if1 .left in
-    let d = sized-run _ _ _ _ (loop .s) _ _ (loop .inv) _ (live .ensures) (c .before .before .before .before .before .before .before .before .before .before .if2 .taken) (en .result) _ _ (en .ensures) in (
+    let goes = c .before .before .before .before .before .before .before .before .before .before .before .before .goes-on in
+    let loop = c .before .before .before .before .before .before .before .before .before .before .before .before .before .loop in
+    let run = c .before .before .before .before .before .before .before .before .before .before .before .before .before .before .before .before .before .before .before .before .before .run in
+    let none = c .before .before .before .before .before .before .before .before .before .before .before .before .before .before .before .before .before .before .before .before .if1 .left in
+    let d = sized-run _ _ _ (loop .s) (loop .inv) _ (goes .ensures) (c .before .before .before .before .before .before .before .before .before .before .before .if2 .taken) (en .result) (en .ensures) in (
       moving-again _ _ _ _ _ _ _ (run .inv .0) none (en .result) d _ (keep .ensures) (c .before .before .before .before .before .before .before .if3 .left) _ _ (c .before .before .before .before .go-on .ensures),
       search needs,
       search needs,
@@ -125,20 +127,20 @@ returns : tie.Need-returns Inv-loop μ-loop Inv-run μ-run
 returns c = search moving-end
 
 same-length-3 : tie.Need-same-length-3 Inv-loop μ-loop Inv-run μ-run
-same-length-3 c = c .before .before .before .before .before .before .before .before .before .before .before .before .before .run .inv .1
+same-length-3 c = c .before .before .before .before .before .before .before .before .before .before .before .before .before .before .run .inv .1
 
 same-length-4 : tie.Need-same-length-4 Inv-loop μ-loop Inv-run μ-run
-same-length-4 c = c .before .before .before .before .before .before .before .before .before .before .before .before .before .run .inv .2
+same-length-4 c = c .before .before .before .before .before .before .before .before .before .before .before .before .before .before .run .inv .2
 
 returns-2 : tie.Need-returns-2 Inv-loop μ-loop Inv-run μ-run
 returns-2 c =
     let keep = c .before .keep-limits in
     let en = c .before .before .end in
-    let live = c .before .before .before .before .live in
-    let loop = c .before .before .before .before .before .loop in
-    let run = c .before .before .before .before .before .before .before .before .before .before .before .before .before .run in
-    let none = c .before .before .before .before .before .before .before .before .before .before .before .before .if1 .left in
-    let d = sized-run _ _ _ _ (loop .s) _ _ (loop .inv) _ (live .ensures) (c .before .before .before .if2 .taken) (en .result) _ _ (en .ensures) in
+    let goes = c .before .before .before .before .before .goes-on in
+    let loop = c .before .before .before .before .before .before .loop in
+    let run = c .before .before .before .before .before .before .before .before .before .before .before .before .before .before .run in
+    let none = c .before .before .before .before .before .before .before .before .before .before .before .before .before .if1 .left in
+    let d = sized-run _ _ _ (loop .s) (loop .inv) _ (goes .ensures) (c .before .before .before .before .if2 .taken) (en .result) (en .ensures) in
     moving-stop _ _ _ _ _ _ _ (run .inv .0) none (en .result) d _ (keep .ensures) (c .if3 .taken)
 
 pub rebase-spec : {M : Type 1} → statement M
@@ -157,7 +159,7 @@ rebase-spec =
     records-requires-2
     begin-requires
     loop-holds
-    live-requires
+    goes-on-requires
     end-requires
     keep-limits-requires
     turn-requires
