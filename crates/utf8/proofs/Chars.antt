@@ -127,7 +127,7 @@ pub rest-bad : (bs : List ℕ) → rest bs Bad ≡ false
 rest-bad [] = refl
 rest-bad (b ∷ bs) = refl
 
-any-range : (bs : List ℕ) (lo hi : ℕ) → rest bs (Of 0 lo hi) ≡ wellFormed bs
+pub any-range : (bs : List ℕ) (lo hi : ℕ) → rest bs (Of 0 lo hi) ≡ wellFormed bs
 any-range [] lo hi = refl
 any-range (b ∷ bs) lo hi = refl
 
