@@ -3,8 +3,8 @@ use Prim.Native.Nat.{ℕ, zero, suc, _+_, _*_, _-_, _/_, _%_, _^_, _≤_, _<_}
 use native.Mathlib.Omega.{arith}
 use mathlib.Core.Path.{_≡_, refl, sym, ap, ap₂, _∙_}
 use mathlib.Core.Logic.{⊎-elim}
-use mathlib.Core.Bool.{Bool, true, false, _&&_, and-assoc}
-use mathlib.Core.List.{List, [], _∷_, _++_}
+use mathlib.Core.Bool.{Bool, true, false, _&&_}
+use mathlib.Core.List.{List, [], _∷_}
 use lib.Dec.{T, eqb, lit<, lit≤}
 use lib.ListN.{length, getD, take, drop, length-take, length-drop}
 use lib.Seq.{take-add, drop-drop, getD-drop}
@@ -17,7 +17,7 @@ use Rattle.utf8.specs.Chars.{allOf}
 use Rattle.utf8.specs.Ascii.{isAscii, wordOf, Runs, RunsOut}
 use Rattle.utf8.proofs.Tests.{holds, known}
 use Rattle.utf8.proofs.Leads.{le-or-lt, lead-row}
-use Rattle.utf8.proofs.Chars.{split}
+use Rattle.utf8.proofs.Chars.{split, all-append}
 use Rattle.utf8.proofs.Walk.{next}
 
 pub ascii : (b : ℕ) → b < 0x80 → isAscii b ≡ true
@@ -106,12 +106,8 @@ word-eight t at e₀ e₁ e₂ e₃ e₄ e₅ e₆ e₇ h b =
 
 -- ---- two parts next to each other
 
-all-append : (xs ys : List ℕ) → allOf isAscii (xs ++ ys) ≡ (allOf isAscii xs && allOf isAscii ys)
-all-append [] ys = refl
-all-append (x ∷ xs) ys = ap (λ b. isAscii x && b) (all-append xs ys) ∙ sym (and-assoc (isAscii x) (allOf isAscii xs) (allOf isAscii ys))
-
 parts : (t : List ℕ) (at n m : ℕ) → allOf isAscii (take (n + m) (drop at t)) ≡ (allOf isAscii (take n (drop at t)) && allOf isAscii (take m (drop (at + n) t)))
-parts t at n m = ap (allOf isAscii) (take-add n m (drop at t)) ∙ all-append (take n (drop at t)) (take m (drop n (drop at t))) ∙ ap (λ l. allOf isAscii (take n (drop at t)) && allOf isAscii (take m l)) (drop-drop n at t)
+parts t at n m = ap (allOf isAscii) (take-add n m (drop at t)) ∙ all-append isAscii (take n (drop at t)) (take m (drop n (drop at t))) ∙ ap (λ l. allOf isAscii (take n (drop at t)) && allOf isAscii (take m l)) (drop-drop n at t)
 
 module _ (t : List ℕ) (at n m : ℕ) (a : Bool) (p : a ≡ allOf isAscii (take n (drop at t))) where
   pub both-parts : (b : Bool) → a ≡ true → b ≡ allOf isAscii (take m (drop (at + n) t)) → b ≡ allOf isAscii (take (n + m) (drop at t))
