@@ -1,5 +1,5 @@
 -- From what the code finds to the answers of the calls.
-use Prim.Native.Nat.{ℕ, zero, suc, _+_, _-_, _≤_, _<_}
+use Prim.Native.Nat.{ℕ, zero, suc, _+_, _-_, _^_, _≤_, _<_}
 use native.Mathlib.Nat.{add-zero}
 use native.Mathlib.Omega.{arith}
 use mathlib.Core.Path.{_≡_, refl, sym, ap, ap₂, _∙_}
@@ -9,47 +9,63 @@ use lib.Dec.{eqb, leb, ltb}
 use lib.ListN.{length, take, drop, getD, length-map, length-take, List·getD-map, List·getD-eq-default}
 use lib.Seq.{getD-drop}
 use borrow.Author.Tests.{eq-eqb, ne-eqb, eqb-true, eqb-false, leb-true, leb-false, ltb-true, ltb-false, not-true, not-false}
-use Rattle.utf8.specs.Chars.{allOf}
+use Rattle.utf8.specs.Chars.{numChars, allOf}
 use Rattle.utf8.proofs.Tests.{known}
+use Rattle.utf8.proofs.Chars.{num-le}
 use Rattle.operation.specs.declared.Refusal.{Refusal}
 use Rattle.operation.specs.declared.Fact.{Fact}
 use Rattle.operation.specs.declared.Fact.the-variants as fact
 use Rattle.operation.specs.declared.Noop.the-variants as noop
 use Rattle.operation.specs.declared.checks.Entries.{Entries}
-use Rattle.operation.specs.declared.checks.Entries.the-variants.{Unsound, Inserts}
-use Rattle.operation.specs.declared.checks.Body.{Body}
-use Rattle.operation.specs.declared.checks.Body.the-variants as body
+use Rattle.operation.specs.declared.checks.Entries.the-variants.{Unsound, Of}
+use Rattle.operation.specs.declared.checks.Sums.{Sums}
+use Rattle.operation.specs.declared.checks.Inserted.{Inserted}
+use Rattle.operation.specs.declared.checks.Inserted.the-variants.{IllFormed, Chars}
 use Rattle.operation.specs.Answer.{number, Answer, gives, refused, factOf, noopOf, settle}
 use Rattle.operation.specs.Op.{Op, retain, total, base}
 use Rattle.operation.specs.Built.{chained}
 use Rattle.operation.specs.Layout.{recordsOf, textBytesOf, baseOf, targetOf, textStart, sizeOf, kindAt, countAt}
-use Rattle.operation.specs.Record.{Seq, ByteSeq, inChars, inserted, entries, byteOps, ops, inLimits, soundEntry, insertBytes, sound, wellInserted, givesChars, adds, recordFault}
+use Rattle.operation.specs.Record.{Seq, ByteSeq, inChars, inserted, entries, textOf, byteOps, ops, inLimits, soundEntry, insertBytes, sound, wellInserted, givesChars, adds, recordFault}
 use Rattle.operation.specs.Front.{byteOpsLeft}
-use Rattle.operation.specs.Checks.{entriesOf, outcome, start, Sound, Reached}
+use Rattle.operation.specs.Checks.{summed, nothing, entriesOf, insertedOf, Sound, Reached}
 use Rattle.operation.specs.Calls.{checkCall, baseCall, targetCall, noEffect, noopCall, textCall, textFrom}
 use Rattle.operation.proofs.Faults.{InLimits, limits, faultless}
 use Rattle.operation.proofs.Records.{byteOps-length, ops-length}
 use Rattle.operation.proofs.Walks.{left-all, left-done, left-retain, left-insert, left-delete, inserts-more, inserts-all}
-use Rattle.operation.proofs.Checking.{pass-start, reached-room, Reach, reach}
+use Rattle.operation.proofs.Checking.{sum-inserts, Found, found, reached-room, Reach, reach}
 
--- which enum's case a number found by a test is
-pub chosen : (b : Bool) (x : ℕ) (e : Entries) → e ≡ cond b (Inserts x) Unsound → e ≡ Unsound → b ≡ false
-chosen true x e p q = absurd (let z : _≡_ {A = ℕ} 0 1 = cc (p, q) in omega arith)
-chosen false x e p q = refl
+-- which enum's case is found by a test
+unsound : (b : Bool) (x : Sums) (e : Entries) → e ≡ cond b (Of x) Unsound → e ≡ Unsound → b ≡ false
+unsound true x e p q = absurd (let z : _≡_ {A = ℕ} 0 1 = cc (p, q) in omega arith)
+unsound false x e p q = refl
 
-inserts : (b : Bool) (x s : ℕ) (e : Entries) → e ≡ cond b (Inserts x) Unsound → e ≡ Inserts s → (b ≡ true) × (x ≡ s)
-inserts true x s e p q = (refl, (cc (p, q)))
-inserts false x s e p q = absurd (let z : _≡_ {A = ℕ} 0 1 = cc (p, q) in omega arith)
+summing : (b : Bool) (x s : Sums) (e : Entries) → e ≡ cond b (Of x) Unsound → e ≡ Of s → (b ≡ true) × (x ≡ s)
+summing true x s e p q = (refl, (cc (p, q)))
+summing false x s e p q = absurd (let z : _≡_ {A = ℕ} 0 1 = cc (p, q) in omega arith)
 
-ill : (b : Bool) (x e : Body) (l : Bool) (m n : ℕ) → x ≡ body.Of l m n → e ≡ cond b x body.IllFormed → e ≡ body.IllFormed → b ≡ false
-ill true x e l m n o p q = absurd (let z : _≡_ {A = ℕ} 0 1 = cc (o, p, q) in omega arith)
-ill false x e l m n o p q = refl
+ill : (b : Bool) (x : ℕ) (e : Inserted) → e ≡ cond b (Chars x) IllFormed → e ≡ IllFormed → b ≡ false
+ill true x e p q = absurd (let z : _≡_ {A = ℕ} 0 1 = cc (p, q) in omega arith)
+ill false x e p q = refl
 
-formed : (b : Bool) (e : Body) (l k : Bool) (m n x y : ℕ) → e ≡ cond b (body.Of l m n) body.IllFormed → e ≡ body.Of k x y → (b ≡ true) × (l ≡ k) × (m ≡ x) × (n ≡ y)
-formed true e l k m n x y p q = (refl, (cc (p, q)), (cc (p, q)), (cc (p, q)))
-formed false e l k m n x y p q = absurd (let z : _≡_ {A = ℕ} 0 1 = cc (p, q) in omega arith)
+formed : (b : Bool) (x c : ℕ) (e : Inserted) → e ≡ cond b (Chars x) IllFormed → e ≡ Chars c → (b ≡ true) × (x ≡ c)
+formed true x c e p q = (refl, (cc (p, q)))
+formed false x c e p q = absurd (let z : _≡_ {A = ℕ} 0 1 = cc (p, q) in omega arith)
 
 -- ---- check
+
+-- nothing is wrong with a record of n records and t bytes of text, unless that its target isn't g
+pub record Agreed (r : List ℕ) (n t g : ℕ) : Type 0 where
+  pub in-limits : inLimits r ≡ true
+  pub is-sound : sound r ≡ true
+  pub texts : allOf wellInserted (byteOps r) ≡ true
+  pub chain : chained (byteOps r) ≡ true
+  pub base-is : base (byteOps r) ≡ baseOf r
+  pub target-is : g ≡ total givesChars (byteOps r)
+  pub records : n ≡ recordsOf r
+  pub text-bytes : t ≡ textBytesOf r
+  pub few : n ≤ 1024
+  pub short : t ≤ 32768
+  pub small : g < 2 ^ 32
 
 module _ (r : List ℕ) (a : Bool) (pa : a ≡ inLimits r) where
   pub check-1 : not a ≡ true → refused 1 ≡ checkCall r
@@ -76,20 +92,23 @@ module _ (r : List ℕ) (a : Bool) (pa : a ≡ inLimits r) where
     module _ (t : ℕ) (pt : t ≡ textBytesOf r) (e : Entries) (pe : e ≡ entriesOf r) where
       pub check-2 : e ≡ Unsound → refused 2 ≡ checkCall r
       unfolding checkCall recordFault sound entriesOf
-      check-2 u = rw (limited, chosen (allOf soundEntry (entries r)) (insertBytes (entries r)) e pe u)
+      check-2 u = rw (limited, unsound (allOf soundEntry (entries r)) (summed nothing (entries r)) e pe u)
 
-      module _ (s : ℕ) (ps : e ≡ Inserts s) where
-        given : (allOf soundEntry (entries r) ≡ true) × (insertBytes (entries r) ≡ s)
+      module _ (q : Sums) (pq : e ≡ Of q) where
+        given : (allOf soundEntry (entries r) ≡ true) × (summed nothing (entries r) ≡ q)
         unfolding entriesOf
-        given = inserts (allOf soundEntry (entries r)) (insertBytes (entries r)) s e pe ps
+        given = summing (allOf soundEntry (entries r)) (summed nothing (entries r)) q e pe pq
 
-        pub check-2′ : (s ≡ t → ⊥) → refused 2 ≡ checkCall r
+        inserts : q .inserts ≡ insertBytes (entries r)
+        inserts = rw (given .1) at (sum-inserts r (known (given .0)))
+
+        pub check-2′ : (q .inserts ≡ t → ⊥) → refused 2 ≡ checkCall r
         unfolding checkCall recordFault sound
-        check-2′ u = rw (limited, given .0, ne-eqb (insertBytes (entries r)) (textBytesOf r) (λ z. u (sym (given .1) ∙ z ∙ sym pt)))
+        check-2′ u = rw (limited, given .0, ne-eqb (insertBytes (entries r)) (textBytesOf r) (λ z. u (inserts ∙ z ∙ sym pt)))
 
-        module _ (st : s ≡ t) where
+        module _ (st : q .inserts ≡ t) where
           adds-up : insertBytes (entries r) ≡ textBytesOf r
-          adds-up = given .1 ∙ st ∙ pt
+          adds-up = sym inserts ∙ st ∙ pt
 
           is-sound : sound r ≡ true
           unfolding sound
@@ -98,38 +117,56 @@ module _ (r : List ℕ) (a : Bool) (pa : a ≡ inLimits r) where
           pub sounds : Sound r
           sounds = record { few = bounds .records; short = bounds .text-bytes; room = bounds .whole; entries-sound = known (given .0); adds-up = adds-up }
 
-          module _ (o : Body) (po : o ≡ outcome r 0 (start r)) where
-            all : o ≡ cond (allOf wellInserted (byteOps r)) (body.Of (chained (byteOps r)) (base (byteOps r)) (total givesChars (byteOps r))) body.IllFormed
-            all = po ∙ pass-start r adds-up
+          sums : Found r q
+          sums = rw (given .1) at (found r (known (given .0)) adds-up)
 
-            pub check-3 : o ≡ body.IllFormed → refused 3 ≡ checkCall r
-            unfolding checkCall recordFault
-            check-3 u = rw (limited, is-sound, ill (allOf wellInserted (byteOps r)) _ o _ _ _ refl all u)
+          module _ (o : Inserted) (po : o ≡ insertedOf r) where
+            pub check-3 : o ≡ IllFormed → refused 3 ≡ checkCall r
+            unfolding checkCall recordFault insertedOf
+            check-3 u = rw (limited, is-sound, ill (allOf wellInserted (byteOps r)) (numChars (textOf r)) o po u)
 
-            module _ (l : Bool) (b g : ℕ) (pl : o ≡ body.Of l b g) where
-              found : (allOf wellInserted (byteOps r) ≡ true) × (chained (byteOps r) ≡ l) × (base (byteOps r) ≡ b) × (total givesChars (byteOps r) ≡ g)
-              found = formed (allOf wellInserted (byteOps r)) o (chained (byteOps r)) l (base (byteOps r)) (total givesChars (byteOps r)) b g all pl
+            module _ (c : ℕ) (pc : o ≡ Chars c) where
+              texts : (allOf wellInserted (byteOps r) ≡ true) × (numChars (textOf r) ≡ c)
+              unfolding insertedOf
+              texts = formed (allOf wellInserted (byteOps r)) (numChars (textOf r)) c o po pc
 
-              pub check-4 : not l ≡ true → refused 4 ≡ checkCall r
+              pub check-4 : not (q .linked) ≡ true → refused 4 ≡ checkCall r
               unfolding checkCall recordFault
-              check-4 u = rw (limited, is-sound, found .0, found .1 ∙ not-true l u)
+              check-4 u = rw (limited, is-sound, texts .0, sym (sums .linked) ∙ not-true (q .linked) u)
 
-              module _ (ml : not l ≡ false) (b′ : ℕ) (pb : b′ ≡ baseOf r) where
-                pub check-5 : (b ≡ b′ → ⊥) → refused 5 ≡ checkCall r
+              module _ (ml : not (q .linked) ≡ false) (b′ : ℕ) (pb : b′ ≡ baseOf r) where
+                pub check-5 : (q .base ≡ b′ → ⊥) → refused 5 ≡ checkCall r
                 unfolding checkCall recordFault adds
-                check-5 u = rw (limited, is-sound, found .0, found .1 ∙ not-false l ml, ne-eqb (base (byteOps r)) (baseOf r) (λ z. u (sym (found .2) ∙ z ∙ sym pb)))
+                check-5 u = rw (limited, is-sound, texts .0, sym (sums .linked) ∙ not-false (q .linked) ml, ne-eqb (base (byteOps r)) (baseOf r) (λ z. u (sums .base-is ∙ z ∙ sym pb)))
 
-                module _ (mb : b ≡ b′) (g′ : ℕ) (pg : g′ ≡ targetOf r) where
-                  pub check-5′ : (g ≡ g′ → ⊥) → refused 5 ≡ checkCall r
-                  unfolding checkCall recordFault adds
-                  check-5′ u =
-                      rw (limited, is-sound, found .0, found .1 ∙ not-false l ml, eq-eqb (base (byteOps r)) (baseOf r) (found .2 ∙ mb ∙ pb), ne-eqb (total givesChars (byteOps r)) (targetOf r) (λ z. u (sym (found .3) ∙ z ∙ sym pg)))
+                pub agreed : (n : ℕ) → n ≡ recordsOf r → q .base ≡ b′ → Agreed r n t (q .kept + c)
+                unfolding textOf
+                agreed n pn mb =
+                    record {
+                      in-limits = limited;
+                      is-sound = is-sound;
+                      texts = texts .0;
+                      chain = sym (sums .linked) ∙ not-false (q .linked) ml;
+                      base-is = sym (sums .base-is) ∙ mb ∙ pb;
+                      target-is = rw (texts .1) at (sums .target-is);
+                      records = pn;
+                      text-bytes = pt;
+                      few = omega (arith, bounds);
+                      short = omega (arith, bounds);
+                      small = omega (arith, sums .less, bounds, texts .1, num-le (textOf r), length-take (textBytesOf r) (drop (textStart (recordsOf r)) r));
+                    }
 
-                  pub check-0 : (n z : ℕ) → g ≡ g′ → n ≡ recordsOf r → z ≡ textStart n → gives ((z + t) ∷ []) ≡ checkCall r
-                  unfolding checkCall recordFault adds
-                  check-0 n z mg pn pz =
-                      rw (limited, is-sound, found .0, found .1 ∙ not-false l ml, eq-eqb (base (byteOps r)) (baseOf r) (found .2 ∙ mb ∙ pb), eq-eqb (total givesChars (byteOps r)) (targetOf r) (found .3 ∙ mg ∙ pg))
-                      (ap (λ k. gives (k ∷ [])) (omega arith))
+module _ (r : List ℕ) (n t g : ℕ) (a : Agreed r n t g) (g′ : ℕ) (pg : g′ ≡ targetOf r) where
+  pub check-5′ : (g ≡ g′ → ⊥) → refused 5 ≡ checkCall r
+  unfolding checkCall recordFault adds
+  check-5′ u =
+      rw (a .in-limits, a .is-sound, a .texts, a .chain, eq-eqb (base (byteOps r)) (baseOf r) (a .base-is), ne-eqb (total givesChars (byteOps r)) (targetOf r) (λ z. u (a .target-is ∙ z ∙ sym pg)))
+
+  pub check-0 : (z : ℕ) → z ≡ textStart n → g ≡ g′ → gives ((z + t) ∷ []) ≡ checkCall r
+  unfolding checkCall recordFault adds
+  check-0 z pz mg =
+      rw (a .in-limits, a .is-sound, a .texts, a .chain, eq-eqb (base (byteOps r)) (baseOf r) (a .base-is), eq-eqb (total givesChars (byteOps r)) (targetOf r) (sym (a .target-is) ∙ mg ∙ pg))
+      (ap (λ k. gives (k ∷ [])) (omega (arith, a .records, a .text-bytes)))
 
 -- ---- after the check
 

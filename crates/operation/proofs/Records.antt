@@ -167,7 +167,7 @@ module _ (s : Seq) (more : List ℕ) where
 
 -- ---- read without fault
 
-sound-kind : (k : ℕ) → T (within 1 3 k) → (k ≡ 1) ⊎ ((k ≡ 2) ⊎ (k ≡ 3))
+pub sound-kind : (k : ℕ) → T (within 1 3 k) → (k ≡ 1) ⊎ ((k ≡ 2) ⊎ (k ≡ 3))
 unfolding within
 sound-kind zero h = absurd h
 sound-kind (suc zero) h = inl refl

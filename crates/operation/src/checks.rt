@@ -1,11 +1,11 @@
 // The parts of a record's check.
 ghost use mathlib.Core.Path.{_≡_};
 ghost use mathlib.Core.Bool.{_&&_};
-ghost use Prim.Native.Nat.{_≤_, _<_};
-ghost use lib.ListN.{length};
-ghost use Rattle.operation.specs.Layout.{recordsOf, textStart};
-ghost use Rattle.operation.specs.Record.{inLimits};
-ghost use Rattle.operation.specs.Checks.{entriesOf, mayFollow, outcome, start, Passes, Passing, Sound, Reached};
+ghost use Prim.Native.Nat.{_+_, _^_, _≤_, _<_};
+ghost use lib.ListN.{length, drop};
+ghost use Rattle.operation.specs.Layout.{recordsOf, textBytesOf, textStart};
+ghost use Rattle.operation.specs.Record.{entries, inLimits, soundEntry};
+ghost use Rattle.operation.specs.Checks.{entry, mayFollow, added, entriesOf, startWell, insertedOf, Sound, Reached};
 
 // Refusal 1 is not found.
 pub(crate) fn in_limits(rec: &[u8]) -> bool
@@ -31,60 +31,32 @@ pub(crate) fn in_limits(rec: &[u8]) -> bool
     crate::layout::text_start(n) + text <= rec.len()
 }
 
-// A kind or a count that can't be, or the sum of the insert counts.
-pub(crate) enum Entries {
-    Unsound,
-    Inserts(usize),
-}
-
-pub(crate) fn sum_inserts(rec: &[u8], n: usize) -> Entries
-    requires { ⌜ (n ≡ recordsOf (now rec)) × (n ≤ 1024) × (textStart n ≤ length (now rec)) ⌝ }
-    ensures { λ r. ⌜ r ≡ entriesOf (now (rec .entry)) ⌝ }
-{
-    let mut sum: usize = 0;
-    let mut k = 0;
-    while k < n {
-        let kind = crate::layout::kind(rec, k);
-        let count = crate::layout::count(rec, n, k);
-        if kind == 0 {
-            return Entries::Unsound;
-        }
-        if 3 < kind {
-            return Entries::Unsound;
-        }
-        if count == 0 {
-            return Entries::Unsound;
-        }
-        if kind == 2 {
-            sum += count;
-        }
-        k += 1;
-    }
-    Entries::Inserts(sum)
-}
-
-// An insert that isn't well-formed, or whether all neighbours may stand so, with the sums.
-pub(crate) enum Body {
-    IllFormed,
-    Of {
-        linked: bool,
-        base: usize,
-        target: usize,
-    },
-}
-
-// On the way: where the next insert's text begins, the kind before (0 at first), and the same so far.
-pub(crate) struct Pass {
-    pub at: usize,
+// What the kinds and the counts come to: the bytes inserted, the last kind (0 at first), whether all neighbours may
+// stand so, the characters of the text before the edit, and those of them that stay.
+pub(crate) struct Sums {
+    pub inserts: usize,
     pub last: u8,
     pub linked: bool,
     pub base: usize,
-    pub target: usize,
+    pub kept: usize,
 }
 
-pub(crate) enum Passed {
-    IllFormed,
-    On(Pass),
+// A kind or a count that can't be, or the sums.
+pub(crate) enum Entries {
+    Unsound,
+    Of(Sums),
+}
+
+fn is_sound(kind: u8, count: usize) -> bool
+    ensures { λ r. ⌜ r ≡ soundEntry (entry kind count) ⌝ }
+{
+    if kind == 0 {
+        return false;
+    }
+    if 3 < kind {
+        return false;
+    }
+    0 < count
 }
 
 // Whether all neighbours may stand so, with one more behind the last.
@@ -103,74 +75,109 @@ fn link(linked: bool, last: u8, kind: u8) -> bool
     true
 }
 
-// Record k.
-fn step(rec: &[u8], n: usize, k: usize, p: Pass) -> Passed
-    requires { ⌜ (n ≡ recordsOf (now rec)) × (k < n) × Passing (now rec) k p ⌝ }
-    ensures { λ r. ⌜ Passes (now (rec .entry)) k p r ⌝ }
+// The sums with one entry more.
+fn add(s: Sums, kind: u8, count: usize) -> Sums
+    requires { ⌜ (s .inserts ≤ 2 ^ 32) × (s .base ≤ 2 ^ 32) × (s .kept ≤ 2 ^ 32) × (count < 65536) ⌝ }
+    ensures { λ r. ⌜ (r ≡ added s (entry kind count)) × (r .inserts ≤ s .inserts + count) × (r .base ≤ s .base + count) × (r .kept ≤ s .kept + count) ⌝ }
 {
-    let kind = crate::layout::kind(rec, k);
-    let count = crate::layout::count(rec, n, k);
-    let linked = link(p.linked, p.last, kind);
-    let at = p.at;
+    let linked = link(s.linked, s.last, kind);
     if kind == 2 {
-        let to = at + count;
-        let text = &rec[at..to];
-        if !utf8::well_formed(text) {
-            return Passed::IllFormed;
-        }
-        let chars = utf8::num_chars(text);
-        return Passed::On(Pass {
-            at: to,
+        return Sums {
+            inserts: s.inserts + count,
             last: kind,
             linked,
-            base: p.base,
-            target: p.target + chars,
-        });
+            base: s.base,
+            kept: s.kept,
+        };
     }
+    let base = s.base + count;
     if kind == 1 {
-        return Passed::On(Pass {
-            at,
+        return Sums {
+            inserts: s.inserts,
             last: kind,
             linked,
-            base: p.base + count,
-            target: p.target + count,
-        });
+            base,
+            kept: s.kept + count,
+        };
     }
-    Passed::On(Pass {
-        at,
+    Sums {
+        inserts: s.inserts,
         last: kind,
         linked,
-        base: p.base + count,
-        target: p.target,
-    })
+        base,
+        kept: s.kept,
+    }
 }
 
-pub(crate) fn go_through(rec: &[u8], n: usize) -> Body
-    requires { ⌜ (n ≡ recordsOf (now rec)) × Sound (now rec) ⌝ }
-    ensures { λ r. ⌜ r ≡ outcome (now (rec .entry)) 0 (start (now (rec .entry))) ⌝ }
+pub(crate) fn sum_up(rec: &[u8], n: usize) -> Entries
+    requires { ⌜ (n ≡ recordsOf (now rec)) × (n ≤ 1024) × (textStart n ≤ length (now rec)) ⌝ }
+    ensures { λ r. ⌜ r ≡ entriesOf (now (rec .entry)) ⌝ }
 {
-    let mut p = Pass {
-        at: crate::layout::text_start(n),
+    let mut s = Sums {
+        inserts: 0,
         last: 0,
         linked: true,
         base: 0,
-        target: 0,
+        kept: 0,
     };
     let mut k = 0;
     while k < n {
-        match step(rec, n, k, p) {
-            Passed::IllFormed => return Body::IllFormed,
-            Passed::On(q) => {
-                p = q;
+        let kind = crate::layout::kind(rec, k);
+        let count = crate::layout::count(rec, n, k);
+        if !is_sound(kind, count) {
+            return Entries::Unsound;
+        }
+        s = add(s, kind, count);
+        k += 1;
+    }
+    Entries::Of(s)
+}
+
+// Whether no insert begins with a continuation.
+fn start_well(rec: &[u8], n: usize) -> bool
+    requires { ⌜ (n ≡ recordsOf (now rec)) × Sound (now rec) ⌝ }
+    ensures { λ r. ⌜ r ≡ startWell (entries (now (rec .entry))) (drop (textStart n) (now (rec .entry))) ⌝ }
+{
+    let mut at = crate::layout::text_start(n);
+    let mut k = 0;
+    while k < n {
+        let kind = crate::layout::kind(rec, k);
+        if kind == 2 {
+            let count = crate::layout::count(rec, n, k);
+            if utf8::core::continues(rec[at]) {
+                return false;
             }
+            at += count;
         }
         k += 1;
     }
-    Body::Of {
-        linked: p.linked,
-        base: p.base,
-        target: p.target,
+    true
+}
+
+// An insert that isn't well-formed, or how many characters are inserted.
+pub(crate) enum Inserted {
+    IllFormed,
+    Chars(usize),
+}
+
+// All inserts at once: where the whole is well-formed, each is that begins with no continuation.
+pub(crate) fn inserted_chars(rec: &[u8], n: usize, text: usize) -> Inserted
+    requires { ⌜ (n ≡ recordsOf (now rec)) × (text ≡ textBytesOf (now rec)) × Sound (now rec) ⌝ }
+    ensures { λ r. ⌜ r ≡ insertedOf (now (rec .entry)) ⌝ }
+{
+    let from = crate::layout::text_start(n);
+    let to = from + text;
+    let all = &rec[from..to];
+    if !utf8::well_formed(all) {
+        return Inserted::IllFormed;
     }
+    let chars = utf8::num_chars(all);
+    if chars < text {
+        if !start_well(rec, n) {
+            return Inserted::IllFormed;
+        }
+    }
+    Inserted::Chars(chars)
 }
 
 // Where the text of record k begins, were it an insert.

@@ -71,29 +71,23 @@ pub fn check(rec: &[u8]) -> Fact
     }
     let n = layout::records(rec);
     let text = layout::text_bytes(rec);
-    let checks::Entries::Inserts(inserts) = checks::sum_inserts(rec, n) else {
+    let checks::Entries::Of(sums) = checks::sum_up(rec, n) else {
         return Fact::Refused(Refusal::Entry);
     };
-    if inserts != text {
+    if sums.inserts != text {
         return Fact::Refused(Refusal::Entry);
     }
-    let checks::Body::Of {
-        linked,
-        base,
-        target,
-    } = checks::go_through(rec, n)
-    else {
+    let checks::Inserted::Chars(chars) = checks::inserted_chars(rec, n, text) else {
         return Fact::Refused(Refusal::Utf8);
     };
-    if !linked {
+    if !sums.linked {
         return Fact::Refused(Refusal::Neighbours);
     }
-    let stated_base = layout::base(rec);
-    if base != stated_base {
+    if sums.base != layout::base(rec) {
         return Fact::Refused(Refusal::Sums);
     }
-    let stated_target = layout::target(rec);
-    if target != stated_target {
+    let target = sums.kept + chars;
+    if target != layout::target(rec) {
         return Fact::Refused(Refusal::Sums);
     }
     Fact::Is(layout::text_start(n) + text)

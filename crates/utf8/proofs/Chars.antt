@@ -31,6 +31,10 @@ module _ {A : Type 0} (p : A → Bool) where
   all-drop (suc k) [] e = refl
   all-drop (suc k) (x ∷ l) e = all-drop k l (split (p x) (allOf p l) e .1)
 
+  pub all-append : (l m : List A) → allOf p (l ++ m) ≡ (allOf p l && allOf p m)
+  all-append [] m = refl
+  all-append (x ∷ l) m = ap (λ b. p x && b) (all-append l m) ∙ sym (and-assoc (p x) (allOf p l) (allOf p m))
+
 -- ---- characters of any bytes
 
 -- the characters, with what stands loose before them, are all the bytes
@@ -127,7 +131,7 @@ pub rest-bad : (bs : List ℕ) → rest bs Bad ≡ false
 rest-bad [] = refl
 rest-bad (b ∷ bs) = refl
 
-any-range : (bs : List ℕ) (lo hi : ℕ) → rest bs (Of 0 lo hi) ≡ wellFormed bs
+pub any-range : (bs : List ℕ) (lo hi : ℕ) → rest bs (Of 0 lo hi) ≡ wellFormed bs
 any-range [] lo hi = refl
 any-range (b ∷ bs) lo hi = refl
 

@@ -11,7 +11,7 @@ use borrow.Author.Tests.{le-leb, lt-leb, leb-true, leb-false}
 use Rattle.utf8.specs.declared.Lead.{Lead}
 use Rattle.utf8.specs.declared.Lead.the-variants.{Bad, Of}
 use Rattle.utf8.specs.Form.{within, Row, rows, leadIn, leadOf}
-use Rattle.utf8.specs.Chars.{isCont}
+use Rattle.utf8.specs.Chars.{isCont, allOf}
 use Rattle.utf8.proofs.Tests.{both, holds, le-and}
 
 pub le-or-lt : (a b : ℕ) → (a ≤ b) ⊎ (b < a)
@@ -74,22 +74,28 @@ abbrev pub sane : Lead → Bool
 sane Bad = true
 sane (Of n lo hi) = leb 0x80 lo && leb hi 0xBF
 
-abbrev sane-rows : List Row → Bool
-sane-rows [] = true
-sane-rows (r ∷ rs) = sane (r .lead) && sane-rows rs
+-- at most three bytes follow
+abbrev pub short : Lead → Bool
+short Bad = true
+short (Of n lo hi) = leb n 3
 
-sane-in : (rs : List Row) (b : ℕ) → T (sane-rows rs) → T (sane (leadIn rs b))
+-- what holds of each row, and of a byte in none
+every : (p : Lead → Bool) (rs : List Row) (b : ℕ) → T (p Bad) → T (allOf (λ r. p (r .lead)) rs) → T (p (leadIn rs b))
 unfolding leadIn
-sane-in [] b t = tt
-sane-in (r ∷ rs) b t = let (p, q) = both (sane (r .lead)) (sane-rows rs) .0 t in go (within (r .first) (r .last) b) p (sane-in rs b q)
+every p [] b z t = z
+every p (r ∷ rs) b z t = let (f, g) = both (p (r .lead)) (allOf (λ r. p (r .lead)) rs) .0 t in go (within (r .first) (r .last) b) f (every p rs b z g)
   where
-    go : (u : Bool) → T (sane (r .lead)) → T (sane (leadIn rs b)) → T (sane (cond u (r .lead) (leadIn rs b)))
+    go : (u : Bool) → T (p (r .lead)) → T (p (leadIn rs b)) → T (p (cond u (r .lead) (leadIn rs b)))
     go true f g = f
     go false f g = g
 
 pub sane-lead : (b : ℕ) → T (sane (leadOf b))
 unfolding leadOf rows
-sane-lead b = sane-in rows b tt
+sane-lead b = every sane rows b tt tt
+
+pub short-lead : (b : ℕ) → T (short (leadOf b))
+unfolding leadOf rows
+short-lead b = every short rows b tt tt
 
 -- so what is no continuation is in none
 pub in-range : (lo hi b : ℕ) → T (sane (Of 0 lo hi)) → isCont b ≡ false → within lo hi b ≡ false

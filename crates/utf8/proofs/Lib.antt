@@ -6,3 +6,5 @@ pub mod Chars
 pub mod Cuts
 pub mod Texts
 pub mod Places
+pub mod Runs
+pub mod Steps

@@ -4,3 +4,4 @@ pub mod Chars
 pub mod Text
 pub mod Order
 pub mod Places
+pub mod Ascii

@@ -3,8 +3,14 @@ ghost use mathlib.Core.Path.{_≡_};
 ghost use mathlib.Core.List.{_++_};
 ghost use Prim.Native.Nat.{_+_, _≤_};
 ghost use lib.ListN.{length, take, drop};
-ghost use Rattle.utf8.specs.Chars.{takeChars};
+ghost use Rattle.utf8.specs.Chars.{isCont, takeChars};
 ghost use Rattle.utf8.specs.Order.{byteOrder};
+
+pub fn continues(b: u8) -> bool
+    ensures { λ r. ⌜ r ≡ isCont b ⌝ }
+{
+    crate::is_cont(b)
+}
 
 // How two texts stand in byte order.
 pub enum Ordering {

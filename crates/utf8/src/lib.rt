@@ -1,8 +1,12 @@
 // UTF-8 text in bytes (RFC 3629): is it well-formed, and how many characters has it?
 ghost use mathlib.Core.Path.{_≡_};
-ghost use Rattle.utf8.specs.Form.{leadOf, wellFormed};
+ghost use Prim.Native.Nat.{_≤_};
+ghost use lib.ListN.{length, take, drop};
+ghost use Rattle.utf8.specs.Form.{within, leadOf, whole, wellFormed};
+ghost use Rattle.utf8.specs.declared.Lead.the-variants.{Of};
 ghost use Rattle.utf8.specs.Chars.{isCont, numChars};
 
+mod ascii;
 pub mod core;
 
 // What a first byte asks for: how many bytes follow it, and the range of the second.
@@ -80,41 +84,87 @@ fn lead_of(b: u8) -> Lead
     }
 }
 
-// A byte at a time: `more` bytes are still due, the next one from lo to hi.
+fn in_range(b: u8, lo: u8, hi: u8) -> bool
+    ensures { λ r. ⌜ r ≡ within lo hi b ⌝ }
+{
+    lo <= b && b <= hi
+}
+
+// Whether the bytes that are due at `at` stand there: one, two or three, the first of them from lo to hi.
+fn one_due(text: &[u8], at: usize, lo: u8, hi: u8) -> bool
+    requires { ⌜ at ≤ length (now text) ⌝ }
+    ensures { λ r. ⌜ r ≡ whole (take 1 (drop at (now (text .entry)))) (Of 1 lo hi) ⌝ }
+{
+    if text.len() - at < 1 {
+        return false;
+    }
+    in_range(text[at], lo, hi)
+}
+
+fn two_due(text: &[u8], at: usize, lo: u8, hi: u8) -> bool
+    requires { ⌜ at ≤ length (now text) ⌝ }
+    ensures { λ r. ⌜ r ≡ whole (take 2 (drop at (now (text .entry)))) (Of 2 lo hi) ⌝ }
+{
+    if text.len() - at < 2 {
+        return false;
+    }
+    if !in_range(text[at], lo, hi) {
+        return false;
+    }
+    is_cont(text[at + 1])
+}
+
+fn three_due(text: &[u8], at: usize, lo: u8, hi: u8) -> bool
+    requires { ⌜ at ≤ length (now text) ⌝ }
+    ensures { λ r. ⌜ r ≡ whole (take 3 (drop at (now (text .entry)))) (Of 3 lo hi) ⌝ }
+{
+    if text.len() - at < 3 {
+        return false;
+    }
+    if !in_range(text[at], lo, hi) {
+        return false;
+    }
+    if !is_cont(text[at + 1]) {
+        return false;
+    }
+    is_cont(text[at + 2])
+}
+
+fn due(text: &[u8], at: usize, more: usize, lo: u8, hi: u8) -> bool
+    requires { ⌜ (at ≤ length (now text)) × (more ≤ 3) ⌝ }
+    ensures { λ r. ⌜ r ≡ whole (take more (drop at (now (text .entry)))) (Of more lo hi) ⌝ }
+{
+    if more == 1 {
+        return one_due(text, at, lo, hi);
+    }
+    if more == 2 {
+        return two_due(text, at, lo, hi);
+    }
+    if more == 3 {
+        return three_due(text, at, lo, hi);
+    }
+    true
+}
+
+// A run of ASCII bytes at a time, or one other character.
 pub fn well_formed(text: &[u8]) -> bool
     ensures { λ r. ⌜ r ≡ wellFormed (now (text .entry)) ⌝ }
 {
-    let mut more: usize = 0;
-    let mut lo: u8 = 0x80;
-    let mut hi: u8 = 0xBF;
     let mut i = 0;
     while i < text.len() {
         let b = text[i];
-        if more == 0 {
-            match lead_of(b) {
-                Lead::Bad => return false,
-                Lead::Of {
-                    more: m,
-                    lo: l,
-                    hi: h,
-                } => {
-                    more = m;
-                    lo = l;
-                    hi = h;
-                }
-            }
+        if b < 0x80 {
+            i = ascii::run(text, i);
         } else {
-            if b < lo {
+            let Lead::Of { more, lo, hi } = lead_of(b) else {
+                return false;
+            };
+            let at = i + 1;
+            if !due(text, at, more, lo, hi) {
                 return false;
             }
-            if hi < b {
-                return false;
-            }
-            more -= 1;
-            lo = 0x80;
-            hi = 0xBF;
+            i = at + more;
         }
-        i += 1;
     }
-    more == 0
+    true
 }

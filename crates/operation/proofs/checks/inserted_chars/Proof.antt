@@ -1,0 +1,57 @@
+use Rattle.operation.proofs.Checking.{text-ill, text-stops, text-starts, text-plain}
+use borrow.Author.Needs.{needs}
+use Rattle.operation.proofs.checks.inserted_chars.Statement.{statement}
+use Rattle.operation.proofs.checks.inserted_chars.Tie as tie
+
+text-start-requires : tie.Need-text-start-requires
+text-start-requires c κs = search needs
+
+add-to : tie.Need-add-to
+add-to c = search needs
+
+sub-all : tie.Need-sub-all
+sub-all c = search needs
+
+part-all-start : tie.Need-part-all-start
+part-all-start c = search needs
+
+part-all-end : tie.Need-part-all-end
+part-all-end c = search needs
+
+well-formed-requires : tie.Need-well-formed-requires
+well-formed-requires c κs = search needs
+
+returns : tie.Need-returns
+returns c = search text-ill
+
+num-chars-requires : tie.Need-num-chars-requires
+num-chars-requires c κs = search needs
+
+start-well-requires : tie.Need-start-well-requires
+start-well-requires c κs = search needs
+
+returns-2 : tie.Need-returns-2
+returns-2 c = search text-stops
+
+returns-3 : tie.Need-returns-3
+returns-3 c = search text-starts
+
+returns-4 : tie.Need-returns-4
+returns-4 c = search text-plain
+
+pub inserted-chars-spec : {M : Type 1} → statement M
+inserted-chars-spec =
+    tie.close
+    (tie.spec
+    text-start-requires
+    add-to
+    sub-all
+    part-all-start
+    part-all-end
+    well-formed-requires
+    returns
+    num-chars-requires
+    start-well-requires
+    returns-2
+    returns-3
+    returns-4)

@@ -1,0 +1,173 @@
+-- ASCII bytes: eight seen at once, and a run of them passed.
+use Prim.Native.Nat.{ℕ, zero, suc, _+_, _*_, _-_, _/_, _%_, _^_, _≤_, _<_}
+use native.Mathlib.Omega.{arith}
+use mathlib.Core.Path.{_≡_, refl, sym, ap, ap₂, _∙_}
+use mathlib.Core.Logic.{⊎-elim}
+use mathlib.Core.Bool.{Bool, true, false, _&&_}
+use mathlib.Core.List.{List, [], _∷_}
+use lib.Dec.{T, eqb, lit<, lit≤}
+use lib.ListN.{length, getD, take, drop, length-take, length-drop}
+use lib.Seq.{take-add, drop-drop, getD-drop}
+use lib.Pow as Pow
+use lib.Bits.{bitAnd, bitOr, and-block, and-high, or-shifted-r}
+use borrow.Author.Tests.{lt-ltb, le-ltb, ltb-true, ne-eqb}
+use Rattle.utf8.specs.declared.Lead.the-variants.{Of}
+use Rattle.utf8.specs.Form.{rows, leadOf, wellFormed}
+use Rattle.utf8.specs.Chars.{allOf}
+use Rattle.utf8.specs.Ascii.{isAscii, wordOf, Runs, RunsOut}
+use Rattle.utf8.proofs.Tests.{holds, known}
+use Rattle.utf8.proofs.Leads.{le-or-lt, lead-row}
+use Rattle.utf8.proofs.Chars.{split, all-append}
+use Rattle.utf8.proofs.Walk.{next}
+
+pub ascii : (b : ℕ) → b < 0x80 → isAscii b ≡ true
+unfolding isAscii
+ascii b h = lt-ltb b 0x80 h
+
+pub not-ascii : (b : ℕ) → 0x80 ≤ b → isAscii b ≡ false
+unfolding isAscii
+not-ascii b h = le-ltb b 0x80 h
+
+-- every element is a byte
+abbrev pub Bytes : List ℕ → Type 0
+Bytes l = (k : ℕ) → getD l k 0 < 256
+
+-- ---- a word
+
+-- the top bit of each of n bytes
+tops : ℕ → ℕ
+tops zero = 0
+tops (suc n) = tops n * 2 ^ 8 + 128
+
+top : (b : ℕ) → b < 256 → eqb (bitAnd b 128) 0 ≡ isAscii b
+top b h =
+    let e : bitAnd b 128 ≡ b / 2 ^ 7 % 2 ^ 1 * 2 ^ 7 = and-high b 1 7 in
+    let f : (q : ℕ) → b / 2 ^ 7 ≡ q → bitAnd b 128 ≡ q % 2 ^ 1 * 2 ^ 7 = λ q x. e ∙ ap (λ z. z % 2 ^ 1 * 2 ^ 7) x in
+    ⊎-elim (λ l. ap (λ x. eqb x 0) (f 1 (omega arith)) ∙ sym (not-ascii b l)) (λ l. ap (λ x. eqb x 0) (f 0 (omega arith)) ∙ sym (ascii b l)) (le-or-lt 0x80 b)
+
+blocks : (x y : ℕ) → eqb (x * 2 ^ 8 + y) 0 ≡ (eqb y 0 && eqb x 0)
+blocks zero zero = refl
+blocks (suc x) zero = ne-eqb (suc x * 2 ^ 8 + 0) 0 (λ z. absurd (omega arith)) ∙ sym (ne-eqb (suc x) 0 (λ z. absurd (omega arith)))
+blocks x (suc y) = ne-eqb (x * 2 ^ 8 + suc y) 0 (λ z. absurd (omega arith)) ∙ ap (λ b. b && eqb x 0) (sym (ne-eqb (suc y) 0 (λ z. absurd (omega arith))))
+
+no-tops : (bs : List ℕ) → Bytes bs → eqb (bitAnd (wordOf bs) (tops (length bs))) 0 ≡ allOf isAscii bs
+unfolding tops
+no-tops [] h = refl
+no-tops (b ∷ bs) h =
+    ap (λ x. eqb x 0) (and-block 8 (wordOf bs) (tops (length bs)) b 128 (h 0) (lit< tt))
+    ∙ blocks (bitAnd (wordOf bs) (tops (length bs))) (bitAnd b 128)
+    ∙ ap₂ _&&_ (top b (h 0)) (no-tops bs (λ k. h (suc k)))
+
+bytes-take : (n : ℕ) (l : List ℕ) → Bytes l → Bytes (take n l)
+bytes-take zero l h k = lit< tt
+bytes-take (suc n) [] h k = lit< tt
+bytes-take (suc n) (x ∷ l) h zero = h 0
+bytes-take (suc n) (x ∷ l) h (suc k) = bytes-take n l (λ j. h (suc j)) k
+
+pub eight-ascii : (t : List ℕ) (at x : ℕ) → x ≡ wordOf (take 8 (drop at t)) → at + 8 ≤ length t → Bytes t → eqb (bitAnd x 0x8080_8080_8080_8080) 0 ≡ allOf isAscii (take 8 (drop at t))
+unfolding tops
+eight-ascii t at x e l h =
+    let bs = take 8 (drop at t) in
+    let n : length bs ≡ 8 = simp (length-take, length-drop) (omega arith) in
+    ap₂ (λ y m. eqb (bitAnd y (tops m)) 0) e (sym n) ∙ no-tops bs (bytes-take 8 (drop at t) (λ k. rw getD-drop (h (at + k))))
+
+-- one more byte on top
+up : (k : ℕ) {y : ℕ} (x b : ℕ) → y ≡ x → x < 2 ^ k → b < 256 → 8 + k ≤ 64 → bitOr y ((b * 2 ^ k) % 2 ^ 64) ≡ b * 2 ^ k + x
+up k x b e l h m = ap₂ bitOr e (Pow.shl-exact 8 k 64 h m) ∙ or-shifted-r b k x l
+
+eight-bytes : (t : List ℕ) (at : ℕ) → at + 8 ≤ length t
+    → take 8 (drop at t) ≡ getD t at 0 ∷ getD t (at + 1) 0 ∷ getD t (at + 2) 0 ∷ getD t (at + 3) 0 ∷ getD t (at + 4) 0 ∷ getD t (at + 5) 0 ∷ getD t (at + 6) 0 ∷ getD t (at + 7) 0 ∷ []
+eight-bytes t at h =
+    let step : (j : ℕ) → j < 8 → drop (at + j) t ≡ getD t (at + j) 0 ∷ drop (at + suc j) t = λ j l. let e : at + j + 1 ≡ at + suc j = omega arith in next t (at + j) (omega arith) ∙ ap (λ i. getD t (at + j) 0 ∷ drop i t) e in
+    rw (next t at (omega arith), step 1 (lit< tt), step 2 (lit< tt), step 3 (lit< tt), step 4 (lit< tt), step 5 (lit< tt), step 6 (lit< tt), step 7 (lit< tt))
+
+word-bytes : (b₀ b₁ b₂ b₃ b₄ b₅ b₆ b₇ : ℕ) → b₀ < 256 → b₁ < 256 → b₂ < 256 → b₃ < 256 → b₄ < 256 → b₅ < 256 → b₆ < 256 → b₇ < 256
+    → bitOr (bitOr (bitOr (bitOr (bitOr (bitOr (bitOr b₀ ((b₁ * 2 ^ 8) % 2 ^ 64)) ((b₂ * 2 ^ 16) % 2 ^ 64)) ((b₃ * 2 ^ 24) % 2 ^ 64)) ((b₄ * 2 ^ 32) % 2 ^ 64)) ((b₅ * 2 ^ 40) % 2 ^ 64)) ((b₆ * 2 ^ 48) % 2 ^ 64)) ((b₇ * 2 ^ 56) % 2 ^ 64)
+    ≡ wordOf (b₀ ∷ b₁ ∷ b₂ ∷ b₃ ∷ b₄ ∷ b₅ ∷ b₆ ∷ b₇ ∷ [])
+word-bytes b₀ b₁ b₂ b₃ b₄ b₅ b₆ b₇ h₀ h₁ h₂ h₃ h₄ h₅ h₆ h₇ =
+    let x₁ = b₁ * 2 ^ 8 + b₀ in
+    let x₂ = b₂ * 2 ^ 16 + x₁ in
+    let x₃ = b₃ * 2 ^ 24 + x₂ in
+    let x₄ = b₄ * 2 ^ 32 + x₃ in
+    let x₅ = b₅ * 2 ^ 40 + x₄ in
+    let x₆ = b₆ * 2 ^ 48 + x₅ in
+    up 56 x₆ b₇ (up 48 x₅ b₆ (up 40 x₄ b₅ (up 32 x₃ b₄ (up 24 x₂ b₃ (up 16 x₁ b₂ (up 8 b₀ b₁ refl (omega arith) h₁ (lit≤ tt)) (omega arith) h₂ (lit≤ tt)) (omega arith) h₃ (lit≤ tt)) (omega arith) h₄ (lit≤ tt)) (omega arith) h₅ (lit≤ tt)) (omega arith) h₆ (lit≤ tt)) (omega arith) h₇ (lit≤ tt)
+    ∙ omega arith
+
+pub word-eight : (t : List ℕ) (at : ℕ) {w₀ w₁ w₂ w₃ w₄ w₅ w₆ w₇ : ℕ}
+    → w₀ ≡ getD t at 0 → w₁ ≡ getD t (at + 1) 0 → w₂ ≡ getD t (at + 2) 0 → w₃ ≡ getD t (at + 3) 0 → w₄ ≡ getD t (at + 4) 0 → w₅ ≡ getD t (at + 5) 0 → w₆ ≡ getD t (at + 6) 0 → w₇ ≡ getD t (at + 7) 0
+    → at + 8 ≤ length t → Bytes t
+    → bitOr (bitOr (bitOr (bitOr (bitOr (bitOr (bitOr w₀ ((w₁ * 2 ^ 8) % 2 ^ 64)) ((w₂ * 2 ^ 16) % 2 ^ 64)) ((w₃ * 2 ^ 24) % 2 ^ 64)) ((w₄ * 2 ^ 32) % 2 ^ 64)) ((w₅ * 2 ^ 40) % 2 ^ 64)) ((w₆ * 2 ^ 48) % 2 ^ 64)) ((w₇ * 2 ^ 56) % 2 ^ 64)
+    ≡ wordOf (take 8 (drop at t))
+word-eight t at e₀ e₁ e₂ e₃ e₄ e₅ e₆ e₇ h b =
+    rw (e₀, e₁, e₂, e₃, e₄, e₅, e₆, e₇)
+    (word-bytes (getD t at 0) (getD t (at + 1) 0) (getD t (at + 2) 0) (getD t (at + 3) 0) (getD t (at + 4) 0) (getD t (at + 5) 0) (getD t (at + 6) 0) (getD t (at + 7) 0) (b at) (b (at + 1)) (b (at + 2)) (b (at + 3)) (b (at + 4)) (b (at + 5)) (b (at + 6)) (b (at + 7))
+    ∙ ap wordOf (sym (eight-bytes t at h)))
+
+-- ---- two parts next to each other
+
+parts : (t : List ℕ) (at n m : ℕ) → allOf isAscii (take (n + m) (drop at t)) ≡ (allOf isAscii (take n (drop at t)) && allOf isAscii (take m (drop (at + n) t)))
+parts t at n m = ap (allOf isAscii) (take-add n m (drop at t)) ∙ all-append isAscii (take n (drop at t)) (take m (drop n (drop at t))) ∙ ap (λ l. allOf isAscii (take n (drop at t)) && allOf isAscii (take m l)) (drop-drop n at t)
+
+module _ (t : List ℕ) (at n m : ℕ) (a : Bool) (p : a ≡ allOf isAscii (take n (drop at t))) where
+  pub both-parts : (b : Bool) → a ≡ true → b ≡ allOf isAscii (take m (drop (at + n) t)) → b ≡ allOf isAscii (take (n + m) (drop at t))
+  both-parts b e q = q ∙ sym (parts t at n m ∙ ap (λ c. c && allOf isAscii (take m (drop (at + n) t))) (sym p ∙ e))
+
+  pub first-part : a ≡ false → a ≡ allOf isAscii (take (n + m) (drop at t))
+  first-part e = e ∙ sym (parts t at n m ∙ ap (λ c. c && allOf isAscii (take m (drop (at + n) t))) (sym p ∙ e))
+
+-- ---- a run
+
+module _ (t : List ℕ) (at : ℕ) where
+  pub runs-none : at ≤ length t → Runs t at at
+  runs-none h = let z : at - at ≡ 0 = omega arith in record { above = omega arith; below = h; plain = rw z tt }
+
+  pub runs-more : (i n : ℕ) {b : Bool} → Runs t at i → b ≡ allOf isAscii (take n (drop i t)) → b ≡ true → i + n ≤ length t → Runs t at (i + n)
+  runs-more i n r p e h =
+      let a = r .above in
+      let z : i + n - at ≡ i - at + n = omega arith in
+      let w : at + (i - at) ≡ i = omega arith in
+      record {
+        above = omega arith;
+        below = h;
+        plain = known (ap (λ j. allOf isAscii (take j (drop at t))) z ∙ parts t at (i - at) n ∙ ap₂ _&&_ (holds (allOf isAscii (take (i - at) (drop at t))) (r .plain)) (ap (λ j. allOf isAscii (take n (drop j t))) w ∙ sym p ∙ e));
+      }
+
+  pub runs-one : (i : ℕ) → Runs t at i → i < length t → getD t i 0 < 0x80 → Runs t at (i + 1)
+  runs-one i r h l = runs-more i 1 r refl (rw (next t i h, ascii (getD t i 0) l)) (omega arith)
+
+  pub runs-join : (i j : ℕ) → Runs t at i → Runs t i j → Runs t at j
+  runs-join i j r s =
+      let a = s .above in
+      let z : i + (j - i) ≡ j = omega arith in
+      let b = s .below in
+      rw z at (runs-more i (j - i) r refl (holds (allOf isAscii (take (j - i) (drop i t))) (s .plain)) (omega arith))
+
+lead-ascii : (b : ℕ) → isAscii b ≡ true → leadOf b ≡ Of 0 0x80 0xBF
+unfolding isAscii rows
+lead-ascii b e = let l = ltb-true b 0x80 e in sym (lead-row 0 0x00 0x7F {b = b} tt (omega arith) (omega arith))
+
+ascii-well : (n : ℕ) (l : List ℕ) → allOf isAscii (take n l) ≡ true → wellFormed (drop n l) ≡ wellFormed l
+ascii-well zero l e = refl
+ascii-well (suc n) [] e = refl
+ascii-well (suc n) (b ∷ l) e =
+    let (p, q) = split (isAscii b) (allOf isAscii (take n l)) e in
+    ascii-well n l q ∙ rw (lead-ascii b p)
+
+pub runs-well : (t : List ℕ) (at to : ℕ) → Runs t at to → wellFormed (drop to t) ≡ wellFormed (drop at t)
+runs-well t at to r =
+    let a = r .above in
+    let z : at + (to - at) ≡ to = omega arith in
+    ap (λ j. wellFormed (drop j t)) (sym z) ∙ ap wellFormed (sym (drop-drop (to - at) at t)) ∙ ascii-well (to - at) (drop at t) (holds (allOf isAscii (take (to - at) (drop at t))) (r .plain))
+
+pub runs-out : (t : List ℕ) (at i j to : ℕ) → Runs t at i → Runs t i j → RunsOut t j to → RunsOut t at to
+runs-out t at i j to p q r = record { runs = runs-join t at j to (runs-join t at i j p q) (r .runs); out = r .out }
+
+-- a run that begins at an ASCII byte goes on
+pub runs-on : (t : List ℕ) (at to : ℕ) → RunsOut t at to → at < length t → getD t at 0 < 0x80 → at < to
+runs-on t at to r h l =
+    let a = r .runs .above in
+    ⊎-elim
+    (λ z. let e : to ≡ at = omega arith in let o : 0x80 ≤ getD t at 0 = rw e at (r .out (omega arith)) in absurd (omega arith))
+    (λ z. z)
+    (le-or-lt to at)
