@@ -46,7 +46,7 @@ module _ (edit : List ℕ) (b : Bytes edit) (z : recordFault edit ≡ 0) where
   pub edit-holds : Holds (ops edit) edit
   edit-holds = record { fault = z; edit = refl; bytes-are = sym (encode-ops edit z b) }
 
-  pub lays : (cur cur′ : List ℕ) (size : ℕ) → 35848 ≤ length cur → size ≡ sizeOf edit → cur′ ≡ over 0 (take (size - 0) (drop 0 edit)) cur → Holds (ops edit) cur′
+  pub lays : (cur cur′ : List ℕ) (size : ℕ) → sizeOf edit ≤ length cur → size ≡ sizeOf edit → cur′ ≡ over 0 (take (size - 0) (drop 0 edit)) cur → Holds (ops edit) cur′
   lays cur cur′ size room ps e =
       let h = limits edit .0 (faultless edit .0 z .in-limits) in
       let k : size - 0 ≡ sizeOf edit = omega (arith, ps) in

@@ -40,27 +40,24 @@ front-holds s buffer g =
     record { fault = fault-encode s more g; edit = ops-encode s more; bytes-are = take-at (encode s) more _ (sym (size-encode s more)) }
 
 module _ (x y : Seq) (p : Pair) (d : SizedBoth (transform order x y) p) (we : within (p .e) ≡ true) (z : ℕ) (pz : z ≡ sizeIn (p .e)) where
-  pub pass-size : z ≤ 35848
-  pass-size = omega (arith, pz ∙ sized-length _ (p .e) (d .left), encode-small _ (within-fits _ (p .e) (d .left) we))
-
   left-good : Good (transform order x y .left)
   unfolding transform
   left-good = record { is-built = transform-built keepBoth order x y .0; in-limits = within-fits _ (p .e) (d .left) we }
 
-  pub pass-room : (next next′ : List ℕ) → 35848 ≤ length next → length next′ ≡ length next → z ≤ length next′
-  pass-room next next′ h e = omega (arith, pass-size, h, e)
+  pub pass-room : (next next′ : List ℕ) → sizeIn (p .e) ≤ length next → length next′ ≡ length next → z ≤ length next′
+  pass-room next next′ h e = omega (arith, pz, h, e)
 
-  pub passes : (next next′ out out′ cur cur′ : List ℕ) → within (p .f) ≡ true → 35848 ≤ length next → 35848 ≤ length cur
+  pub passes : (next next′ out out′ cur cur′ : List ℕ) → within (p .f) ≡ true → sizeIn (p .e) ≤ length next → sizeIn (p .e) ≤ length cur
       → Writes (p .e .records) (transform order x y .left) next next′ → Writes (p .f .records) (transform order x y .right) out out′
       → cur′ ≡ over 0 (take (z - 0) (drop 0 next′)) cur → Passes (transform order x y) out cur′ out′
   passes next next′ out out′ cur cur′ wf room space wl wr e =
       let s = transform order x y in
       let fl = within-fits _ (p .e) (d .left) we in
       let fr = within-fits _ (p .f) (d .right) wf in
-      let n : next′ ≡ atFront (encode (s .left)) next = written-front (s .left) _ next (wl .emitter) (wl .before) next′ (fits-limits (s .left) .0 fl) (omega (arith, encode-small (s .left) fl, room)) (wl .done) (d .left .records) (wl .is) in
+      let n : next′ ≡ atFront (encode (s .left)) next = written-front (s .left) _ next (wl .emitter) (wl .before) next′ (fits-limits (s .left) .0 fl) (omega (arith, sized-length (s .left) (p .e) (d .left), room)) (wl .done) (d .left .records) (wl .is) in
       let l : z - 0 ≡ length (encode (s .left)) = omega (arith, pz ∙ sized-length (s .left) (p .e) (d .left)) in
       let t : take (z - 0) (drop 0 next′) ≡ encode (s .left) = ap₂ take l n ∙ atFront-take (encode (s .left)) next in
-      let c : cur′ ≡ atFront (encode (s .left)) cur = e ∙ ap (λ u. over 0 u cur) t ∙ over-front (encode (s .left)) cur (omega (arith, encode-small (s .left) fl, space)) in
+      let c : cur′ ≡ atFront (encode (s .left)) cur = e ∙ ap (λ u. over 0 u cur) t ∙ over-front (encode (s .left)) cur (omega (arith, sized-length (s .left) (p .e) (d .left), space)) in
       record {
         holds = subst (Holds (s .left)) (sym c) (front-holds (s .left) cur left-good);
         given = λ h. written-front (s .right) _ out (wr .emitter) (wr .before) out′ (fits-limits (s .right) .0 fr) h (wr .done) (d .right .records) (wr .is);
@@ -80,6 +77,9 @@ module _ (x y : Seq) (p : Pair) (d : SizedBoth (transform order x y) p) where
 
   pub fit-right : Fit (transform order x y) → within (p .f) ≡ true
   fit-right f = sized-fits _ (p .f) (d .right) ∙ holds _ (f .right)
+
+  pub hand-wide : (room : ℕ) → length (encode (transform order x y .left)) ≤ room → sizeIn (p .e) ≤ room
+  hand-wide room h = omega (arith, sized-length (transform order x y .left) (p .e) (d .left), h)
 
   pub hand-bytes : (z : ℕ) → z ≡ sizeIn (p .f) → z ≡ length (encode (transform order x y .right))
   hand-bytes z e = e ∙ sized-length (transform order x y .right) (p .f) (d .right)

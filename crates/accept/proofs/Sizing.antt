@@ -1,9 +1,10 @@
 -- Both sides of a transform, sized by a run that writes nothing.
 use Prim.Native.Nat.{ℕ, _+_, _^_, _<_}
 use native.Mathlib.Omega.{arith}
-use mathlib.Core.Path.{_≡_, refl, sym, _∙_, subst}
+use mathlib.Core.Path.{_≡_, refl, sym, ap, _∙_, subst}
 use mathlib.Core.Bool.{Bool, true, false, not, _&&_, and-eq-true-iff}
 use mathlib.Core.List.{List, [], _∷_}
+use lib.Dec.{leb}
 use lib.ListN.{length}
 use borrow.Author.Tests.{not-true, not-false}
 use Rattle.utf8.specs.Order.{order}
@@ -54,3 +55,6 @@ module _ (p : Pair) (v : Bool) (e : v ≡ (within (p .e) && within (p .f))) (h :
 
 pub went-less : (a b : List ℕ) (s r : State) → Went (transformTurn order) (lefts keepBoth) 0 a b s [] r [] → length (ahead a (r .x)) + length (ahead b (r .y)) < length (ahead a (s .x)) + length (ahead b (s .y))
 went-less a b s r w = w .less
+
+pub place-is : (z w room : ℕ) → z ≡ w → leb z room ≡ leb w room
+place-is z w room e = ap (λ k. leb k room) e

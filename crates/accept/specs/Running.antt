@@ -1,8 +1,8 @@
 -- What the functions below `accept` promise each other. No entry's contract cites this.
-use Prim.Native.Nat.{ℕ, _+_, _*_, _^_, _≤_}
+use Prim.Native.Nat.{ℕ, _+_, _*_, _^_, _≤_, _<_}
 use mathlib.Core.Path.{_≡_}
 use mathlib.Core.Bool.{true, false}
-use mathlib.Core.List.{List, []}
+use mathlib.Core.List.{List, [], _∷_}
 use lib.Dec.{T}
 use lib.ListN.{length, take}
 use Rattle.utf8.specs.Text.{Char}
@@ -17,7 +17,7 @@ use Rattle.turns.specs.declared.core.State.{State}
 use Rattle.transform.specs.declared.core.Pair.{Pair}
 use Rattle.operational_transform.specs.Output.{atFront}
 use Rattle.log.specs.Log.{encodeAll, readableFrom}
-use Rattle.session.specs.Rows.{rebase}
+use Rattle.session.specs.Rows.{rule, rebase}
 use Rattle.accept.specs.declared.run.Spot.{Spot}
 use Rattle.accept.specs.declared.run.Run.{Run}
 use Rattle.accept.specs.declared.run.Run.the-variants as outcome
@@ -55,6 +55,11 @@ pub record GoesOn (s : Sides Char) (rec : List ℕ) (spot r : Spot) (cur′ : Li
   pub at-is : r .at ≡ spot .at + sizeOf rec
   pub bytes-are : r .bytes ≡ spot .bytes + length (encode (s .right))
 
+-- what e becomes on its way past the row vs has at most `room` bytes, each time
+pub data Narrow (room : ℕ) : Seq → List Seq → Type 0 where
+  none : {e : Seq} → Narrow room e []
+  more : {e v : Seq} {vs : List Seq} → length (encode (rule e v .left)) ≤ room → Narrow room (rule e v .left) vs → Narrow room e (v ∷ vs)
+
 -- the edit e moved past the row vs, in a buffer; the counterparts have so many bytes
 pub record Rebased (e : Seq) (vs : List Seq) (bytes : ℕ) (cur′ : List ℕ) : Type 0 where
   pub kept : rebase e vs .kept ≡ true
@@ -62,12 +67,14 @@ pub record Rebased (e : Seq) (vs : List Seq) (bytes : ℕ) (cur′ : List ℕ) :
   pub small : bytes ≤ 35848 * length vs
   pub holds : Holds (rebase e vs .edit) cur′
 
-abbrev pub RunsTo : Seq → List Seq → Run → List ℕ → Type 0
-RunsTo e vs (outcome.Refused x) cur′ = (x ≡ Limit) × (rebase e vs .kept ≡ false)
-RunsTo e vs (outcome.Kept b) cur′ = Rebased e vs b cur′
+-- in a buffer of `room` bytes; 35,848 are enough for any record
+abbrev pub RunsTo : ℕ → Seq → List Seq → Run → List ℕ → Type 0
+RunsTo room e vs (outcome.Refused x) cur′ = (x ≡ Limit) × (rebase e vs .kept ≡ false)
+RunsTo room e vs (outcome.Kept b) cur′ = Rebased e vs b cur′ × Narrow room e vs
+RunsTo room e vs outcome.Short cur′ = room < 35848
 
-pub record Runs (e : Seq) (vs : List Seq) (r : Run) (cur′ : List ℕ) : Type 0 where
-  pub runs : RunsTo e vs r cur′
+pub record Runs (room : ℕ) (e : Seq) (vs : List Seq) (r : Run) (cur′ : List ℕ) : Type 0 where
+  pub runs : RunsTo room e vs r cur′
 
 -- none of the transforms passes a limit, and the output has room for the counterparts
 pub record Roomy (e : Seq) (vs : List Seq) (out : List ℕ) : Type 0 where

@@ -6,14 +6,15 @@ use operation::Refusal;
 use transform::WrittenPair;
 ghost use mathlib.Core.Path.{_≡_};
 ghost use Prim.Native.Nat.{_+_, _-_, _^_, _≤_};
-ghost use lib.ListN.{length, take};
+ghost use lib.ListN.{length, take, drop};
 ghost use Rattle.operation.specs.Record.{ops, recordFault};
+ghost use Rattle.operation.specs.Layout.{sizeOf};
 ghost use Rattle.transform.specs.Pairs.{pairOf};
-ghost use Rattle.log.specs.Log.{countOf, sizeOfLog};
+ghost use Rattle.log.specs.Log.{countOf, sizeOfLog, revisions};
 ghost use Rattle.log.specs.Scan.{Found};
 ghost use Rattle.session.specs.Session.{acceptCall};
 ghost use Rattle.session.specs.Session.{append as appended};
-ghost use Rattle.accept.specs.Running.{Holds};
+ghost use Rattle.accept.specs.Running.{Holds, Narrow};
 ghost use Rattle.accept.specs.Accepting.{Admitted, Accepts, MovedPast};
 
 mod run;
@@ -42,8 +43,8 @@ fn newest(edit: &[u8], r: u64, log: &mut [u8], s: Scan, out: &mut [u8]) -> Writt
 
 // The edit's record at the front of a buffer.
 fn lay(cur: &mut [u8], edit: &[u8])
-    requires { ⌜ (recordFault (now edit) ≡ 0) × (35848 ≤ length (now cur)) ⌝ }
-    ensures { λ _. ⌜ Holds (ops (now (edit .entry))) (now (cur .exit)) ⌝ }
+    requires { ⌜ (recordFault (now edit) ≡ 0) × (sizeOf (now edit) ≤ length (now cur)) ⌝ }
+    ensures { λ _. ⌜ Holds (ops (now (edit .entry))) (now (cur .exit)) × (sizeOf (now (edit .entry)) ≤ length (now (cur .exit))) ⌝ }
 {
     let size = operation::core::size(edit);
     operational_transform::core::copy(cur, 0, edit, 0, size);
@@ -61,7 +62,7 @@ fn deliver(
     next: &mut [u8],
     bytes: usize,
 ) -> WrittenPair
-    requires { ⌜ Admitted (now edit) r (now log) s × (n ≡ countOf (now log) - r) × (35848 ≤ length (now cur)) × (35848 ≤ length (now next)) × MovedPast (now edit) r (now log) bytes (now cur) ⌝ }
+    requires { ⌜ Admitted (now edit) r (now log) s × (n ≡ countOf (now log) - r) × (sizeOf (now edit) ≤ length (now cur)) × (length (now next) ≡ length (now cur)) × MovedPast (now edit) r (now log) bytes (now cur) × Narrow (length (now cur)) (ops (now edit)) (drop r (revisions (now log))) ⌝ }
     ensures { λ x. ⌜ Accepts (now (edit .entry)) r (now (log .entry)) (now (out .entry)) x (now (log .exit)) (now (out .exit)) ⌝ }
 {
     let size = operation::core::size(cur);
@@ -77,6 +78,33 @@ fn deliver(
     WrittenPair::Bytes(size, bytes)
 }
 
+// In buffers of any length.
+fn small(
+    edit: &[u8],
+    r: u64,
+    log: &mut [u8],
+    s: Scan,
+    n: usize,
+    out: &mut [u8],
+    cur: &mut [u8],
+    next: &mut [u8],
+) -> WrittenPair
+    requires { ⌜ Admitted (now edit) r (now log) s × (n ≡ countOf (now log) - r) × (length (now next) ≡ length (now cur)) ⌝ }
+    ensures { λ x. ⌜ Accepts (now (edit .entry)) r (now (log .entry)) (now (out .entry)) x (now (log .exit)) (now (out .exit)) ⌝ }
+{
+    let size = operation::core::size(edit);
+    if cur.len() < size {
+        return large(edit, r, log, s, n, out);
+    }
+    lay(cur, edit);
+    match run::rebase(log, s.at, n, cur, next) {
+        run::Run::Refused(x) => WrittenPair::Refused(x),
+        run::Run::Kept(bytes) => deliver(edit, r, log, s, n, out, cur, next, bytes),
+        run::Run::Short => large(edit, r, log, s, n, out),
+    }
+}
+
+// In buffers in which every record has a place.
 fn past(
     edit: &[u8],
     r: u64,
@@ -87,24 +115,35 @@ fn past(
     cur: &mut [u8],
     next: &mut [u8],
 ) -> WrittenPair
-    requires { ⌜ Admitted (now edit) r (now log) s × (n ≡ countOf (now log) - r) × (35848 ≤ length (now cur)) × (35848 ≤ length (now next)) ⌝ }
+    requires { ⌜ Admitted (now edit) r (now log) s × (n ≡ countOf (now log) - r) × (35848 ≤ length (now cur)) × (length (now next) ≡ length (now cur)) ⌝ }
     ensures { λ x. ⌜ Accepts (now (edit .entry)) r (now (log .entry)) (now (out .entry)) x (now (log .exit)) (now (out .exit)) ⌝ }
 {
     lay(cur, edit);
     match run::rebase(log, s.at, n, cur, next) {
         run::Run::Refused(x) => WrittenPair::Refused(x),
         run::Run::Kept(bytes) => deliver(edit, r, log, s, n, out, cur, next, bytes),
+        // never: every record has a place
+        run::Run::Short => WrittenPair::Refused(Refusal::Room),
     }
 }
 
-// Past n revisions that came meanwhile. Only such an edit pays for the buffers.
-fn late(edit: &[u8], r: u64, log: &mut [u8], s: Scan, n: usize, out: &mut [u8]) -> WrittenPair
+fn large(edit: &[u8], r: u64, log: &mut [u8], s: Scan, n: usize, out: &mut [u8]) -> WrittenPair
     requires { ⌜ Admitted (now edit) r (now log) s × (n ≡ countOf (now log) - r) ⌝ }
     ensures { λ x. ⌜ Accepts (now (edit .entry)) r (now (log .entry)) (now (out .entry)) x (now (log .exit)) (now (out .exit)) ⌝ }
 {
     let mut cur = [0u8; 35848];
     let mut next = [0u8; 35848];
     past(edit, r, log, s, n, out, &mut cur, &mut next)
+}
+
+// Past n revisions that came meanwhile. Nearly all edits have a place in short buffers, which cost little to clear.
+fn late(edit: &[u8], r: u64, log: &mut [u8], s: Scan, n: usize, out: &mut [u8]) -> WrittenPair
+    requires { ⌜ Admitted (now edit) r (now log) s × (n ≡ countOf (now log) - r) ⌝ }
+    ensures { λ x. ⌜ Accepts (now (edit .entry)) r (now (log .entry)) (now (out .entry)) x (now (log .exit)) (now (out .exit)) ⌝ }
+{
+    let mut cur = [0u8; 1024];
+    let mut next = [0u8; 1024];
+    small(edit, r, log, s, n, out, &mut cur, &mut next)
 }
 
 // Into a log that can be read.
@@ -126,12 +165,7 @@ fn admit(edit: &[u8], r: u64, log: &mut [u8], s: Scan, out: &mut [u8]) -> Writte
     if r == count {
         return newest(edit, r, log, s, out);
     }
-    // Two calls: with one the compiler would inline `late`, and every accept would take its frame.
-    let n = (count - r) as usize;
-    if n == 1 {
-        return late(edit, r, log, s, 1, out);
-    }
-    late(edit, r, log, s, n, out)
+    late(edit, r, log, s, (count - r) as usize, out)
 }
 
 fn checked(edit: &[u8], r: u64, log: &mut [u8], out: &mut [u8]) -> WrittenPair

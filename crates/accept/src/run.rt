@@ -1,5 +1,4 @@
-// An edit is moved past revisions. It stands in a buffer of 35,848 bytes, the most that a record takes, and so does what it
-// becomes.
+// An edit is moved past revisions. It stands in a buffer, and what it becomes is written to another, of as many bytes.
 use operation::Refusal;
 use operation::core::Front;
 use operational_transform::core::Emitter;
@@ -10,6 +9,7 @@ ghost use mathlib.Core.Path.{_≡_};
 ghost use mathlib.Core.Bool.{true, _&&_};
 ghost use mathlib.Core.List.{[], _++_};
 ghost use Prim.Native.Nat.{_+_, _^_, _≤_, _<_};
+ghost use lib.Dec.{leb};
 ghost use lib.ListN.{length, take, drop};
 ghost use Rattle.utf8.specs.Order.{order};
 ghost use Rattle.operation.specs.Layout.{recordsOf};
@@ -18,23 +18,24 @@ ghost use Rattle.operation.specs.Record.{encode, ops, recordFault};
 ghost use Rattle.operation.specs.Front.{frontOp, Stands, Cut};
 ghost use Rattle.operational_transform.specs.Transform.{transformTurn, past, keepBoth, lefts};
 ghost use Rattle.operational_transform.specs.Transform.{transform as transformOf};
-ghost use Rattle.operational_transform.specs.Emit.{Under, Adds, within};
+ghost use Rattle.operational_transform.specs.Emit.{Under, Adds, within, sizeIn};
 ghost use Rattle.operational_transform.specs.Output.{atFront};
 ghost use Rattle.turns.specs.Turns.{liveIs, Chooses, Went};
 ghost use Rattle.transform.specs.Sides.{FirstWent, BothWent};
 ghost use Rattle.transform.specs.Pairs.{SizedBoth};
 ghost use Rattle.log.specs.Log.{editsIn};
-ghost use Rattle.accept.specs.Running.{Lie, Holds, Fit, EndsWith, Passes, GoesOn, Runs, Roomy, HandsOut};
+ghost use Rattle.accept.specs.Running.{Lie, Holds, Narrow, Fit, EndsWith, Passes, GoesOn, Runs, Roomy, HandsOut};
 
-// How many bytes the counterparts have, or why the run ended.
+// How many bytes the counterparts have, or why the run ended: a refusal, or buffers that are too short for what the edit becomes.
 pub(crate) enum Run {
     Kept(usize),
     Refused(Refusal),
+    Short,
 }
 
 // Both sides of one transform: the edit's takes its place, the revision's goes to the output as far as it has room.
 fn pass(cur: &mut [u8], na: usize, rec: &[u8], nb: usize, next: &mut [u8], out: &mut [u8], p: Pair)
-    requires { ⌜ (na ≡ recordsOf (now cur)) × (na ≤ 1024) × (nb ≡ recordsOf (now rec)) × (nb ≤ 1024) × (recordFault (now cur) ≡ 0) × (recordFault (now rec) ≡ 0) × (35848 ≤ length (now cur)) × (35848 ≤ length (now next)) × SizedBoth (transformOf order (ops (now cur)) (ops (now rec))) p × (within (p .e) ≡ true) × (within (p .f) ≡ true) ⌝ }
+    requires { ⌜ (na ≡ recordsOf (now cur)) × (na ≤ 1024) × (nb ≡ recordsOf (now rec)) × (nb ≤ 1024) × (recordFault (now cur) ≡ 0) × (recordFault (now rec) ≡ 0) × (sizeIn (p .e) ≤ length (now cur)) × (sizeIn (p .e) ≤ length (now next)) × SizedBoth (transformOf order (ops (now cur)) (ops (now rec))) p × (within (p .e) ≡ true) × (within (p .f) ≡ true) ⌝ }
     ensures { λ _. ⌜ Passes (transformOf order (ops (now (cur .entry))) (ops (now (rec .entry)))) (now (out .entry)) (now (cur .exit)) (now (out .exit)) ⌝ }
 {
     let e = p.e;
@@ -126,6 +127,15 @@ fn keep_limits(p: Pair) -> bool
     operational_transform::core::keeps_limits(f)
 }
 
+// Whether the edit's side has a place in so many bytes.
+fn has_place(p: Pair, room: usize) -> bool
+    requires { ⌜ Under (2 ^ 40) (p .e) ⌝ }
+    ensures { λ r. ⌜ r ≡ leb (sizeIn (p .e)) room ⌝ }
+{
+    let e = p.e;
+    operational_transform::core::size(e) <= room
+}
+
 // How far a run has come: where the next revision begins, and how many bytes the counterparts have.
 pub(crate) struct Spot {
     pub at: usize,
@@ -142,7 +152,7 @@ fn go_on(
     p: Pair,
     spot: Spot,
 ) -> Spot
-    requires { ⌜ (na ≡ recordsOf (now cur)) × (na ≤ 1024) × (nb ≡ recordsOf (now rec)) × (nb ≤ 1024) × (recordFault (now cur) ≡ 0) × (recordFault (now rec) ≡ 0) × (35848 ≤ length (now cur)) × (35848 ≤ length (now next)) × SizedBoth (transformOf order (ops (now cur)) (ops (now rec))) p × (within (p .e) ≡ true) × (within (p .f) ≡ true) × (spot .at ≤ 2 ^ 63) × (spot .bytes ≤ 2 ^ 40) ⌝ }
+    requires { ⌜ (na ≡ recordsOf (now cur)) × (na ≤ 1024) × (nb ≡ recordsOf (now rec)) × (nb ≤ 1024) × (recordFault (now cur) ≡ 0) × (recordFault (now rec) ≡ 0) × (sizeIn (p .e) ≤ length (now cur)) × (sizeIn (p .e) ≤ length (now next)) × SizedBoth (transformOf order (ops (now cur)) (ops (now rec))) p × (within (p .e) ≡ true) × (within (p .f) ≡ true) × (spot .at ≤ 2 ^ 63) × (spot .bytes ≤ 2 ^ 40) ⌝ }
     ensures { λ r. ⌜ GoesOn (transformOf order (ops (now (cur .entry))) (ops (now (rec .entry)))) (now (rec .entry)) spot r (now (cur .exit)) ⌝ }
 {
     let mut none = [0u8; 0];
@@ -155,8 +165,8 @@ fn go_on(
 
 // Past n revisions, whose records begin at `from`: the first whose transform passes a limit ends the run.
 pub(crate) fn rebase(log: &[u8], from: usize, n: usize, cur: &mut [u8], next: &mut [u8]) -> Run
-    requires { ⌜ (from ≤ length (now log)) × (n ≤ 256) × Lie n (drop from (now log)) × Holds (ops (now cur)) (now cur) × (35848 ≤ length (now cur)) × (35848 ≤ length (now next)) ⌝ }
-    ensures { λ r. ⌜ Runs (ops (now (cur .entry))) (editsIn n (drop from (now (log .entry)))) r (now (cur .exit)) ⌝ }
+    requires { ⌜ (from ≤ length (now log)) × (n ≤ 256) × Lie n (drop from (now log)) × Holds (ops (now cur)) (now cur) × (length (now next) ≡ length (now cur)) ⌝ }
+    ensures { λ r. ⌜ Runs (length (now (cur .entry))) (ops (now (cur .entry))) (editsIn n (drop from (now (log .entry)))) r (now (cur .exit)) ⌝ }
 {
     let mut spot = Spot { at: from, bytes: 0 };
     let mut left = n;
@@ -175,6 +185,9 @@ pub(crate) fn rebase(log: &[u8], from: usize, n: usize, cur: &mut [u8], next: &m
                 if !keep_limits(p) {
                     break 'run Run::Refused(Refusal::Limit);
                 }
+                if !has_place(p, next.len()) {
+                    break 'run Run::Short;
+                }
                 break p;
             }
             s = turn(cur, na, rec, nb, s);
@@ -186,7 +199,7 @@ pub(crate) fn rebase(log: &[u8], from: usize, n: usize, cur: &mut [u8], next: &m
 
 // The counterpart of the revision whose record is `rec` goes to its place in the output; both sides keep the limits.
 fn hand(cur: &mut [u8], rec: &[u8], next: &mut [u8], out: &mut [u8], spot: Spot) -> Spot
-    requires { ⌜ (recordFault (now cur) ≡ 0) × (recordFault (now rec) ≡ 0) × (35848 ≤ length (now cur)) × (35848 ≤ length (now next)) × Fit (transformOf order (ops (now cur)) (ops (now rec))) × (spot .at ≤ 2 ^ 63) × (spot .bytes + length (encode (transformOf order (ops (now cur)) (ops (now rec)) .right)) ≤ length (now out)) ⌝ }
+    requires { ⌜ (recordFault (now cur) ≡ 0) × (recordFault (now rec) ≡ 0) × (length (encode (transformOf order (ops (now cur)) (ops (now rec)) .left)) ≤ length (now cur)) × (length (now next) ≡ length (now cur)) × Fit (transformOf order (ops (now cur)) (ops (now rec))) × (spot .at ≤ 2 ^ 63) × (spot .bytes + length (encode (transformOf order (ops (now cur)) (ops (now rec)) .right)) ≤ length (now out)) ⌝ }
     ensures { λ r. ⌜ GoesOn (transformOf order (ops (now (cur .entry))) (ops (now (rec .entry)))) (now (rec .entry)) spot r (now (cur .exit)) × (now (out .exit) ≡ take (spot .bytes) (now (out .entry)) ++ atFront (encode (transformOf order (ops (now (cur .entry))) (ops (now (rec .entry))) .right)) (drop (spot .bytes) (now (out .entry)))) ⌝ }
 {
     let na = operation::core::records(cur);
@@ -209,7 +222,7 @@ pub(crate) fn hand_out(
     next: &mut [u8],
     out: &mut [u8],
 )
-    requires { ⌜ (from ≤ length (now log)) × (n ≤ 256) × Lie n (drop from (now log)) × Holds (ops (now cur)) (now cur) × (35848 ≤ length (now cur)) × (35848 ≤ length (now next)) × Roomy (ops (now cur)) (editsIn n (drop from (now log))) (now out) ⌝ }
+    requires { ⌜ (from ≤ length (now log)) × (n ≤ 256) × Lie n (drop from (now log)) × Holds (ops (now cur)) (now cur) × Narrow (length (now cur)) (ops (now cur)) (editsIn n (drop from (now log))) × (length (now next) ≡ length (now cur)) × Roomy (ops (now cur)) (editsIn n (drop from (now log))) (now out) ⌝ }
     ensures { λ _. ⌜ HandsOut (ops (now (cur .entry))) (editsIn n (drop from (now (log .entry)))) (now (out .entry)) (now (cur .exit)) (now (out .exit)) ⌝ }
 {
     let mut spot = Spot { at: from, bytes: 0 };

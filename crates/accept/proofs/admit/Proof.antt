@@ -1,5 +1,5 @@
 use Prim.Native.Nat.{_-_}
-use mathlib.Core.Path.{sym, ap, _∙_}
+use mathlib.Core.Path.{ap, _∙_}
 use Rattle.accept.proofs.Answering.{accepts-revision, accepts-lengths, accepts-many, admitted}
 use borrow.Author.Needs.{needs}
 use Rattle.accept.proofs.admit.Statement.{statement}
@@ -30,7 +30,7 @@ returns-4 : tie.Need-returns-4
 returns-4 c = search needs
 
 late-requires : tie.Need-late-requires
-late-requires c κs = (search admitted, sym (c .before .before .if5 .taken) ∙ ap (λ k. k - c .before .before .before .before .before .before .before .before .before .before .before .before .before .args .r) (c .before .before .before .before .before .before .before .before .before .before .before .before .before .pre .1 .count))
+late-requires c κs = (search admitted, ap (λ k. k - c .before .before .before .before .before .before .before .before .before .before .before .before .args .r) (c .before .before .before .before .before .before .before .before .before .before .before .before .pre .1 .count))
 
 same-length-3 : tie.Need-same-length-3
 same-length-3 c = search needs
@@ -40,18 +40,6 @@ same-length-4 c = search needs
 
 returns-5 : tie.Need-returns-5
 returns-5 c = search needs
-
-late-requires-2 : tie.Need-late-requires-2
-late-requires-2 c κs = (search admitted, ap (λ k. k - c .before .before .before .before .before .before .before .before .before .before .before .before .before .args .r) (c .before .before .before .before .before .before .before .before .before .before .before .before .before .pre .1 .count))
-
-same-length-5 : tie.Need-same-length-5
-same-length-5 c = search needs
-
-same-length-6 : tie.Need-same-length-6
-same-length-6 c = search needs
-
-returns-6 : tie.Need-returns-6
-returns-6 c = search needs
 
 pub admit-spec : {M : Type 1} → statement M
 admit-spec =
@@ -68,8 +56,4 @@ admit-spec =
     late-requires
     same-length-3
     same-length-4
-    returns-5
-    late-requires-2
-    same-length-5
-    same-length-6
-    returns-6)
+    returns-5)

@@ -1,5 +1,5 @@
 use native.Mathlib.Omega.{arith}
-use Rattle.accept.proofs.Delivering.{holds-own, roomy, hands}
+use Rattle.accept.proofs.Delivering.{holds-own, narrow-own, roomy, hands}
 use Rattle.accept.proofs.Places.{log-small, from-inside, few-from, lie-from}
 use Rattle.accept.proofs.Answering.{accepts-short, accepts-narrow, accepts-moved}
 use borrow.Author.Needs.{needs}
@@ -41,12 +41,12 @@ hand-out-requires c κs =
     let a = start .pre .0 in
     let size = c .before .before .before .before .before .before .before .before .before .before .before .size in
     let f = a .found in
-    let laid = c .before .before .before .before .before .before .lay .ensures in (
+    let laid = c .before .before .before .before .before .before .lay .ensures .0 in (
       from-inside _ _ _ f (a .rev) _ (start .pre .1),
       few-from _ _ _ f (a .rev) _ (start .pre .1),
       lie-from _ _ _ f (a .rev) _ (start .pre .1),
       holds-own _ _ laid,
-      search needs,
+      narrow-own _ _ _ _ a _ (start .pre .1) _ laid _ _ (search needs) (start .pre .5),
       search needs,
       roomy _ _ _ _ a _ (start .pre .1) _ laid _ _ (start .pre .4) _ (c .before .before .before .before .before .before .before .before .if2 .left),
     )
@@ -77,7 +77,7 @@ returns-3 c =
     let a = start .pre .0 in
     let size = c .before .before .before .before .before .before .before .before .before .before .before .before .before .before .before .before .before .before .before .before .before .before .before .size in
     accepts-moved _ _ _ _ _ a _ _ (start .pre .4) _ (size .ensures .0) (c .before .before .before .before .before .before .before .before .before .before .before .before .before .before .before .before .before .before .before .before .before .if1 .left) (c .before .before .before .before .before .before .before .before .before .before .before .before .before .before .before .before .before .before .before .before .if2 .left) _ _ _
-    (hands _ _ _ _ a _ (start .pre .1) _ (c .before .before .before .before .before .before .before .before .before .before .before .before .before .before .before .before .before .before .lay .ensures) _ _ _ (c .before .before .before .before .before .before .before .before .before .before .before .hand-out .ensures)) (c .before .before .append .ensures)
+    (hands _ _ _ _ a _ (start .pre .1) _ (c .before .before .before .before .before .before .before .before .before .before .before .before .before .before .before .before .before .before .lay .ensures .0) _ _ _ (c .before .before .before .before .before .before .before .before .before .before .before .hand-out .ensures)) (c .before .before .append .ensures)
 
 pub deliver-spec : {M : Type 1} → statement M
 deliver-spec =

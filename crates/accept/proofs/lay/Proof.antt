@@ -16,7 +16,7 @@ same-length c = search needs
 returns : tie.Need-returns
 returns c =
     let start = c .before .before .before .before .before .before .before in
-    lays (start .args .edit .now) (λ i. omega (arith, c .before .before .before .before .before .shared-slice-known .given i)) (start .pre .0) _ _ _ (start .pre .1) (c .before .before .before .before .size .ensures .0) (c .before .before .copy .ensures)
+    (lays (start .args .edit .now) (λ i. omega (arith, c .before .before .before .before .before .shared-slice-known .given i)) (start .pre .0) _ _ _ (start .pre .1) (c .before .before .before .before .size .ensures .0) (c .before .before .copy .ensures), search needs)
 
 pub lay-spec : {M : Type 1} → statement M
 lay-spec = tie.close (tie.spec size-requires copy-requires same-length returns)

@@ -1,11 +1,12 @@
-use Rattle.accept.proofs.Delivering.{holds-own, past-moved, past-stops}
+use native.Mathlib.Omega.{arith}
+use Rattle.accept.proofs.Delivering.{lay-large, in-place, holds-own, past-moved, past-narrow, past-stops, past-never}
 use Rattle.accept.proofs.Places.{from-inside, few-from, lie-from}
 use borrow.Author.Needs.{needs}
 use Rattle.accept.proofs.past.Statement.{statement}
 use Rattle.accept.proofs.past.Tie as tie
 
 lay-requires : tie.Need-lay-requires
-lay-requires c κs = search needs
+lay-requires c κs = search (lay-large, needs)
 
 rebase-requires : tie.Need-rebase-requires
 rebase-requires c κs =
@@ -15,8 +16,7 @@ rebase-requires c κs =
       from-inside _ _ _ f (a .rev) _ (start .pre .1),
       few-from _ _ _ f (a .rev) _ (start .pre .1),
       lie-from _ _ _ f (a .rev) _ (start .pre .1),
-      holds-own _ _ (c .before .before .before .before .before .lay .ensures),
-      search needs,
+      holds-own _ _ (c .before .before .before .before .before .lay .ensures .0),
       search needs,
     )
 
@@ -29,13 +29,20 @@ enum-known-bytes c = search needs
 deliver-requires : tie.Need-deliver-requires
 deliver-requires c κs =
     let start = c .before .before .before .before .before .before .before .before .before .before .before .before .before .before .before .before .before .before .before .before .before .before .before .before in
-    let a = start .pre .0 in (
+    let a = start .pre .0 in
+    let laid = c .before .before .before .before .before .before .before .before .before .before .before .before .before .before .before .before .before .lay .ensures in
+    let ran = c .before .before .before .before .before .before .before .before .before .before .before .rebase .ensures in
+    let kept = c .before .before .before .before .before .bytes .given .1 in (
       a,
       start .pre .1,
+      in-place _ _ _ (search needs) (laid .1),
       search needs,
-      search needs,
-      past-moved _ _ _ _ a _ (start .pre .1) _ (c .before .before .before .before .before .before .before .before .before .before .before .before .before .before .before .before .before .lay .ensures) _ _ (c .before .before .before .before .before .before .before .before .before .before .before .rebase .ensures) _ (c .before .before .before .before .before .bytes .given .1),
+      past-moved _ _ _ _ a _ (start .pre .1) _ (laid .0) _ _ _ ran _ kept,
+      past-narrow _ _ _ _ a _ (start .pre .1) _ (laid .0) _ _ (search needs) _ _ ran _ kept,
     )
+
+enum-told : tie.Need-enum-told
+enum-told c = search needs
 
 same-length : tie.Need-same-length
 same-length c = search needs
@@ -49,7 +56,7 @@ same-length-3 c = search needs
 returns : tie.Need-returns
 returns c =
     let start = c .before .before .before .before .before .before .before .before .before .before .before .before .before .before .before .before .before .before .before .before in
-    past-stops _ _ _ _ (start .pre .0) _ (start .pre .1) _ (c .before .before .before .before .before .before .before .before .before .before .before .before .before .lay .ensures) _ _ (c .before .before .before .before .before .before .before .rebase .ensures) _ (c .before .x .given .1) _
+    past-stops _ _ _ _ (start .pre .0) _ (start .pre .1) _ (c .before .before .before .before .before .before .before .before .before .before .before .before .before .lay .ensures .0) _ _ _ (c .before .before .before .before .before .before .before .rebase .ensures) _ (c .before .x .given .1) _
 
 same-length-4 : tie.Need-same-length-4
 same-length-4 c = search needs
@@ -66,6 +73,20 @@ same-length-7 c = search needs
 returns-2 : tie.Need-returns-2
 returns-2 c = search needs
 
+same-length-8 : tie.Need-same-length-8
+same-length-8 c = search needs
+
+same-length-9 : tie.Need-same-length-9
+same-length-9 c = search needs
+
+same-length-10 : tie.Need-same-length-10
+same-length-10 c = search needs
+
+returns-3 : tie.Need-returns-3
+returns-3 c =
+    let start = c .before .before .before .before .before .before .before .before .before .before .before .before .before .before .before .before .before .before .before in
+    past-never _ _ _ _ (start .pre .0) _ (start .pre .1) _ (c .before .before .before .before .before .before .before .before .before .before .before .before .lay .ensures .0) _ _ _ (c .before .before .before .before .before .before .rebase .ensures) (c .enum-told .given .1) (search needs) _
+
 pub past-spec : {M : Type 1} → statement M
 past-spec =
     tie.close
@@ -75,6 +96,7 @@ past-spec =
     enum-known-x
     enum-known-bytes
     deliver-requires
+    enum-told
     same-length
     same-length-2
     same-length-3
@@ -83,4 +105,8 @@ past-spec =
     same-length-5
     same-length-6
     same-length-7
-    returns-2)
+    returns-2
+    same-length-8
+    same-length-9
+    same-length-10
+    returns-3)

@@ -1,6 +1,6 @@
 use native.Mathlib.Omega.{arith}
 use borrow.Author.Needs.{needs}
-use Rattle.accept.proofs.Passing.{fit-left, fit-right, hand-bytes, goes-on, hand-part}
+use Rattle.accept.proofs.Passing.{fit-left, fit-right, hand-wide, hand-bytes, goes-on, hand-part}
 use Rattle.accept.proofs.run.hand.Statement.{statement}
 use Rattle.accept.proofs.run.hand.Tie as tie
 
@@ -40,7 +40,7 @@ pass-requires c κs =
     let d = c .before .before .before .before .before .before .before .sized .ensures in
     let na = c .before .before .before .before .before .before .before .before .before .before .records .ensures in
     let nb = c .before .before .before .before .before .before .before .before .before .records2 .ensures in
-    (na .0, na .1, nb .0, nb .1, start .pre .0, start .pre .1, start .pre .2, start .pre .3, d, fit-left _ _ _ d (start .pre .4), fit-right _ _ _ d (start .pre .4))
+    (na .0, na .1, nb .0, nb .1, start .pre .0, start .pre .1, hand-wide _ _ _ d _ (start .pre .2), omega (arith, hand-wide _ _ _ d _ (start .pre .2), start .pre .3), d, fit-left _ _ _ d (start .pre .4), fit-right _ _ _ d (start .pre .4))
 
 same-length : tie.Need-same-length
 same-length c = search needs

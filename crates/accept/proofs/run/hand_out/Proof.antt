@@ -3,13 +3,13 @@ use mathlib.Core.Path.{_≡_}
 use lib.ListN.{length}
 use borrow.Author.Needs.{needs}
 use Rattle.operation.specs.Record.{ops}
-use Rattle.accept.proofs.Handing.{Handing, handing-start, handing-place, handing-record, handing-fit, handing-room, handing-again, handing-end}
+use Rattle.accept.proofs.Handing.{Handing, handing-start, handing-place, handing-record, handing-wide, handing-fit, handing-room, handing-again, handing-end}
 use Rattle.accept.proofs.run.hand_out.Statement.{statement}
 use Rattle.accept.proofs.run.hand_out.Tie as tie
 
 abbrev Inv-loop : tie.InvT-loop
 Inv-loop log from n cur₀ next₀ out₀ spot₀ left₀ cur next out spot left =
-    Handing (ops cur₀) log from n left spot cur out₀ out × (length cur ≡ length cur₀) × (length next ≡ length next₀) × (length out ≡ length out₀)
+    Handing (length cur₀) (ops cur₀) log from n left spot cur out₀ out × (length cur ≡ length cur₀) × (length next ≡ length next₀) × (length out ≡ length out₀)
 
 abbrev μ-loop : tie.MeasureT-loop
 μ-loop log from n cur₀ next₀ out₀ spot₀ left₀ cur next out spot left = left
@@ -33,12 +33,12 @@ hand-requires c κs =
     let g = loop .inv .0 in
     let some = c .before .before .before .before .loop-test .taken in (
       g .moving .holds .fault,
-      handing-record _ _ _ _ _ _ _ _ _ g some,
-      omega (arith, start .pre .4, loop .inv .1),
-      omega (arith, start .pre .5, loop .inv .2),
-      handing-fit _ _ _ _ _ _ _ _ _ g some (start .pre .6),
+      handing-record _ _ _ _ _ _ _ _ _ _ g some,
+      omega (arith, handing-wide _ _ _ _ _ _ _ _ _ _ g some, loop .inv .1),
+      omega (arith, start .pre .5, loop .inv .1, loop .inv .2),
+      handing-fit _ _ _ _ _ _ _ _ _ _ g some (start .pre .6),
       omega (arith, g .moving .place, start .good),
-      handing-room _ _ _ _ _ _ _ _ _ g some (start .pre .6),
+      handing-room _ _ _ _ _ _ _ _ _ _ g some (start .pre .6),
     )
 
 sub-left : tie.Need-sub-left Inv-loop μ-loop
