@@ -9,6 +9,8 @@ pub mod Unique
 pub mod Claims
 pub mod Kept
 pub mod Together
+pub mod Marks
+pub mod Traces
 pub mod Symmetry
 pub mod Growing
 pub mod Loops
