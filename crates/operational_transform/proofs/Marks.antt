@@ -1,18 +1,54 @@
--- Marks of a text's characters, carried through an edit.
+-- Which characters of a text stay, and marks of them, carried through an edit.
 use Prim.Native.Nat.{ℕ, zero, suc, _+_}
 use native.Mathlib.Nat.{suc-ne-zero}
 use native.Mathlib.Omega.{arith}
 use mathlib.Core.Path.{_≡_, refl, sym, ap, ap₂, _∙_, subst}
 use mathlib.Core.Bool.{Bool, true, false}
 use mathlib.Core.List.{List, [], _∷_, _++_, append-assoc}
-use lib.Dec.{T}
 use lib.ListN.{length, take, drop, replicate, length-append, length-take, length-drop, length-replicate, replicate-append-replicate}
 use lib.Seq.{take-at, drop-at, take-add, drop-drop, take-append-le, drop-append-le, take-append-seam, drop-append-seam, length-take-le}
-use Rattle.operation.specs.Op.{Op, retain, insert, delete, size, base}
+use Rattle.operation.specs.Op.{Op, retain, insert, delete, size, takes, base, target}
 use Rattle.operational_transform.specs.Apply.{apply}
-use Rattle.operational_transform.specs.Trace.{Within, none, more, typed, stays, marked, carry}
+use Rattle.operational_transform.specs.Trace.{Within, none, more, typed, staysBy, stays, marked, carry}
 use Rattle.operational_transform.proofs.Meaning.{Lasting}
-use Rattle.operational_transform.proofs.Together.{joined, marked-none, marked-retain, marked-delete}
+
+joined : (m n : ℕ) (b : Bool) (l : List Bool) → replicate (m + n) b ++ l ≡ replicate m b ++ (replicate n b ++ l)
+joined m n b l = ap (λ k. k ++ l) (sym (replicate-append-replicate m n b)) ∙ append-assoc (replicate m b) (replicate n b) l
+
+-- ---- what stays
+
+module _ {C : Type 0} where
+  pub stays-none : (o : Op C) → takes o ≡ 0 → staysBy o ≡ []
+  stays-none (retain zero) e = refl
+  stays-none (retain (suc n)) e = absurd (suc-ne-zero _ e)
+  stays-none (insert s) e = refl
+  stays-none (delete zero) e = refl
+  stays-none (delete (suc n)) e = absurd (suc-ne-zero _ e)
+
+  takes-none : (o : Op C) → size o ≡ 0 → takes o ≡ 0
+  takes-none (retain n) e = e
+  takes-none (insert s) e = refl
+  takes-none (delete n) e = e
+
+  pub stays-lasts : Lasting {C = C} stays
+  stays-lasts = record {
+    behind = λ o s u e. ap (λ l. staysBy o ++ l) e;
+    empty = λ o s e. ap (λ l. l ++ stays s) (stays-none o (takes-none o e));
+    retains = λ m n s. joined m n true (stays s);
+    inserts = λ x y s. refl;
+    deletes = λ m n s. joined m n false (stays s);
+    swap = λ x n s. refl;
+  }
+
+  pub stays-append : (s u : List (Op C)) → stays (s ++ u) ≡ stays s ++ stays u
+  stays-append [] u = refl
+  stays-append (o ∷ s) u = ap (λ l. staysBy o ++ l) (stays-append s u) ∙ sym (append-assoc (staysBy o) (stays s) (stays u))
+
+  pub stays-length : (s : List (Op C)) → length (stays s) ≡ base s
+  stays-length [] = refl
+  stays-length (retain n ∷ s) = length-append (replicate n true) (stays s) ∙ ap₂ _+_ (length-replicate n true) (stays-length s)
+  stays-length (insert x ∷ s) = omega (arith, stays-length s)
+  stays-length (delete n ∷ s) = length-append (replicate n false) (stays s) ∙ ap₂ _+_ (length-replicate n false) (stays-length s)
 
 -- ---- one mark within another
 
@@ -38,6 +74,14 @@ within-true : (n : ℕ) (m : Bool) → Within (replicate n m) (replicate n true)
 within-true zero m = none
 within-true (suc n) m = more (λ _. tt) (within-true n m)
 
+pub within-refl : (ms : List Bool) → Within ms ms
+within-refl [] = none
+within-refl (m ∷ ms) = more (λ t. t) (within-refl ms)
+
+pub within-length : {ms ns : List Bool} → Within ms ns → length ms ≡ length ns
+within-length none = refl
+within-length (more f w) = ap suc (within-length w)
+
 -- no character has the first mark
 pub within-none : (n : ℕ) (ms : List Bool) → length ms ≡ n → Within (replicate n false) ms
 within-none zero [] e = none
@@ -60,6 +104,14 @@ module _ {C : Type 0} where
   within-carry m (retain n ∷ s) w = within-append (within-take n w) (within-carry m s (within-drop n w))
   within-carry m (insert x ∷ s) w = within-append (within-true (length x) m) (within-carry m s w)
   within-carry m (delete n ∷ s) w = within-carry m s (within-drop n w)
+
+  pub carry-length : (m : Bool) (s : List (Op C)) (ms : List Bool) → length ms ≡ base s → length (carry m s ms) ≡ target s
+  carry-length m [] ms e = refl
+  carry-length m (retain n ∷ s) ms e =
+      length-append (take n ms) _ ∙ ap₂ _+_ (length-take-le n ms (omega arith)) (carry-length m s (drop n ms) (simp length-drop (omega arith)))
+  carry-length m (insert x ∷ s) ms e =
+      length-append (replicate (length x) m) _ ∙ ap₂ _+_ (length-replicate (length x) m) (carry-length m s ms (omega arith))
+  carry-length m (delete n ∷ s) ms e = omega (arith, carry-length m s (drop n ms) (simp length-drop (omega arith)))
 
   -- ---- carrying lasts as the builders join and move operations
 
@@ -100,6 +152,20 @@ module _ {C : Type 0} where
       ap (carry m (s ++ u)) (drop-append-le n ms ns (omega arith)) ∙ carry-append m s u (drop n ms) ns (simp length-drop (omega arith))
 
   -- ---- marked characters
+
+  marked-none : (ms : List Bool) → marked {C = C} ms [] ≡ []
+  marked-none [] = refl
+  marked-none (m ∷ ms) = refl
+
+  pub marked-retain : (n : ℕ) (ms : List Bool) (t : List C) → marked (replicate n true ++ ms) t ≡ take n t ++ marked ms (drop n t)
+  marked-retain zero ms t = refl
+  marked-retain (suc n) ms [] = sym (marked-none ms)
+  marked-retain (suc n) ms (c ∷ t) = ap (λ l. c ∷ l) (marked-retain n ms t)
+
+  pub marked-delete : (n : ℕ) (ms : List Bool) (t : List C) → marked (replicate n false ++ ms) t ≡ marked ms (drop n t)
+  marked-delete zero ms t = refl
+  marked-delete (suc n) ms [] = sym (marked-none ms)
+  marked-delete (suc n) ms (c ∷ t) = marked-delete n ms t
 
   marked-append : (ms ns : List Bool) (t u : List C) → length ms ≡ length t → marked (ms ++ ns) (t ++ u) ≡ marked ms t ++ marked ns u
   marked-append [] ns [] u e = refl

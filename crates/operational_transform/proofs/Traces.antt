@@ -16,9 +16,7 @@ use Rattle.operational_transform.specs.Trace.{stays, carry}
 use Rattle.operational_transform.proofs.Building.{build-same}
 use Rattle.operational_transform.proofs.Composing.{total-append}
 use Rattle.operational_transform.proofs.Aligning.{ones, twos, All, steps-ones, steps-twos, Sound, steps-sound}
-use Rattle.operational_transform.proofs.Effects.{keepOnce}
-use Rattle.operational_transform.proofs.Together.{stays-none, stays-lasts, stays-append, stays-length}
-use Rattle.operational_transform.proofs.Marks.{carry-lasts, carry-append}
+use Rattle.operational_transform.proofs.Marks.{stays-none, stays-lasts, stays-append, stays-length, carry-lasts, carry-append}
 
 -- `l` is what `a` becomes past `b`, and `r` what `b` becomes past `a`: of the characters that stand there, each keeps what the
 -- edit that it comes from keeps, and all that the other typed
@@ -103,9 +101,6 @@ module _ {C : Type 0} where
                 ∙ ap₂ (λ f ms. f ms) (steps-ones (carry true) (carry-lasts true) turn a b) (steps-twos stays stays-lasts turn a b);
           }
 
-  -- both rules for equal inserts keep what the other typed
+  -- of equal inserts that are both kept, either side keeps the other's
   pub keepBoth-stays : (s : List C) → stays (keepBoth s) ≡ replicate (length s) true ++ []
   keepBoth-stays s = refl
-
-  pub keepOnce-stays : (s : List C) → stays (keepOnce s) ≡ replicate (length s) true ++ []
-  keepOnce-stays s = refl
