@@ -3,6 +3,7 @@
 // for this edit, and the server's revisions from there on.
 use listing::core::show;
 use log::core::Scanned;
+use operational_transform::Written;
 use transform::WrittenPair;
 use wording::core::tell;
 use wording::core::words;
@@ -18,19 +19,16 @@ fn edit(kept: u64, deleted: u64, typed: &[u8], behind: u64, out: &mut [u8]) {
     builders::retain(&x, behind, out);
 }
 
-fn open(label: &[u8], log: &mut [u8]) {
-    log::open(utf8::num_chars(label) as u64, log);
-}
-
-// A copy with its translator's edit.
-fn copy_with(edit: &[u8], label: &[u8], copy: &mut [u8]) {
-    open(label, copy);
+// A copy with its translator's edit. The label has 48 characters.
+fn types(edit: &[u8], copy: &mut [u8]) {
+    log::open(48, copy);
     calling::core::accepts(edit, copy);
 }
 
-// An edit that was written against the label as it was at the start reaches the server; its author's copy takes in the counterparts.
+// An edit that was written against the label as it was at the start reaches the server, and its author's copy takes in the counterparts.
 fn arrives(edit: &[u8], server: &mut [u8], copy: &mut [u8]) {
     let mut parts = [0u8; 512];
+    types(edit, copy);
     match accept::accept(edit, 0, server, &mut parts) {
         WrittenPair::Bytes(_, n) => take(&parts, 0, n, copy),
         WrittenPair::Refused(x) => tell::reason(x),
@@ -46,30 +44,44 @@ fn take(from: &[u8], at: usize, end: usize, copy: &mut [u8]) {
     }
 }
 
-// The server's newest revision goes out to a copy.
-fn goes_out(server: &[u8], copy: &mut [u8]) {
-    let count = words::count(server);
-    if 1 <= count {
-        match log::core::read(server, count - 1) {
-            Scanned::Unreadable => (),
-            Scanned::Of(s) => take(server, s.at, s.size, copy),
-        }
-    }
-}
-
 // The label as a log has it.
 fn play(log: &[u8], label: &[u8], out: &mut [u8]) -> usize {
     let mut x = [0u8; 256];
     let mut y = [0u8; 256];
     match playback::play(log, label, &mut x, &mut y, out) {
-        operational_transform::Written::Bytes(n) => n,
-        operational_transform::Written::Refused(_) => 0,
+        Written::Bytes(n) => n,
+        Written::Refused(_) => 0,
     }
 }
 
-fn print(log: &[u8], label: &[u8]) {
+// The revisions that a copy hasn't got go out to it.
+fn catches_up(server: &[u8], copy: &mut [u8]) {
+    match log::core::read(server, words::count(copy)) {
+        Scanned::Unreadable => (),
+        Scanned::Of(s) => take(server, s.at, s.size, copy),
+    }
+}
+
+// And then it has the server's label.
+fn meets(server: &[u8], copy: &mut [u8], label: &[u8]) -> bool {
+    catches_up(server, copy);
+    same(server, copy, label)
+}
+
+fn same(server: &[u8], copy: &[u8], label: &[u8]) -> bool {
+    let mut x = [0u8; 256];
+    let mut y = [0u8; 256];
+    if play(server, label, &mut x) == play(copy, label, &mut y) {
+        check::same(&x, &y)
+    } else {
+        false
+    }
+}
+
+fn told(before: &[u8], log: &[u8], label: &[u8]) {
     let mut out = [0u8; 256];
     let n = play(log, label, &mut out);
+    show::text(before);
     front(&out, n);
 }
 
@@ -79,63 +91,25 @@ fn front(text: &[u8], n: usize) {
     }
 }
 
-fn same(server: &[u8], copy: &[u8], label: &[u8]) -> bool {
-    let mut x = [0u8; 256];
-    let mut y = [0u8; 256];
-    let n = play(server, label, &mut x);
-    let m = play(copy, label, &mut y);
-    if n == m { check::same(&x, &y) } else { false }
-}
-
-fn told(name: &[u8], log: &[u8], label: &[u8]) {
-    show::text(name);
-    print(log, label);
-}
-
-// Two edits reach the server: what its log has then, and the copies of their authors.
-fn two(x: &[u8], y: &[u8], server: &mut [u8], a: &mut [u8], b: &mut [u8]) {
-    arrives(x, server, a);
-    arrives(y, server, b);
-    goes_out(server, a);
-}
-
-// A third.
-fn three(z: &[u8], server: &mut [u8], a: &mut [u8], b: &mut [u8], c: &mut [u8]) {
-    arrives(z, server, c);
-    goes_out(server, a);
-    goes_out(server, b);
-}
-
-fn all_same(server: &[u8], a: &[u8], b: &[u8], c: &[u8], label: &[u8]) {
-    if same(server, a, label) && same(server, b, label) && same(server, c, label) {
-        show::text(b" - and so in all copies\n");
-    } else {
-        show::text(b" - BUT NOT IN ALL COPIES\n");
-    }
-}
-
 // The three edits in the order in which they reach the server.
 fn order(name: &[u8], label: &[u8], x: &[u8], y: &[u8], z: &[u8]) {
     let mut server = [0u8; 1024];
     let mut a = [0u8; 1024];
     let mut b = [0u8; 1024];
     let mut c = [0u8; 1024];
-    open(label, &mut server);
-    copy_with(x, label, &mut a);
-    copy_with(y, label, &mut b);
-    copy_with(z, label, &mut c);
-    two(x, y, &mut server, &mut a, &mut b);
-    three(z, &mut server, &mut a, &mut b, &mut c);
+    log::open(48, &mut server);
+    arrives(x, &mut server, &mut a);
+    arrives(y, &mut server, &mut b);
+    arrives(z, &mut server, &mut c);
     told(name, &server, label);
-    all_same(&server, &a, &b, &c, label);
-}
-
-// What a translator sees at first.
-fn own(name: &[u8], label: &[u8], edit: &[u8]) {
-    let mut copy = [0u8; 1024];
-    copy_with(edit, label, &mut copy);
-    told(name, &copy, label);
-    show::text(b"\n");
+    if meets(&server, &mut a, label)
+        && meets(&server, &mut b, label)
+        && meets(&server, &mut c, label)
+    {
+        show::text(b" - and so in all copies\n");
+    } else {
+        show::text(b" - BUT NOT IN ALL COPIES\n");
+    }
 }
 
 fn orders(label: &[u8], a: &[u8], b: &[u8], c: &[u8]) {
@@ -148,56 +122,49 @@ fn orders(label: &[u8], a: &[u8], b: &[u8], c: &[u8]) {
     order(b"  C B A  ", label, c, b, a);
 }
 
-// An edit reaches the server, and nobody waits for its counterparts; a refusal is told.
-fn comes(edit: &[u8], server: &mut [u8]) {
+// What a translator sees at first.
+fn own(name: &[u8], label: &[u8], edit: &[u8]) {
+    let mut copy = [0u8; 1024];
+    types(edit, &mut copy);
+    told(name, &copy, label);
+    show::text(b"\n");
+}
+
+// An edit against revision r reaches the server; a refusal is told.
+fn comes(edit: &[u8], r: u64, server: &mut [u8]) {
     let mut parts = [0u8; 512];
-    match accept::accept(edit, 0, server, &mut parts) {
+    match accept::accept(edit, r, server, &mut parts) {
         WrittenPair::Bytes(_, _) => (),
         WrittenPair::Refused(x) => tell::reason(x),
     }
 }
 
-// C's edit as it comes from a browser that sent half of its letter.
-fn half_a_letter(server: &mut [u8]) {
-    comes(
-        b"\x04\x00\x01\x00\x30\x00\x2f\x00\x01\x02\x03\x01\x03\x00\x01\x00\x02\x00\x2b\x00\xc3",
-        server,
-    );
-}
-
-// And then a good edit.
+// C's edit comes once more, from a browser that sent half of its letter, and then a good edit.
 fn damaged(label: &[u8], a: &[u8], b: &[u8], c: &[u8]) {
     let mut server = [0u8; 1024];
     let mut next = [0u8; 128];
-    serve(label, a, b, c, &mut server);
-    show::text(b"\nC's edit once more, its \"\xc3\xa4\" cut in two on the way:\n  ");
-    half_a_letter(&mut server);
-    told(b"\nThe server has its log as it was:\n  ", &server, label);
+    let half =
+        b"\x04\x00\x01\x00\x30\x00\x2f\x00\x01\x02\x03\x01\x03\x00\x01\x00\x02\x00\x2b\x00\xc3";
     edit(56, 0, b" (empfohlen)", 0, &mut next);
-    calling::core::accepts(&next, &mut server);
+    log::open(48, &mut server);
+    comes(a, 0, &mut server);
+    comes(b, 0, &mut server);
+    comes(c, 0, &mut server);
+    show::text(b"\nC's edit once more, its \"\xc3\xa4\" cut in two on the way:\n  ");
+    comes(half, 0, &mut server);
+    told(b"\nThe server has its log as it was:\n  ", &server, label);
+    comes(&next, 3, &mut server);
     told(b"\nand takes the next edit:\n  ", &server, label);
     show::text(b"\n");
 }
 
-// A server that has the three edits.
-fn serve(label: &[u8], x: &[u8], y: &[u8], z: &[u8], server: &mut [u8]) {
-    open(label, server);
-    comes(x, server);
-    comes(y, server);
-    comes(z, server);
-}
-
-fn own_copies(label: &[u8], a: &[u8], b: &[u8], c: &[u8]) {
+fn story(label: &[u8], a: &[u8], b: &[u8], c: &[u8]) {
     show::text(b"The label:\n         ");
     show::text(label);
     show::text(b"\n\nThree translators change it at the same time, each in a copy:\n");
     own(b"  A      ", label, a);
     own(b"  B      ", label, b);
     own(b"  C      ", label, c);
-}
-
-fn story(label: &[u8], a: &[u8], b: &[u8], c: &[u8]) {
-    own_copies(label, a, b, c);
     orders(label, a, b, c);
     damaged(label, a, b, c);
 }
