@@ -139,26 +139,28 @@ fn comes(edit: &[u8], r: u64, server: &mut [u8]) {
     }
 }
 
-// C's edit comes once more, from a browser that sent half of its letter, and then a good edit.
-fn damaged(label: &[u8], a: &[u8], b: &[u8], c: &[u8]) {
+// The three edits come, then C's once more from a browser that sent half of its letter, then a good one.
+fn damaged(label: &[u8], a: &[u8], b: &[u8], c: &[u8], next: &[u8]) {
     let mut server = [0u8; 1024];
-    let mut next = [0u8; 128];
-    let half =
-        b"\x04\x00\x01\x00\x30\x00\x2f\x00\x01\x02\x03\x01\x03\x00\x01\x00\x02\x00\x2b\x00\xc3";
-    edit(56, 0, b" (empfohlen)", 0, &mut next);
     log::open(48, &mut server);
     comes(a, 0, &mut server);
     comes(b, 0, &mut server);
     comes(c, 0, &mut server);
+    goes_on(label, next, &mut server);
+}
+
+fn goes_on(label: &[u8], next: &[u8], server: &mut [u8]) {
+    let half =
+        b"\x04\x00\x01\x00\x30\x00\x2f\x00\x01\x02\x03\x01\x03\x00\x01\x00\x02\x00\x2b\x00\xc3";
     show::text(b"\nC's edit once more, its \"\xc3\xa4\" cut in two on the way:\n  ");
-    comes(half, 0, &mut server);
-    told(b"\nThe server has its log as it was:\n  ", &server, label);
-    comes(&next, 3, &mut server);
-    told(b"\nand takes the next edit:\n  ", &server, label);
+    comes(half, 0, server);
+    told(b"\nThe server has its log as it was:\n  ", server, label);
+    comes(next, 3, server);
+    told(b"\nand takes the next edit:\n  ", server, label);
     show::text(b"\n");
 }
 
-fn story(label: &[u8], a: &[u8], b: &[u8], c: &[u8]) {
+fn story(label: &[u8], a: &[u8], b: &[u8], c: &[u8], next: &[u8]) {
     show::text(b"The label:\n         ");
     show::text(label);
     show::text(b"\n\nThree translators change it at the same time, each in a copy:\n");
@@ -166,20 +168,19 @@ fn story(label: &[u8], a: &[u8], b: &[u8], c: &[u8]) {
     own(b"  B      ", label, b);
     own(b"  C      ", label, c);
     orders(label, a, b, c);
-    damaged(label, a, b, c);
+    damaged(label, a, b, c, next);
 }
 
+// A puts "nicht " before "in der Liste". B retypes "hier in der Liste ", which goes across that place. C turns "ae" into an umlaut.
 fn main() {
     let mut a = [0u8; 128];
     let mut b = [0u8; 128];
     let mut c = [0u8; 128];
+    let mut next = [0u8; 128];
     edit(26, 0, b"nicht ", 22, &mut a);
     edit(21, 18, b"im Ger\xc3\xa4teverzeichnis ", 9, &mut b);
     edit(3, 2, b"\xc3\xa4", 43, &mut c);
-    story(
-        b"Geraete sperren, die hier in der Liste vorkommen",
-        &a,
-        &b,
-        &c,
-    );
+    edit(56, 0, b" (empfohlen)", 0, &mut next);
+    let label = b"Geraete sperren, die hier in der Liste vorkommen";
+    story(label, &a, &b, &c, &next);
 }
