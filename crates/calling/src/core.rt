@@ -204,7 +204,8 @@ fn relay_in(records: &[u8], log: &mut [u8]) {
     tell::relayed(before, log);
 }
 
-fn pass_on(records: &[u8], log: &mut [u8]) {
+// Records, oldest first, each accepted against the newest revision.
+pub fn pass_on(records: &[u8], log: &mut [u8]) {
     let mut at = 0;
     for _ in 0..256usize {
         at = taken(records, at, log);
@@ -224,7 +225,8 @@ fn taken(records: &[u8], at: usize, log: &mut [u8]) -> usize {
     records.len()
 }
 
-fn accepts(rec: &[u8], log: &mut [u8]) -> bool {
+// One record against the newest revision.
+pub fn accepts(rec: &[u8], log: &mut [u8]) -> bool {
     let mut none = [0u8; 0];
     let newest = words::count(log);
     match accept::accept(rec, newest, log, &mut none) {

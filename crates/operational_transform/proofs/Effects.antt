@@ -2,8 +2,9 @@
 use Prim.Native.Nat.{_≤_, min}
 use native.Mathlib.Omega.{arith}
 use mathlib.Core.Path.{_≡_, refl, sym, ap, _∙_, subst₃}
+use mathlib.Core.Bool.{true}
 use mathlib.Core.List.{List, [], _∷_, _++_}
-use lib.ListN.{length, take, drop, length-take, length-drop, take-append-drop}
+use lib.ListN.{length, take, drop, replicate, length-take, length-drop, take-append-drop}
 use lib.Seq.{take-at, drop-at, length-take-le}
 use Rattle.utf8.specs.declared.core.Ordering.{Ordering}
 use Rattle.utf8.specs.declared.core.Ordering.the-variants.{Less, Equal, Greater}
@@ -12,6 +13,7 @@ use Rattle.operational_transform.specs.Apply.{writes, apply}
 use Rattle.operational_transform.specs.Align.{Step, one, two, both, step, steps, each}
 use Rattle.operational_transform.specs.Compose.{composeTurn, made, compose}
 use Rattle.operational_transform.specs.Transform.{lesser, Sides, transformTurn, lefts, rights, keepBoth, transformBy}
+use Rattle.operational_transform.specs.Trace.{stays}
 use Rattle.operational_transform.specs.Invert.{undo, undoAll, invert}
 use Rattle.operational_transform.proofs.Meaning.{mean, mean-lasts}
 use Rattle.operational_transform.proofs.Building.{build-mean}
@@ -149,6 +151,9 @@ module _ {C : Type 0} where
 
   pub keepOnce-tied : (s : List C) → Composes (mean (insert s ∷ [])) (mean (keepOnce s)) (mean (insert s ∷ []))
   keepOnce-tied s = retain-after (insert s) refl
+
+  pub keepOnce-stays : (s : List C) → stays (keepOnce s) ≡ replicate (length s) true ++ []
+  keepOnce-stays s = refl
 
 -- ---- invert
 module _ {C : Type 0} where

@@ -7,28 +7,19 @@ use Rattle.utf8.specs.declared.core.Ordering.the-variants.{Less, Equal, Greater
 use Rattle.operation.specs.Op.{Op, retain, insert, delete, size}
 use Rattle.operational_transform.specs.Align.{Step, one, two, step, steps, each}
 use Rattle.operational_transform.specs.Transform.{lesser, transformTurn, lefts, rights, keepBoth, transformBy, transform}
+use Rattle.operational_transform.specs.Trace.{typedBy, typed}
 use Rattle.operational_transform.proofs.Meaning.{Lasting}
 use Rattle.operational_transform.proofs.Building.{build-same}
 use Rattle.operational_transform.proofs.Aligning.{ones, twos, steps-rule, All, steps-ones, steps-twos}
 
 module _ {C : Type 0} where
-  -- the characters that a sequence inserts, in order
-  abbrev pub typedBy : Op C → List C
-  typedBy (retain n) = []
-  typedBy (insert s) = s
-  typedBy (delete n) = []
-
-  abbrev pub typed : List (Op C) → List C
-  typed [] = []
-  typed (o ∷ s) = typedBy o ++ typed s
-
   typed-empty : (o : Op C) (s : List (Op C)) → size o ≡ 0 → typed (o ∷ s) ≡ typed s
   typed-empty (retain n) s e = refl
   typed-empty (insert []) s e = refl
   typed-empty (insert (c ∷ x)) s e = absurd (suc-ne-zero _ e)
   typed-empty (delete n) s e = refl
 
-  pub typed-lasts : Lasting typed
+  pub typed-lasts : Lasting {C = C} typed
   typed-lasts = record {
     behind = λ o s u e. ap (λ l. typedBy o ++ l) e;
     empty = typed-empty;

@@ -17,7 +17,8 @@ use Rattle.operational_transform.proofs.Composing.{total-append}
 use Rattle.operational_transform.proofs.Aligning.{steps-step}
 use Rattle.utf8.proofs.Texts.{bytes-append}
 use Rattle.operation.proofs.Sequences.{inBytes-size}
-use Rattle.operational_transform.proofs.Kept.{typedBy, typed, typed-lasts, typed-append}
+use Rattle.operational_transform.specs.Trace.{typedBy, typed}
+use Rattle.operational_transform.proofs.Kept.{typed-lasts, typed-append}
 
 module _ {C : Type 0} (turn : Op C → Op C → Turn) (g : Step C → List (Op C)) where
   -- what a loop has built, `r`, and what it still has to go through

@@ -2,6 +2,7 @@
 -- call of transform favours a side.
 use native.Mathlib.Omega.{arith}
 use mathlib.Core.Path.{_≡_, sym, ap, _∙_}
+use mathlib.Core.Bool.{true}
 use mathlib.Core.List.{List, [], _∷_, _++_}
 use lib.ListN.{length}
 use Rattle.utf8.specs.Text.{Char}
@@ -14,12 +15,14 @@ use Rattle.operational_transform.specs.Build.{extend}
 use Rattle.operational_transform.specs.Apply.{apply}
 use Rattle.operational_transform.specs.Compose.{compose}
 use Rattle.operational_transform.specs.Transform.{keepBoth, transform}
+use Rattle.operational_transform.specs.Trace.{typed, stays, carry}
 use Rattle.operational_transform.specs.Invert.{invert}
 use Rattle.operational_transform.proofs.Unique.{unique}
 use Rattle.operational_transform.proofs.Claims as claims
 use Rattle.operational_transform.proofs.Effects as effects
 use Rattle.operational_transform.proofs.Kept as kept
 use Rattle.operational_transform.proofs.Together as together
+use Rattle.operational_transform.proofs.Traces as traces
 use Rattle.operational_transform.proofs.Symmetry as symmetry
 
 abbrev pub Text : Type 0
@@ -93,15 +96,24 @@ module _ (a b : Seq) (agree : base a ≡ base b) where
   pub nothing-lost : (t : Text) → length t ≡ base a → together.Holds a b t (apply (B′ a b) (apply a t))
   nothing-lost t l = together.transform-holds order order-equal a b t agree l
 
+  -- of the text that B leaves, A' deletes just what A deletes: nothing that B typed, and all else that still stands there
+  pub stays-left : stays (A′ a b) ≡ carry true b (stays a)
+  unfolding transform
+  stays-left = traces.transform-moves keepBoth traces.keepBoth-stays order order-equal a b agree .left
+
+  pub stays-right : stays (B′ a b) ≡ carry true a (stays b)
+  unfolding transform
+  stays-right = traces.transform-moves keepBoth traces.keepBoth-stays order order-equal a b agree .right
+
 pub transform-built : (a b : Seq) → Built (A′ a b) × Built (B′ a b)
 unfolding transform
 transform-built = claims.transform-built keepBoth order
 
 -- A' types what A types, and B' what B types
-pub typed-left : (a b : Seq) → kept.typed (A′ a b) ≡ kept.typed a
+pub typed-left : (a b : Seq) → typed (A′ a b) ≡ typed a
 typed-left = kept.typed-left order order-equal
 
-pub typed-right : (a b : Seq) → kept.typed (B′ a b) ≡ kept.typed b
+pub typed-right : (a b : Seq) → typed (B′ a b) ≡ typed b
 typed-right = kept.typed-right order order-equal
 
 -- no side is favoured

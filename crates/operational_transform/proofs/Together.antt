@@ -1,31 +1,28 @@
 -- What two edits come to together: all that each of them types, and of the text what both keep.
 use Prim.Native.Nat.{ℕ, zero, suc, _+_, min}
-use native.Mathlib.Nat.{suc-ne-zero}
 use native.Mathlib.Omega.{arith}
 use mathlib.Core.Path.{_≡_, refl, sym, ap, ap₂, _∙_, subst₃}
 use mathlib.Core.Bool.{Bool, true, false, _&&_}
-use mathlib.Core.List.{List, [], _∷_, _++_, append-assoc}
-use lib.ListN.{length, take, drop, replicate, length-append, length-replicate, replicate-append-replicate}
+use mathlib.Core.List.{List, [], _∷_, _++_}
+use lib.ListN.{length, take, drop, replicate}
 use Rattle.utf8.specs.declared.core.Ordering.{Ordering}
 use Rattle.utf8.specs.declared.core.Ordering.the-variants.{Less, Equal, Greater}
-use Rattle.operation.specs.Op.{Op, retain, insert, delete, size, takes, base}
+use Rattle.operation.specs.Op.{Op, retain, insert, delete, takes, base}
 use Rattle.operational_transform.specs.Apply.{apply}
 use Rattle.operational_transform.specs.Align.{Step, one, two, step, steps, each}
 use Rattle.operational_transform.specs.Transform.{lesser, transformTurn, keepBoth, transform}
-use Rattle.operational_transform.proofs.Meaning.{Lasting}
+use Rattle.operational_transform.specs.Trace.{typed, stays, marked}
 use Rattle.operational_transform.proofs.Composing.{total-append}
 use Rattle.operational_transform.proofs.Aligning.{ones, twos, All, steps-ones, steps-twos, Sound, steps-sound}
 use Rattle.operational_transform.proofs.Effects.{merged, twofold, transform-meets, keepBoth-tied}
-use Rattle.operational_transform.proofs.Kept.{typed, typed-lasts, typed-append}
+use Rattle.operational_transform.proofs.Kept.{typed-lasts, typed-append}
+use Rattle.operational_transform.proofs.Marks.{marked-retain, marked-delete, stays-none, stays-lasts, stays-append, stays-length}
 
 -- the third list has the elements of the first two, each in its own order
 pub data Mixed {C : Type 0} : List C → List C → List C → Type 0 where
   none : Mixed [] [] []
   from-one : {c : C} {x y z : List C} → Mixed x y z → Mixed (c ∷ x) y (c ∷ z)
   from-two : {c : C} {x y z : List C} → Mixed x y z → Mixed x (c ∷ y) (c ∷ z)
-
-joined : (m n : ℕ) (b : Bool) (l : List Bool) → replicate (m + n) b ++ l ≡ replicate m b ++ (replicate n b ++ l)
-joined m n b l = ap (λ k. k ++ l) (sym (replicate-append-replicate m n b)) ∙ append-assoc (replicate m b) (replicate n b) l
 
 module _ {C : Type 0} where
   mixed-append : {x y z x′ y′ z′ : List C} → Mixed x y z → Mixed x′ y′ z′ → Mixed (x ++ x′) (y ++ y′) (z ++ z′)
@@ -41,75 +38,12 @@ module _ {C : Type 0} where
   only-two [] = none
   only-two (c ∷ y) = from-two (only-two y)
 
-  -- which characters of the text stay
-  abbrev staysBy : Op C → List Bool
-  staysBy (retain n) = replicate n true
-  staysBy (insert s) = []
-  staysBy (delete n) = replicate n false
-
-  abbrev pub stays : List (Op C) → List Bool
-  stays [] = []
-  stays (o ∷ s) = staysBy o ++ stays s
-
-  -- the characters of a text that are marked
-  abbrev pub marked : List Bool → List C → List C
-  marked [] t = []
-  marked (m ∷ ms) [] = []
-  marked (true ∷ ms) (c ∷ t) = c ∷ marked ms t
-  marked (false ∷ ms) (c ∷ t) = marked ms t
-
-  marked-none : (ms : List Bool) → marked ms [] ≡ []
-  marked-none [] = refl
-  marked-none (m ∷ ms) = refl
-
-  marked-retain : (n : ℕ) (ms : List Bool) (t : List C) → marked (replicate n true ++ ms) t ≡ take n t ++ marked ms (drop n t)
-  marked-retain zero ms t = refl
-  marked-retain (suc n) ms [] = sym (marked-none ms)
-  marked-retain (suc n) ms (c ∷ t) = ap (λ l. c ∷ l) (marked-retain n ms t)
-
-  marked-delete : (n : ℕ) (ms : List Bool) (t : List C) → marked (replicate n false ++ ms) t ≡ marked ms (drop n t)
-  marked-delete zero ms t = refl
-  marked-delete (suc n) ms [] = sym (marked-none ms)
-  marked-delete (suc n) ms (c ∷ t) = marked-delete n ms t
-
   -- a text after an edit: what was typed, and what stays
   pub apply-mixes : (s : List (Op C)) (t : List C) → Mixed (typed s) (marked (stays s) t) (apply s t)
   apply-mixes [] t = none
   apply-mixes (retain n ∷ s) t = rw (marked-retain n (stays s) t) (mixed-append (only-two (take n t)) (apply-mixes s (drop n t)))
   apply-mixes (insert x ∷ s) t = mixed-append (only-one x) (apply-mixes s t)
   apply-mixes (delete n ∷ s) t = rw (marked-delete n (stays s) t) (apply-mixes s (drop n t))
-
-  stays-none : (o : Op C) → takes o ≡ 0 → staysBy o ≡ []
-  stays-none (retain zero) e = refl
-  stays-none (retain (suc n)) e = absurd (suc-ne-zero _ e)
-  stays-none (insert s) e = refl
-  stays-none (delete zero) e = refl
-  stays-none (delete (suc n)) e = absurd (suc-ne-zero _ e)
-
-  takes-none : (o : Op C) → size o ≡ 0 → takes o ≡ 0
-  takes-none (retain n) e = e
-  takes-none (insert s) e = refl
-  takes-none (delete n) e = e
-
-  stays-lasts : Lasting stays
-  stays-lasts = record {
-    behind = λ o s u e. ap (λ l. staysBy o ++ l) e;
-    empty = λ o s e. ap (λ l. l ++ stays s) (stays-none o (takes-none o e));
-    retains = λ m n s. joined m n true (stays s);
-    inserts = λ x y s. refl;
-    deletes = λ m n s. joined m n false (stays s);
-    swap = λ x n s. refl;
-  }
-
-  stays-append : (s u : List (Op C)) → stays (s ++ u) ≡ stays s ++ stays u
-  stays-append [] u = refl
-  stays-append (o ∷ s) u = ap (λ l. staysBy o ++ l) (stays-append s u) ∙ sym (append-assoc (staysBy o) (stays s) (stays u))
-
-  stays-length : (s : List (Op C)) → length (stays s) ≡ base s
-  stays-length [] = refl
-  stays-length (retain n ∷ s) = length-append (replicate n true) (stays s) ∙ ap₂ _+_ (length-replicate n true) (stays-length s)
-  stays-length (insert x ∷ s) = omega (arith, stays-length s)
-  stays-length (delete n ∷ s) = length-append (replicate n false) (stays s) ∙ ap₂ _+_ (length-replicate n false) (stays-length s)
 
 -- marked on both sides
 abbrev pub onBoth : List Bool → List Bool → List Bool

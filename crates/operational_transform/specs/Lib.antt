@@ -4,6 +4,7 @@ pub mod Apply
 pub mod Align
 pub mod Compose
 pub mod Transform
+pub mod Trace
 pub mod Invert
 pub mod Output
 pub mod Calls

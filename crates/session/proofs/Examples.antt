@@ -1,15 +1,21 @@
--- What the claim that the copies meet asks of two sessions can be had, with two counterparts.
+-- What the claims about lists of calls ask can be had: that the copies meet, with two counterparts, and that nothing typed is lost.
 use Prim.Native.Nat.{ℕ}
+use native.Mathlib.Omega.{arith}
 use mathlib.Core.Path.{_≡_, refl}
 use mathlib.Core.List.{List, [], _∷_}
-use lib.ListN.{replicate, take}
+use lib.Dec.{T}
+use lib.ListN.{length, replicate, take}
 use Rattle.utf8.specs.Form.{leadOf}
 use Rattle.utf8.specs.Chars.{isCont}
+use Rattle.operation.specs.Answer.{goes}
 use Rattle.operational_transform.specs.Compose.{compose}
+use Rattle.operational_transform.specs.Trace.{none, more}
 use Rattle.log.specs.Log.{contents, revisions}
 use Rattle.log.specs.Open.{openCall}
 use Rattle.session.specs.Session.{acceptCall, summaryCall}
-use Rattle.session.specs.Demand.{Fresh, Call, accept, ran, logAfter, Given, AllGo, Lent, againstNewest, handedOut, again, CopiesMeet}
+use Rattle.session.specs.History.{History, fresh, historyAccept}
+use Rattle.session.specs.Demand.{Fresh, Call, accept, ran, logAfter, fed, after, Given, AllGo, Lent, againstNewest, handedOut, again, CopiesMeet}
+use Rattle.session.specs.Keeping.{newest, Spared}
 
 -- texts of two characters; the first session's revisions are R1 I"ä" R1 and D1 R1, both written against the start
 abbrev opened : List ℕ
@@ -82,3 +88,29 @@ sample = record {
 asked : CopiesMeet here opened → sum ≡ sum
 asked claim =
     claim late lent (λ i. lent) (sample .same) (sample .here-goes) (sample .there-goes) sum sum (sample .here-given) (sample .there-given)
+
+-- ---- what "nothing typed is lost" asks can be had as well
+
+-- once "ä" is typed, I"x" D2 comes from somebody who hadn't seen it and deleted all round its place, then D1 R1 from somebody
+-- who had, and deletes the "x"
+abbrev retypes : Call
+retypes = call (2 ∷ 0 ∷ 1 ∷ 0 ∷ 2 ∷ 0 ∷ 1 ∷ 0 ∷ 2 ∷ 3 ∷ 1 ∷ 0 ∷ 2 ∷ 0 ∷ 0x78 ∷ [])
+
+abbrev knows : Call
+knows = record { edit = deletes; rev = 2; behind = replicate 40 0xFF; out = [] }
+
+abbrev typing : History
+typing = fed (fresh 2) (call inserts) .history
+
+pub record Stands : Type 0 where
+  pub goes-in : T (goes (fed (fresh 2) (call inserts) .answer))
+  pub all-in : length (after typing (retypes ∷ knows ∷ []) .edits) ≡ 3
+  pub spared : Spared 1 (newest 2 (typing .edits)) typing (retypes ∷ knows ∷ [])
+
+pub stands : Stands
+unfolding historyAccept isCont leadOf
+stands = record {
+  goes-in = tt;
+  all-in = refl;
+  spared = (λ g l. absurd (omega (arith, l)), (λ g l. more (λ t. absurd t) (more (λ t. t) none), tt));
+}

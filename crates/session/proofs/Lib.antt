@@ -6,4 +6,6 @@ pub mod Running
 pub mod Newest
 pub mod Meeting
 pub mod Demands
+pub mod Carrying
+pub mod Keeping
 pub mod Examples

@@ -1,5 +1,5 @@
 -- An edit moved past a row ends in the text that the counterparts make of the edit's own.
--- No law below looks into `rule`: `rule-tp1` and `rule-good` are all that is known of it.
+-- No law below looks into `rule`, here or in the files after this: the first four are all that is known of it.
 use Prim.Native.Nat.{ℕ, suc}
 use native.Mathlib.Omega.{arith}
 use mathlib.Core.Path.{_≡_, refl, sym, ap, _∙_}
@@ -18,6 +18,9 @@ use Rattle.operation.proofs.Sequences.{Good}
 use Rattle.operational_transform.specs.Apply.{apply}
 use Rattle.operational_transform.specs.Transform.{transform}
 use Rattle.operational_transform.proofs.Effects.{Transforms}
+use Rattle.operational_transform.specs.Trace.{typed}
+use Rattle.operational_transform.proofs.Kept.{typed-left, typed-right}
+use Rattle.operational_transform.proofs.Traces.{Moves, transform-moves, keepBoth-stays}
 use Rattle.operational_transform.proofs.Claims.{apply-length, transform-built, transform-tp1}
 use Rattle.log.proofs.Rows.{Each, lengthAfter, Row}
 use Rattle.session.specs.Rows.{playAll, tie, rule, Moved, rebase}
@@ -33,6 +36,16 @@ unfolding rule
 rule-good a b =
     let h = transform-built tie order a b in
     (λ f. record { is-built = h .0; in-limits = f }, λ f. record { is-built = h .1; in-limits = f })
+
+-- either side keeps all that the other typed, and of the rest what it kept
+pub rule-moves : (a b : Seq) → base a ≡ base b → let s = rule a b in Moves a b (s .left) (s .right)
+unfolding rule
+rule-moves a b e = transform-moves tie keepBoth-stays order order-equal a b e
+
+-- equal inserts are both kept: either side types what it typed
+pub rule-types : (a b : Seq) → let s = rule a b in (typed (s .left) ≡ typed a) × (typed (s .right) ≡ typed b)
+unfolding rule transform
+rule-types a b = (typed-left order order-equal a b, typed-right order order-equal a b)
 
 -- ---- the history's transforms
 

@@ -1,5 +1,5 @@
 -- Lists of accept calls on the log of a history, and its summary: they are what the history foretells.
-use Prim.Native.Nat.{ℕ, zero, suc}
+use Prim.Native.Nat.{ℕ, zero, suc, _≤_}
 use native.Mathlib.Omega.{arith}
 use mathlib.Core.Path.{_≡_, refl, sym, ap, ap₂, _∙_}
 use mathlib.Core.List.{List, [], _∷_, _++_}
@@ -21,7 +21,7 @@ use Rattle.session.specs.Session.{summaryFault, summaryCall}
 use Rattle.session.specs.History.{History, fresh, logIn, Told, historySummary}
 use Rattle.session.specs.Demand.{Fresh, Call, accept, ran, logAfter, fed, after, foretold, Given}
 use Rattle.session.proofs.Rows.{partials-final, partials-fit, summary}
-use Rattle.session.proofs.Accepting.{SoundIn, moved, fault, back, through, history-told, Passed, passed, joined-sound, accept-log}
+use Rattle.session.proofs.Accepting.{SoundIn, joined, moved, fault, back, through, history-told, Passed, passed, joined-sound, accept-log}
 
 -- ---- one call
 
@@ -52,6 +52,14 @@ module _ (h : History) (c : Call) where
       go : (f : ℕ) → faults ≡ f → T (goes (settle f (back h) done .answer)) → Went h c
       go zero z t = no-fault z
       go (suc n) z t = absurd t
+
+  -- what holds of the history, and where the call goes through of the one with what came out, holds afterwards
+  pub fed-rule : (P : History → Type 0) → P h → (Went h c → P (joined h (moved h (c .edit) (c .rev) .edit))) → P (fed h c .history)
+  fed-rule P a b = rw fed-settles (go faults refl)
+    where
+      go : (f : ℕ) → faults ≡ f → P (settle f (back h) done .history)
+      go zero z = b (no-fault z)
+      go (suc n) z = a
 
   pub fed-sound : SoundIn h → SoundIn (fed h c .history)
   fed-sound s = rw fed-settles (go faults refl)
@@ -92,12 +100,15 @@ after-log h s (c ∷ cs) = ap (λ l. logAfter l cs) (left-log h c s) ∙ after-l
 
 -- ---- opening
 
+pub fresh-sound : (n : ℕ) → n ≤ 32768 → SoundIn (fresh n)
+fresh-sound n l = record { starts = l; counts = omega arith; good = tt; row = tt }
+
 pub fresh-log : (n : ℕ) (log : List ℕ) → Fresh n log → (log ≡ logIn (fresh n)) × SoundIn (fresh n)
 unfolding openCall atFront logOf encodeAll
 fresh-log n log f =
     let w = wrote (needs (leb n 32768) 9 0) (words (0 ∷ n ∷ [])) (f .buffer) (rw (f .opens) tt) in (
       sym (f .leaves) ∙ ap (λ o. contents (o .out)) (w .is) ∙ contents-log n [] (drop 4 (f .buffer)),
-      record { starts = leb→le n 32768 (needs-out (leb n 32768) 8 0 (w .no-fault) .0); counts = omega arith; good = tt; row = tt },
+      fresh-sound n (leb→le n 32768 (needs-out (leb n 32768) 8 0 (w .no-fault) .0)),
     )
 
 -- ---- summaries

@@ -3,6 +3,7 @@ use crate::core::words;
 use listing::core::show;
 use log::core::Scan;
 use log::core::Scanned;
+use operation::Refusal;
 use operational_transform::Written;
 use transform::WrittenPair;
 
@@ -12,6 +13,27 @@ fn revisions(n: u64) {
         show::text(b" revision");
     } else {
         show::text(b" revisions");
+    }
+}
+
+// A refusal with its reason.
+pub fn reason(x: Refusal) {
+    show::refusal(x);
+    match x {
+        Refusal::Size => show::text(b": a buffer is too short, or a size passes its limit"),
+        Refusal::Entry => show::text(
+            b": an unknown kind, a count of 0, or insert counts that don't add up",
+        ),
+        Refusal::Utf8 => show::text(b": a text that isn't well-formed UTF-8"),
+        Refusal::Neighbours => show::text(
+            b": two neighbours of one kind, or an insert directly behind a delete",
+        ),
+        Refusal::Sums => show::text(b": a stated base or target that isn't the sum"),
+        Refusal::Log => show::text(b": a log that can't be read"),
+        Refusal::Revision => show::text(b": a revision that the log doesn't have"),
+        Refusal::IncompatibleLengths => show::text(b": two lengths that have to agree and differ"),
+        Refusal::Limit => show::text(b": a result that would pass a limit"),
+        Refusal::Room => show::text(b": a buffer too short for what goes into it"),
     }
 }
 

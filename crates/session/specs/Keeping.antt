@@ -1,0 +1,53 @@
+-- Nothing typed is lost: what that says of a list of accept calls.
+use Prim.Native.Nat.{ℕ, _-_, _≤_}
+use mathlib.Core.Path.{_≡_}
+use mathlib.Core.Bool.{Bool, true, false}
+use mathlib.Core.List.{List, [], _∷_}
+use lib.Dec.{T}
+use lib.ListN.{length, take, drop, replicate}
+use Rattle.utf8.specs.Text.{Char}
+use Rattle.operation.specs.Answer.{goes}
+use Rattle.operation.specs.Op.{target}
+use Rattle.operation.specs.Record.{Seq, ops}
+use Rattle.operational_transform.specs.Trace.{Within, typed, stays, marked, carry}
+use Rattle.session.specs.Rows.{playAll}
+use Rattle.session.specs.History.{History}
+use Rattle.session.specs.Demand.{Call, fed, after}
+
+-- the marks of the text after a row of edits
+abbrev pub carryAll : Bool → List Seq → List Bool → List Bool
+carryAll m [] ms = ms
+carryAll m (e ∷ es) ms = carryAll m es (carry m e ms)
+
+-- what the newest revision typed; before the first one, the starting text
+abbrev pub newest : ℕ → List Seq → List Bool
+newest n [] = replicate n true
+newest n (e ∷ []) = carry true e (replicate n false)
+newest n (e ∷ f ∷ es) = newest (target e) (f ∷ es)
+
+-- `ms` marks characters of the text after revision k. No accepted edit of the list that was written against revision k or a
+-- later one deletes a marked character: its author saw the marked ones, where they then stood, and left them
+abbrev pub Spared : ℕ → List Bool → History → List Call → Type 0
+Spared k ms h [] = Unit {0}
+Spared k ms h (c ∷ cs) =
+    (T (goes (fed h c .answer)) → k ≤ c .rev → Within (carryAll false (take (c .rev - k) (drop k (h .edits))) ms) (stays (ops (c .edit))))
+    × Spared k ms (fed h c .history) cs
+
+-- any characters that the newest revision typed: after more calls they stand in the text, as they were and in order, unless an
+-- accepted edit whose author had seen them deletes one
+abbrev pub NothingLost : History → List Call → Type 0
+NothingLost h later =
+    let k = length (h .edits) in
+    let es = after h later .edits in
+    (ms : List Bool) → Within ms (newest (h .start) (h .edits)) → Spared k ms h later
+    → (t : List Char) → length t ≡ h .start → marked (carryAll false (drop k es) ms) (playAll es t) ≡ marked ms (playAll (h .edits) t)
+
+-- all of them: the text has what the accepted edit `c` types, word for word
+abbrev pub TypedStands : History → Call → List Call → Type 0
+TypedStands h c later =
+    let g = fed h c .history in
+    let k = length (g .edits) in
+    let ms = newest (g .start) (g .edits) in
+    let es = after g later .edits in
+    T (goes (fed h c .answer)) → Spared k ms g later
+    → (t : List Char) → length t ≡ h .start → marked (carryAll false (drop k es) ms) (playAll es t) ≡ typed (ops (c .edit))
