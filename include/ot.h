@@ -18,8 +18,8 @@
    Otherwise it is the result; of two results the first is the low 32 bits and the second the high 32.
    ot_well_formed, ot_num_chars, ot_step and ot_insert_text are never refused.
 
-   Stack: ot_accept, where other revisions came meanwhile, and ot_summary use about 72 KB, every other call less than
-   4 KB. */
+   Stack: ot_summary, and ot_accept where a record of more than 1,024 bytes is moved past other revisions, use about 72 KB,
+   every other call less than 4 KB. */
 #ifndef OT_H
 #define OT_H
 
