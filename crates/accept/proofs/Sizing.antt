@@ -50,9 +50,6 @@ module _ (p : Pair) (v : Bool) (e : v ≡ (within (p .e) && within (p .f))) (h :
   pub keep-left : within (p .e) ≡ true
   keep-left = and-eq-true-iff (within (p .e)) (within (p .f)) .0 (sym e ∙ not-false v h) .0
 
-  pub keep-right : within (p .f) ≡ true
-  keep-right = and-eq-true-iff (within (p .e)) (within (p .f)) .0 (sym e ∙ not-false v h) .1
-
 pub went-less : (a b : List ℕ) (s r : State) → Went (transformTurn order) (lefts keepBoth) 0 a b s [] r [] → length (ahead a (r .x)) + length (ahead b (r .y)) < length (ahead a (s .x)) + length (ahead b (s .y))
 went-less a b s r w = w .less
 

@@ -44,12 +44,7 @@ pub record Fit (s : Sides Char) : Type 0 where
   pub left : T (fits (s .left))
   pub right : T (fits (s .right))
 
--- the edit in a buffer is moved past one revision, whose counterpart goes to an output
-pub record Passes (s : Sides Char) (out cur′ out′ : List ℕ) : Type 0 where
-  pub holds : Holds (s .left) cur′
-  pub given : length (encode (s .right)) ≤ length out → out′ ≡ atFront (encode (s .right)) out
-
--- the same, without an output
+-- the edit in a buffer is moved past one revision
 pub record GoesOn (s : Sides Char) (rec : List ℕ) (spot r : Spot) (cur′ : List ℕ) : Type 0 where
   pub holds : Holds (s .left) cur′
   pub at-is : r .at ≡ spot .at + sizeOf rec

@@ -24,7 +24,7 @@ ghost use Rattle.turns.specs.Turns.{liveIs, Chooses, Went};
 ghost use Rattle.transform.specs.Sides.{FirstWent, BothWent};
 ghost use Rattle.transform.specs.Pairs.{SizedBoth};
 ghost use Rattle.log.specs.Log.{editsIn};
-ghost use Rattle.accept.specs.Running.{Lie, Holds, Narrow, Fit, EndsWith, Passes, GoesOn, Runs, Roomy, HandsOut};
+ghost use Rattle.accept.specs.Running.{Lie, Holds, Narrow, Fit, EndsWith, GoesOn, Runs, Roomy, HandsOut};
 
 // How many bytes the counterparts have, or why the run ended: a refusal, or buffers that are too short for what the edit becomes.
 pub(crate) enum Run {
@@ -33,14 +33,13 @@ pub(crate) enum Run {
     Short,
 }
 
-// Both sides of one transform: the edit's takes its place, the revision's goes to the output as far as it has room.
-fn pass(cur: &mut [u8], na: usize, rec: &[u8], nb: usize, next: &mut [u8], out: &mut [u8], p: Pair)
-    requires { ⌜ (na ≡ recordsOf (now cur)) × (na ≤ 1024) × (nb ≡ recordsOf (now rec)) × (nb ≤ 1024) × (recordFault (now cur) ≡ 0) × (recordFault (now rec) ≡ 0) × (sizeIn (p .e) ≤ length (now cur)) × (sizeIn (p .e) ≤ length (now next)) × SizedBoth (transformOf order (ops (now cur)) (ops (now rec))) p × (within (p .e) ≡ true) × (within (p .f) ≡ true) ⌝ }
-    ensures { λ _. ⌜ Passes (transformOf order (ops (now (cur .entry))) (ops (now (rec .entry)))) (now (out .entry)) (now (cur .exit)) (now (out .exit)) ⌝ }
+// What the edit becomes past a revision takes its place.
+fn replace(cur: &mut [u8], na: usize, rec: &[u8], nb: usize, next: &mut [u8], p: Pair)
+    requires { ⌜ (na ≡ recordsOf (now cur)) × (na ≤ 1024) × (nb ≡ recordsOf (now rec)) × (nb ≤ 1024) × (recordFault (now cur) ≡ 0) × (recordFault (now rec) ≡ 0) × (sizeIn (p .e) ≤ length (now cur)) × (sizeIn (p .e) ≤ length (now next)) × SizedBoth (transformOf order (ops (now cur)) (ops (now rec))) p × (within (p .e) ≡ true) ⌝ }
+    ensures { λ _. ⌜ Holds (transformOf order (ops (now (cur .entry))) (ops (now (rec .entry))) .left) (now (cur .exit)) ⌝ }
 {
     let e = p.e;
-    let f = p.f;
-    transform::core::write(cur, na, rec, nb, next, e.records, out, f.records);
+    transform::core::write_side(cur, na, rec, nb, next, e.records);
     let len = operational_transform::core::size(e);
     operational_transform::core::copy(cur, 0, next, 0, len);
 }
@@ -152,14 +151,13 @@ fn go_on(
     p: Pair,
     spot: Spot,
 ) -> Spot
-    requires { ⌜ (na ≡ recordsOf (now cur)) × (na ≤ 1024) × (nb ≡ recordsOf (now rec)) × (nb ≤ 1024) × (recordFault (now cur) ≡ 0) × (recordFault (now rec) ≡ 0) × (sizeIn (p .e) ≤ length (now cur)) × (sizeIn (p .e) ≤ length (now next)) × SizedBoth (transformOf order (ops (now cur)) (ops (now rec))) p × (within (p .e) ≡ true) × (within (p .f) ≡ true) × (spot .at ≤ 2 ^ 63) × (spot .bytes ≤ 2 ^ 40) ⌝ }
+    requires { ⌜ (na ≡ recordsOf (now cur)) × (na ≤ 1024) × (nb ≡ recordsOf (now rec)) × (nb ≤ 1024) × (recordFault (now cur) ≡ 0) × (recordFault (now rec) ≡ 0) × (sizeIn (p .e) ≤ length (now cur)) × (sizeIn (p .e) ≤ length (now next)) × SizedBoth (transformOf order (ops (now cur)) (ops (now rec))) p × (within (p .e) ≡ true) × (spot .at ≤ 2 ^ 63) × (spot .bytes ≤ 2 ^ 40) ⌝ }
     ensures { λ r. ⌜ GoesOn (transformOf order (ops (now (cur .entry))) (ops (now (rec .entry)))) (now (rec .entry)) spot r (now (cur .exit)) ⌝ }
 {
-    let mut none = [0u8; 0];
     let f = p.f;
     let at = spot.at + operation::core::size(rec);
     let bytes = spot.bytes + operational_transform::core::size(f);
-    pass(cur, na, rec, nb, next, &mut none, p);
+    replace(cur, na, rec, nb, next, p);
     Spot { at, bytes }
 }
 
@@ -209,7 +207,8 @@ fn hand(cur: &mut [u8], rec: &[u8], next: &mut [u8], out: &mut [u8], spot: Spot)
     let from = spot.bytes;
     let at = spot.at + operation::core::size(rec);
     let bytes = from + operational_transform::core::size(f);
-    pass(cur, na, rec, nb, next, &mut out[from..], p);
+    transform::core::write_side(rec, nb, cur, na, &mut out[from..], f.records);
+    replace(cur, na, rec, nb, next, p);
     Spot { at, bytes }
 }
 

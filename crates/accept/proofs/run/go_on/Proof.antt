@@ -1,5 +1,5 @@
-use borrow.Author.Needs.{needs}
 use Rattle.accept.proofs.Passing.{goes-on}
+use borrow.Author.Needs.{needs}
 use Rattle.accept.proofs.run.go_on.Statement.{statement}
 use Rattle.accept.proofs.run.go_on.Tie as tie
 
@@ -15,11 +15,8 @@ size-requires-2 c κs = search needs
 add-bytes : tie.Need-add-bytes
 add-bytes c = search needs
 
-slice-aggregate-pass : tie.Need-slice-aggregate-pass
-slice-aggregate-pass c = search needs
-
-pass-requires : tie.Need-pass-requires
-pass-requires c κs = search needs
+replace-requires : tie.Need-replace-requires
+replace-requires c κs = search needs
 
 same-length : tie.Need-same-length
 same-length c = search needs
@@ -38,8 +35,7 @@ go-on-spec =
     add-at
     size-requires-2
     add-bytes
-    slice-aggregate-pass
-    pass-requires
+    replace-requires
     same-length
     same-length-2
     returns)

@@ -1,6 +1,6 @@
 use native.Mathlib.Omega.{arith}
+use Rattle.accept.proofs.Passing.{fit-left, hand-wide, hand-bytes, goes-on, hand-part}
 use borrow.Author.Needs.{needs}
-use Rattle.accept.proofs.Passing.{fit-left, fit-right, hand-wide, hand-bytes, goes-on, hand-part}
 use Rattle.accept.proofs.run.hand.Statement.{statement}
 use Rattle.accept.proofs.run.hand.Tie as tie
 
@@ -25,22 +25,26 @@ size-requires-2 c κs = search needs
 add-bytes : tie.Need-add-bytes
 add-bytes c = omega (arith, hand-bytes _ _ _ (c .before .before .before .before .sized .ensures) _ (c .size2 .ensures), c .before .before .before .before .before .before .before .before .before .before .before .before .before .pre .6, c .before .before .before .before .before .before .before .before .before .before .before .before .before .good)
 
-sub-pass : tie.Need-sub-pass
-sub-pass c = search needs
+sub-write-side : tie.Need-sub-write-side
+sub-write-side c = search needs
 
-part-pass-start : tie.Need-part-pass-start
-part-pass-start c = search needs
+part-write-side-start : tie.Need-part-write-side-start
+part-write-side-start c = search needs
 
-part-pass-end : tie.Need-part-pass-end
-part-pass-end c = search needs
+part-write-side-end : tie.Need-part-write-side-end
+part-write-side-end c = search needs
 
-pass-requires : tie.Need-pass-requires
-pass-requires c κs =
-    let start = c .before .before .before .before .before .before .before .before .before .before .before .before .before .before .before .before in
-    let d = c .before .before .before .before .before .before .before .sized .ensures in
-    let na = c .before .before .before .before .before .before .before .before .before .before .records .ensures in
-    let nb = c .before .before .before .before .before .before .before .before .before .records2 .ensures in
-    (na .0, na .1, nb .0, nb .1, start .pre .0, start .pre .1, hand-wide _ _ _ d _ (start .pre .2), omega (arith, hand-wide _ _ _ d _ (start .pre .2), start .pre .3), d, fit-left _ _ _ d (start .pre .4), fit-right _ _ _ d (start .pre .4))
+write-side-requires : tie.Need-write-side-requires
+write-side-requires c κs = search needs
+
+replace-requires : tie.Need-replace-requires
+replace-requires c κs =
+    let start = c .before .before .before .before .before .before .before .before .before .before .before .before .before .before .before .before .before .before .before .before in
+    let d = c .before .before .before .before .before .before .before .before .before .before .before .sized .ensures in
+    let na = c .before .before .before .before .before .before .before .before .before .before .before .before .before .before .records .ensures in
+    let nb = c .before .before .before .before .before .before .before .before .before .before .before .before .before .records2 .ensures in
+    let wide = hand-wide _ _ _ d _ (start .pre .2) in
+    (na .0, na .1, nb .0, nb .1, start .pre .0, start .pre .1, wide, omega (arith, wide, start .pre .3), d, fit-left _ _ _ d (start .pre .4))
 
 same-length : tie.Need-same-length
 same-length c = search needs
@@ -52,7 +56,12 @@ same-length-3 : tie.Need-same-length-3
 same-length-3 c = search needs
 
 returns : tie.Need-returns
-returns c = (search goes-on, hand-part _ _ _ _ _ (c .before .before .before .before .before .before .before .before .before .before .before .before .before .before .before .before .before .before .before .before .before .before .before .pre .6) (c .before .before .before .before .before .before .pass .ensures))
+returns c =
+    let start = c .before .before .before .before .before .before .before .before .before .before .before .before .before .before .before .before .before .before .before .before .before .before .before .before .before in
+    let sized = c .before .before .before .before .before .before .before .before .before .before .before .before .before .before .before .before .sized in (
+      goes-on _ _ (sized .result) (sized .ensures) _ _ _ _ (c .before .before .before .before .before .before .before .before .before .before .before .before .before .before .size .ensures .0) (c .before .before .before .before .before .before .before .before .before .before .before .before .size2 .ensures) _ (c .before .before .before .before .replace .ensures),
+      hand-part _ _ (sized .result) (sized .ensures) (start .pre .4) _ _ _ (start .pre .6) (c .before .before .before .before .before .before .before .before .before .write-side .ensures),
+    )
 
 pub hand-spec : {M : Type 1} → statement M
 hand-spec =
@@ -65,10 +74,11 @@ hand-spec =
     add-at
     size-requires-2
     add-bytes
-    sub-pass
-    part-pass-start
-    part-pass-end
-    pass-requires
+    sub-write-side
+    part-write-side-start
+    part-write-side-end
+    write-side-requires
+    replace-requires
     same-length
     same-length-2
     same-length-3

@@ -9,7 +9,7 @@ use Rattle.operation.specs.Front.{ahead}
 use Rattle.utf8.specs.Order.{order}
 use Rattle.operational_transform.specs.Transform.{transformTurn, keepBoth, lefts}
 use Rattle.turns.proofs.Going.{Going, going-start, going-under, going-more}
-use Rattle.accept.proofs.Sizing.{sized-run, passed, keep-left, keep-right, went-less}
+use Rattle.accept.proofs.Sizing.{sized-run, passed, keep-left, went-less}
 use Rattle.accept.proofs.Moving.{Moving, moving-start, moving-small, moving-place, moving-end, moving-record, moving-stop, moving-again, moving-short, has-place}
 use Rattle.accept.proofs.run.rebase.Statement.{statement}
 use Rattle.accept.proofs.run.rebase.Tie as tie
@@ -125,7 +125,6 @@ go-on-requires c κs =
       omega (arith, room, rn .run .inv .2, start .pre .4),
       d,
       keep-left (en .end .result) _ (kl .keep-limits .ensures) kept,
-      keep-right (en .end .result) _ (kl .keep-limits .ensures) kept,
       omega (arith, m .place, start .good),
       moving-small _ _ _ _ _ _ _ _ m (start .pre .1),
     )
