@@ -1,3 +1,4 @@
 -- builders
+pub mod Parts
 pub mod Repeating
 pub mod Extending

@@ -1,57 +1,76 @@
-use mathlib.Core.Path.{_≡_}
-use lib.ListN.{length}
-use Rattle.operation.specs.Front.{ahead}
-use Rattle.builders.proofs.Repeating.{Going, going-start, going-room, going-done, going-less, going-more, whole-cut}
-use Rattle.operation.proofs.Fronts.{left-some}
+use native.Mathlib.Omega.{arith}
+use Rattle.operation.proofs.Records.{Bytes}
+use Rattle.builders.proofs.Repeating.{last-room, repeated}
 use borrow.Author.Needs.{needs}
 use Rattle.builders.proofs.repeat.Statement.{statement}
 use Rattle.builders.proofs.repeat.Tie as tie
 
-abbrev Inv-loop : tie.InvT-loop
-Inv-loop rec records out₀ n e₀ f₀ out e f = Going n rec out₀ f e out × (length out ≡ length out₀)
+ending-requires : tie.Need-ending-requires
+ending-requires c κs = search needs
 
-abbrev μ-loop : tie.MeasureT-loop
-μ-loop rec records out₀ n e₀ f₀ out e f = length (ahead rec f)
+before-requires : tie.Need-before-requires
+before-requires c κs = search last-room
 
-start-requires : tie.Need-start-requires Inv-loop μ-loop
-start-requires c κs = search needs
+ending-requires-2 : tie.Need-ending-requires-2
+ending-requires-2 c κs = search needs
 
-first-requires : tie.Need-first-requires Inv-loop μ-loop
-first-requires c κs = search needs
+before-requires-2 : tie.Need-before-requires-2
+before-requires-2 c κs = search last-room
 
-loop-holds : tie.Need-loop-holds Inv-loop μ-loop
-loop-holds c = (search going-start, search needs)
+ending-requires-3 : tie.Need-ending-requires-3
+ending-requires-3 c κs = search needs
 
-part-requires : tie.Need-part-requires Inv-loop μ-loop
-part-requires c κs = search (whole-cut, going-room, left-some, needs)
+before-requires-3 : tie.Need-before-requires-3
+before-requires-3 c κs = search last-room
 
-load-requires : tie.Need-load-requires Inv-loop μ-loop
-load-requires c κs = search needs
+lay-requires : tie.Need-lay-requires
+lay-requires c κs = search needs
 
-loop-less : tie.Need-loop-less Inv-loop μ-loop
-loop-less c = search going-less
+size-requires : tie.Need-size-requires
+size-requires c κs = search needs
 
-loop-again : tie.Need-loop-again Inv-loop μ-loop
-loop-again c = (search going-more, search needs)
+text-start-requires : tie.Need-text-start-requires
+text-start-requires c κs = search needs
 
-same-length : tie.Need-same-length Inv-loop μ-loop
+sub-text : tie.Need-sub-text
+sub-text c = search needs
+
+base-requires : tie.Need-base-requires
+base-requires c κs = search needs
+
+target-requires : tie.Need-target-requires
+target-requires c κs = search needs
+
+same-length : tie.Need-same-length
 same-length c = search needs
 
-returns : tie.Need-returns Inv-loop μ-loop
-returns c = search going-done
+returns : tie.Need-returns
+returns c =
+    let grouped = c .before .before .before .before .before .before .before .before in
+    let ends = grouped .before .before .before .before .before in
+    let start = ends .before .before .before in
+    let b : Bytes (start .args .rec .now) = λ i. omega (arith, ends .before .before .shared-slice-known .given i) in
+    repeated (start .args .rec .now) b (start .pre .0) _ _ _ _ _ _ _ _ _ _ _ _ _ _ (start .pre .1)
+    (ends .ending .ensures .0) (ends .ending .ensures .1) (grouped .before .before .before .before .before2 .ensures)
+    (grouped .before .before .before .ending2 .ensures .0) (grouped .before .before .before .ending2 .ensures .1) (grouped .before .before .before3 .ensures)
+    (grouped .before .ending3 .ensures .0) (grouped .before .ending3 .ensures .1) (grouped .before4 .ensures)
+    (c .before .before .before .before .before .before .lay .ensures) (c .before .before .before .size .ensures .0) (c .before .before .text-start .ensures) (c .before .base .ensures) (c .target .ensures)
 
 pub repeat-spec : {M : Type 1} → statement M
 repeat-spec =
     tie.close
     (tie.spec
-    Inv-loop
-    μ-loop
-    start-requires
-    first-requires
-    loop-holds
-    part-requires
-    load-requires
-    loop-less
-    loop-again
+    ending-requires
+    before-requires
+    ending-requires-2
+    before-requires-2
+    ending-requires-3
+    before-requires-3
+    lay-requires
+    size-requires
+    text-start-requires
+    sub-text
+    base-requires
+    target-requires
     same-length
     returns)
