@@ -1,4 +1,3 @@
 -- builders
-pub mod Parts
 pub mod Repeating
 pub mod Extending

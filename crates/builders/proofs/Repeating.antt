@@ -1,5 +1,5 @@
 -- The last group of a record, from which the builders go on.
-use Prim.Native.Nat.{ℕ, zero, suc, _+_, _*_, _-_, _^_, _≤_, _<_}
+use Prim.Native.Nat.{ℕ, zero, suc, _+_, _*_, _-_, _≤_, _<_}
 use native.Mathlib.Omega.{arith}
 use mathlib.Core.Path.{_≡_, refl, sym, ap, ap₂, _∙_}
 use mathlib.Core.Bool.{Bool, true, false, cond}
@@ -9,19 +9,20 @@ use lib.ListN.{length, take, drop}
 use borrow.Author.Tests.{eq-eqb}
 use Rattle.utf8.specs.Text.{Char, bytes}
 use Rattle.utf8.proofs.Tests.{known}
-use Rattle.operation.specs.Op.{Op, retain, insert, delete, size, takes, gives}
+use Rattle.operation.specs.Op.{retain, insert, delete, size, takes, gives}
 use Rattle.operation.specs.Built.{retains}
 use Rattle.operation.specs.Layout.{recordsOf, textBytesOf, baseOf, targetOf, kindsStart, countsStart, textStart, sizeOf, kindAt, countAt}
 use Rattle.operation.specs.Record.{Seq, inBytes, code, textOf, ops, recordFault}
 use Rattle.operation.proofs.Sequences.{inBytes-size}
+use Rattle.operation.proofs.Faults.{limits, faultless}
 use Rattle.operation.proofs.Records.{Bytes, ops-base, ops-target}
 use Rattle.operational_transform.specs.declared.core.Emitter.{Emitter}
-use Rattle.operational_transform.specs.Emit.{over, one, Under, textsOf, laid, group, Fresh, first, later-insert, later-delete, Rep}
-use Rattle.operational_transform.proofs.Building.{Prev}
+use Rattle.operational_transform.specs.Emit.{over, one, textsOf, laid, group, Fresh, first, later-insert, later-delete}
+use Rattle.operational_transform.proofs.Building.{Prev, Back}
 use Rattle.operational_transform.proofs.Growing.{total-reverse}
 use Rattle.operational_transform.proofs.Emitting.{some-is, group-text}
-use Rattle.builders.specs.Extending.{lastCount, begun, Repeats}
-use Rattle.builders.proofs.Parts.{Back, At, at-before, bounds, text-long, text-back, at-end, text-at, kinds-at, counts-at, kind-last, count-last}
+use Rattle.operational_transform.proofs.Parts.{At, at-before, at-end, text-at, text-long, kinds-at, counts-at, kind-last, count-last}
+use Rattle.builders.specs.Extending.{lastCount, begun, Pends, Repeats}
 
 -- ---- a last operation of a kind, taken off
 
@@ -153,19 +154,20 @@ lays n r k o o₁ o₂ o₃ records end t c tn cn rp ep tp cp np q₁ mp q₂ q�
     (q₂ ∙ ap₂ (λ i l. over i l o₁) f (ap₂ (λ i j. take i (drop j r)) d e)
     ∙ ap (over (countsStart n) (take (2 * k) (drop (countsStart R) r))) (q₁ ∙ ap₂ (λ i l. over i l o) np (ap₂ (λ i j. take i (drop j r)) a b)))
 
--- ---- `repeat`
+-- ---- `pending`, `repeat`
 
-pub repeated : (r : List ℕ) → Bytes r → recordFault r ≡ 0 → (n : ℕ) (o o′ : List ℕ) (k ret x del y ins j s t g h : ℕ)
+pub pends : (r : List ℕ) → Bytes r → recordFault r ≡ 0 → (k ret x del y ins j s t g h : ℕ)
     → k ≡ recordsOf r
     → ret ≡ lastCount r k 1 → ret < 65536 → x + one ret ≡ k
     → del ≡ lastCount r x 3 → del < 65536 → y + one del ≡ x
     → ins ≡ lastCount r y 2 → ins < 65536 → j + one ins ≡ y
-    → o′ ≡ begun n r j o → s ≡ sizeOf r → t ≡ textStart k → g ≡ baseOf r → h ≡ targetOf r
-    → Repeats n r o (record { ins = ins; del = del; ret = ret; records = j; text = s - t; base = g; target = h }) o′
+    → s ≡ sizeOf r → t ≡ textStart k → g ≡ baseOf r → h ≡ targetOf r
+    → Pends r (record { ins = ins; del = del; ret = ret; records = j; text = s - t; base = g; target = h })
 unfolding begun laid
-repeated r b z n o o′ k ret x del y ins j s t g h kp rp rl xp dp dl yp ip il jp op sp tp gp hp =
+pends r b z k ret x del y ins j s t g h kp rp rl xp dp dl yp ip il jp sp tp gp hp =
+    let l = limits r .0 (faultless r .0 z .in-limits) in
     let w = reverse (ops r) in
-    let a = at-end r z b k kp in
+    let a = at-end r z k kp in
     let p : ret ≡ ends 1 w = rp ∙ at-ends r z b k w 1 a in
     let a₁ : At r x (off 1 w) = at-off r k w 1 x a (ap (λ c. x + one c) (sym p) ∙ xp) in
     let p₁ : del ≡ ends 3 (off 1 w) = dp ∙ at-ends r z b x (off 1 w) 3 a₁ in
@@ -176,17 +178,21 @@ repeated r b z n o o′ k ret x del y ins j s t g h kp rp rl xp dp dl yp ip il j
     let done = off 2 (off 3 (off 1 w)) in
     let e : textsOf w ≡ textsOf done ++ bytes (q .held) = ap textsOf (q .is) ∙ group-text (q .held) (ends 3 (off 1 w)) (ends 1 w) done in
     record {
-      rep = record {
+      few = omega arith;
+      under = omega (arith, l);
+      rep = λ n o. record {
         done = done;
         held = q .held;
         fresh = rw p₁ (q .fresh);
         is = q .is ∙ ap₂ (λ d m. group (q .held) d m done) (sym p₁) (sym p);
         ins = q .ins ∙ sym p₂;
         records = a₃ .long;
-        text = ap length (sym e ∙ text-back r z b) ∙ omega (arith, text-long r z b);
+        text = ap length (sym e) ∙ omega (arith, text-long r z);
         base-is = total-reverse takes (ops r) ∙ ops-base r z ∙ sym gp;
         target-is = total-reverse gives (ops r) ∙ ops-target r z ∙ sym hp;
-        wrote = λ _. op ∙ (λ i. over kindsStart (kinds-at r z b j done a₃ i) (over (countsStart n) (counts-at r z b j done a₃ i) (over (textStart n) ((text-at r z b ∙ e) i) o)));
+        wrote = λ _ i. over kindsStart (kinds-at r z b j done a₃ i) (over (countsStart n) (counts-at r z b j done a₃ i) (over (textStart n) ((text-at r z ∙ e) i) o));
       };
-      under = omega (arith, bounds r z b);
     }
+
+pub repeats : (n : ℕ) (r o : List ℕ) (e : Emitter) (o′ : List ℕ) → Pends r e → o′ ≡ begun n r (e .records) o → Repeats n r o e o′
+repeats n r o e o′ h p = record { rep = rw p (h .rep n o); under = h .under }

@@ -1,5 +1,5 @@
 -- What the functions below the builders promise each other. No entry's contract cites this.
-use Prim.Native.Nat.{ℕ, zero, suc, _+_, _*_, _^_}
+use Prim.Native.Nat.{ℕ, zero, suc, _*_, _^_, _≤_}
 use mathlib.Core.Bool.{cond}
 use mathlib.Core.List.{List, reverse}
 use lib.Dec.{eqb}
@@ -34,6 +34,12 @@ lastCount r (suc k) kind = cond (eqb (kindAt r k) kind) (countAt r k) 0
 unfoldable pub begun : ℕ → List ℕ → ℕ → List ℕ → List ℕ
 unfolding over textOf
 begun n r k o = over kindsStart (take k (drop kindsStart r)) (over (countsStart n) (take (2 * k) (drop (countsStart (recordsOf r)) r)) (over (textStart n) (textOf r) o))
+
+-- the emitter has the record's last group pending, and stands for the record's operations once all before the group is laid
+pub record Pends (r : List ℕ) (e : Emitter) : Type 0 where
+  pub few : e .records ≤ recordsOf r
+  pub under : Under (2 ^ 38) e
+  pub rep : (n : ℕ) (o : List ℕ) → Rep n o (reverse (ops r)) e (begun n r (e .records) o)
 
 -- the record's operations were emitted
 pub record Repeats (n : ℕ) (r o : List ℕ) (e : Emitter) (o′ : List ℕ) : Type 0 where

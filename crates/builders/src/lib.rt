@@ -14,7 +14,7 @@ ghost use Rattle.operational_transform.specs.Build.{extend};
 ghost use Rattle.operational_transform.specs.Calls.{textFault, deliver, retainCall, deleteCall, insertCall};
 ghost use Rattle.operational_transform.specs.Emit.{writtenOf, one, Under, Adds, Done, Writes};
 ghost use Rattle.operational_transform.specs.Given.{Gives};
-ghost use Rattle.builders.specs.Extending.{opOf, countOf, lastCount, begun, Repeats};
+ghost use Rattle.builders.specs.Extending.{opOf, countOf, lastCount, begun, Pends, Repeats};
 
 // The operation that is added: an insert's text goes with it.
 enum Added {
@@ -56,6 +56,28 @@ fn before(k: usize, count: usize) -> usize
     if count == 0 { k } else { k - 1 }
 }
 
+// The last group of the record, as pending: all before it is done.
+fn pending(rec: &[u8], records: usize) -> Emitter
+    requires { ⌜ (recordFault (now rec) ≡ 0) × (records ≡ recordsOf (now rec)) × (records ≤ 1024) ⌝ }
+    ensures { λ r. ⌜ Pends (now (rec .entry)) r ⌝ }
+{
+    let ret = ending(rec, records, records, 1);
+    let x = before(records, ret);
+    let del = ending(rec, records, x, 3);
+    let y = before(x, del);
+    let ins = ending(rec, records, y, 2);
+    let text = operation::core::size(rec) - operation::core::text_start(records);
+    Emitter {
+        ins,
+        del,
+        ret,
+        records: before(y, ins),
+        text,
+        base: operation::core::base(rec),
+        target: operation::core::target(rec),
+    }
+}
+
 // The first k kinds and counts and all text of the record, at their places in one of n.
 fn lay(out: &mut [u8], n: usize, rec: &[u8], records: usize, k: usize)
     requires { ⌜ (recordFault (now rec) ≡ 0) × (records ≡ recordsOf (now rec)) × (records ≤ 1024) × (k ≤ records) × (n ≤ 2 ^ 40) ⌝ }
@@ -75,30 +97,14 @@ fn lay(out: &mut [u8], n: usize, rec: &[u8], records: usize, k: usize)
     operational_transform::core::copy(out, 8, rec, 8, 8 + k);
 }
 
-// The operations that the record has already. Its last group is not done yet, and all before it is as in the record.
+// The operations that the record has already.
 fn repeat(rec: &[u8], records: usize, out: &mut [u8], n: usize) -> Emitter
     requires { ⌜ (recordFault (now rec) ≡ 0) × (records ≡ recordsOf (now rec)) × (records ≤ 1024) × (n ≤ 2 ^ 40) ⌝ }
     ensures { λ r. ⌜ Repeats n (now (rec .entry)) (now (out .entry)) r (now (out .exit)) ⌝ }
 {
-    let ret = ending(rec, records, records, 1);
-    let x = before(records, ret);
-    let del = ending(rec, records, x, 3);
-    let y = before(x, del);
-    let ins = ending(rec, records, y, 2);
-    let j = before(y, ins);
-    lay(out, n, rec, records, j);
-    let text = operation::core::size(rec) - operation::core::text_start(records);
-    let base = operation::core::base(rec);
-    let target = operation::core::target(rec);
-    Emitter {
-        ins,
-        del,
-        ret,
-        records: j,
-        text,
-        base,
-        target,
-    }
+    let e = pending(rec, records);
+    lay(out, n, rec, records, e.records);
+    e
 }
 
 fn add(out: &mut [u8], n: usize, e: Emitter, text: &[u8], x: Added) -> Emitter

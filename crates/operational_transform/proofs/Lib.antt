@@ -22,3 +22,4 @@ pub mod Emitting
 pub mod Adding
 pub mod Delivering
 pub mod Giving
+pub mod Parts

@@ -1,57 +1,25 @@
 -- The parts of a checked record, up to one of its operations.
-use Prim.Native.Nat.{ℕ, zero, suc, _+_, _*_, _/_, _%_, _≤_, _<_}
-use native.Mathlib.Nat.{zero-add}
+use Prim.Native.Nat.{ℕ, suc, _+_, _*_, _/_, _%_, _≤_, _<_}
 use native.Mathlib.Omega.{arith}
 use mathlib.Core.Path.{_≡_, refl, sym, ap, ap₂, _∙_}
 use mathlib.Core.List.{List, [], _∷_, _++_, map, reverse, reverseAux, reverse-reverse, append-assoc}
-use lib.Dec.{T}
-use lib.ListN.{length, take, drop, getD, length-append, length-map, take-append-drop, length-reverseAux}
-use lib.Seq.{getD-drop, getD-at, getD-append-add, drop-drop, take-take, take-at, drop-at, take-length, length-take-le}
+use lib.ListN.{length, take, drop, getD, length-append, take-append-drop, length-reverse}
+use lib.Seq.{getD-drop, getD-at, getD-append-add, take-at}
 use Rattle.utf8.specs.Text.{Char}
 use Rattle.operation.specs.Op.{Op, retain, insert, delete, size, takes, base}
-use Rattle.operation.specs.Built.{follows, kind}
-use Rattle.operation.specs.Layout.{words, recordsOf, textBytesOf, kindsStart, countsStart, textStart, sizeOf, kindAt, countAt}
+use Rattle.operation.specs.Layout.{words, recordsOf, textBytesOf, kindsStart, countsStart, sizeOf, kindAt, countAt}
 use Rattle.operation.specs.Record.{Seq, inBytes, code, inserted, text, encode, textOf, ops, recordFault}
-use Rattle.operation.proofs.Links.{Links, built-links}
-use Rattle.operation.proofs.Sequences.{Limits, fits-limits}
-use Rattle.operation.proofs.Faults.{InLimits, limits, faultless}
-use Rattle.operation.proofs.Records.{Bytes, encode-length, encode-ops, ops-length, ops-good}
+use Rattle.operation.proofs.Sequences.{fits-limits}
+use Rattle.operation.proofs.Records.{Bytes, drop-kinds, drop-counts, text-length, inBytes-text, inBytes-ops, encode-ops, ops-length, ops-good}
 use Rattle.operational_transform.specs.Emit.{bytes16, kindsOf, countsOf, textsOf}
-use Rattle.operational_transform.proofs.Building.{Prev}
+use Rattle.operational_transform.proofs.Building.{Back, built-back}
 use Rattle.operational_transform.proofs.Growing.{total-reverse}
 use Rattle.operational_transform.proofs.Emitting.{length-kinds, length-counts}
 use Rattle.operational_transform.proofs.Delivering.{text-ahead}
-
--- ---- lists
-
--- a part of the front is a part of the whole
-take-part : (i k z : ℕ) (l : List ℕ) → i + k ≤ z → take k (drop i (take z l)) ≡ take k (drop i l)
-take-part zero k z l h = take-take k z l (omega arith)
-take-part (suc i) k zero l h = absurd (omega arith)
-take-part (suc i) k (suc z) [] h = refl
-take-part (suc i) k (suc z) (x ∷ l) h = take-part i k z l (omega arith)
 
 -- what begins as `p` and `q` do
 begins : (n : ℕ) (l p q : List ℕ) → take n l ≡ p ++ q → l ≡ p ++ (q ++ drop n l)
 begins n l p q e = sym (take-append-drop n l) ∙ ap (λ t. t ++ drop n l) e ∙ append-assoc p q (drop n l)
-
-length-words : (ns : List ℕ) → length (words ns) ≡ 2 * length ns
-length-words [] = refl
-length-words (n ∷ ns) = omega (arith, length-words ns)
-
--- ---- a built sequence, held last operation first
-
-abbrev pub Back : Seq → Type 0
-Back [] = Unit {0}
-Back (o ∷ w) = (0 < size o) × Prev w (kind o) × Back w
-
-back : (o : Op Char) (s w : Seq) → Links (o ∷ s) → Prev w (kind o) → Back w → Back (reverseAux s (o ∷ w))
-back o [] w h p b = (h .0, p, b)
-back o (q ∷ s) w h p b = back q s (o ∷ w) (h .2) (h .1) (h .0, p, b)
-
-links-back : (s : Seq) → Links s → Back (reverse s)
-links-back [] h = tt
-links-back (o ∷ s) h = back o s [] h tt tt
 
 -- ---- the parts of the operations before a place, and of those behind it
 
@@ -104,15 +72,15 @@ at-before r k o w a = record {
   texts = omega (arith, a .texts, fewer-text o w);
 }
 
-module _ (r : List ℕ) (z : recordFault r ≡ 0) (b : Bytes r) where
-  pub bounds : InLimits r
-  bounds = limits r .0 (faultless r .0 z .in-limits)
-
-  pub text-long : length (text (map inBytes (ops r))) ≡ textBytesOf r
-  text-long = omega (arith, encode-length (ops r), ops-length r z, ap length (encode-ops r z b), length-take-le (sizeOf r) r (bounds .whole))
-
-  pub text-back : textsOf (reverse (ops r)) ≡ text (map inBytes (ops r))
+module _ (r : List ℕ) (z : recordFault r ≡ 0) where
+  text-back : textsOf (reverse (ops r)) ≡ text (map inBytes (ops r))
   text-back = sym (text-ahead (reverse (ops r))) ∙ ap (λ s. text (map inBytes s)) (reverse-reverse (ops r))
+
+  pub text-at : textOf r ≡ textsOf (reverse (ops r))
+  text-at = sym (text-back ∙ ap text (inBytes-ops r z) ∙ inBytes-text r z)
+
+  pub text-long : length (textsOf (reverse (ops r))) ≡ textBytesOf r
+  text-long = ap length (sym text-at) ∙ text-length r z
 
   pub at-end : (k : ℕ) → k ≡ recordsOf r → At r k (reverse (ops r))
   at-end k e =
@@ -121,54 +89,28 @@ module _ (r : List ℕ) (z : recordFault r ≡ 0) (b : Bytes r) where
       record {
         behind = [];
         is = sym (reverse-reverse (ops r));
-        long = length-reverseAux (ops r) [] ∙ omega (arith, ops-length r z);
-        links = links-back (ops r) (built-links (ops r) (g .is-built));
+        long = length-reverse (ops r) ∙ ops-length r z ∙ sym e;
+        links = built-back (ops r) (g .is-built);
         bases = omega (arith, total-reverse takes (ops r), l .bases);
         texts = omega (arith, ap length text-back, l .text-bytes);
       }
 
-  part : (i k : ℕ) → i + k ≤ sizeOf r → take k (drop i r) ≡ take k (drop i (encode (ops r)))
-  part i k h = sym (take-part i k (sizeOf r) r h) ∙ ap (λ l. take k (drop i l)) (sym (encode-ops r z b))
+module _ (r : List ℕ) (z : recordFault r ≡ 0) (b : Bytes r) where
+  -- what stands behind the record
+  abbrev more : List ℕ
+  more = drop (sizeOf r) r
 
-  -- where the parts begin
-  drop-kinds : drop kindsStart (encode (ops r)) ≡ map code (map inBytes (ops r)) ++ (words (map size (map inBytes (ops r))) ++ text (map inBytes (ops r)))
-  unfolding encode
-  drop-kinds = refl
-
-  drop-counts : drop (countsStart (recordsOf r)) (encode (ops r)) ≡ words (map size (map inBytes (ops r))) ++ text (map inBytes (ops r))
-  drop-counts =
-      let q = map inBytes (ops r) in
-      sym (drop-drop (recordsOf r) kindsStart (encode (ops r)))
-      ∙ ap (drop (recordsOf r)) drop-kinds
-      ∙ drop-at (map code q) _ (recordsOf r) (length-map q code ∙ length-map (ops r) inBytes ∙ ops-length r z)
-
-  drop-text : drop (textStart (recordsOf r)) (encode (ops r)) ≡ text (map inBytes (ops r))
-  drop-text =
-      let q = map inBytes (ops r) in
-      let e : countsStart (recordsOf r) + 2 * recordsOf r ≡ textStart (recordsOf r) = omega arith in
-      ap (λ i. drop i (encode (ops r))) (sym e)
-      ∙ sym (drop-drop (2 * recordsOf r) (countsStart (recordsOf r)) (encode (ops r)))
-      ∙ ap (drop (2 * recordsOf r)) drop-counts
-      ∙ drop-at (words (map size q)) _ (2 * recordsOf r) (length-words (map size q) ∙ ap (λ n. 2 * n) (length-map q size ∙ length-map (ops r) inBytes ∙ ops-length r z))
-
-  pub text-at : textOf r ≡ textsOf (reverse (ops r))
-  unfolding textOf
-  text-at =
-      part (textStart (recordsOf r)) (textBytesOf r) (omega arith)
-      ∙ ap₂ take (sym text-long) drop-text
-      ∙ take-length (text (map inBytes (ops r)))
-      ∙ sym text-back
+  whole : r ≡ encode (ops r) ++ more
+  whole = sym (take-append-drop (sizeOf r) r) ∙ ap (λ l. l ++ more) (sym (encode-ops r z b))
 
   module _ (k : ℕ) (w : Seq) (a : At r k w) where
-    pub at-few : k ≤ recordsOf r
-    at-few = omega (arith, a .long, ap length (a .is), length-reverseAux w (a .behind), ops-length r z)
-
     pub kinds-at : take k (drop kindsStart r) ≡ kindsOf w
     kinds-at =
         let u = a .behind in
-        let y = words (map size (map inBytes (ops r))) ++ text (map inBytes (ops r)) in
-        part kindsStart k (omega (arith, at-few))
-        ∙ ap (take k) (drop-kinds
+        let y = words (map size (map inBytes (ops r))) ++ (text (map inBytes (ops r)) ++ more) in
+        ap (take k)
+        (ap (drop kindsStart) whole
+        ∙ drop-kinds (ops r) more
         ∙ ap (λ s. map code (map inBytes s) ++ y) (a .is)
         ∙ ap (λ l. l ++ y) (kinds-before w u)
         ∙ append-assoc (kindsOf w) (map code (map inBytes u)) y)
@@ -177,9 +119,10 @@ module _ (r : List ℕ) (z : recordFault r ≡ 0) (b : Bytes r) where
     pub counts-at : take (2 * k) (drop (countsStart (recordsOf r)) r) ≡ countsOf w
     counts-at =
         let u = a .behind in
-        let y = text (map inBytes (ops r)) in
-        part (countsStart (recordsOf r)) (2 * k) (omega (arith, at-few))
-        ∙ ap (take (2 * k)) (drop-counts
+        let y = text (map inBytes (ops r)) ++ more in
+        ap (take (2 * k))
+        (ap (λ l. drop (countsStart (recordsOf l)) l) whole
+        ∙ drop-counts (ops r) more
         ∙ ap (λ s. words (map size (map inBytes s)) ++ y) (a .is)
         ∙ ap (λ l. l ++ y) (counts-before w u (a .bases) (a .texts))
         ∙ append-assoc (countsOf w) (words (map size (map inBytes u))) y)
