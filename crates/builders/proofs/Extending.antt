@@ -16,18 +16,15 @@ use Rattle.utf8.proofs.Texts.{bytes-chars}
 use Rattle.operation.specs.declared.Refusal.the-variants.{Limit}
 use Rattle.operation.specs.declared.Fact.the-variants as fact
 use Rattle.operation.specs.Op.{Op, retain, insert, delete, takes}
-use Rattle.operation.specs.Record.{Seq, inBytes, inserted, text, fits, ops, recordFault}
+use Rattle.operation.specs.Record.{Seq, inBytes, inserted, text, fits, ops}
 use Rattle.operation.proofs.Sequences.{fits-limits}
-use Rattle.operation.proofs.Records.{ops-good}
 use Rattle.operational_transform.specs.declared.Written.the-variants as written
 use Rattle.operational_transform.specs.declared.core.Emitter.{Emitter}
-use Rattle.operational_transform.specs.Build.{add, extend}
+use Rattle.operational_transform.specs.Build.{add, addAll, extend}
 use Rattle.operational_transform.specs.Calls.{deliver}
 use Rattle.operational_transform.specs.Emit.{Under, Adds, Retains, Finishes, Done}
-use Rattle.operational_transform.proofs.Unique.{extend-build}
 use Rattle.operational_transform.proofs.Loops.{add-base, add-text, add-bytes}
-use Rattle.operational_transform.proofs.Adding.{adds-append, under-more}
-use Rattle.operational_transform.proofs.Delivering.{builds}
+use Rattle.operational_transform.proofs.Adding.{under-more}
 use Rattle.operational_transform.specs.Given.{Gives}
 use Rattle.operational_transform.proofs.Giving.{gives-limit}
 use Rattle.builders.specs.declared.Added.{Added}
@@ -79,8 +76,9 @@ module _ (n : ℕ) (r : List ℕ) (p : Op Char) (o o₁ o₂ : List ℕ) (e e₁
   pub added-under : Under (2 ^ 39) e₁
   added-under = under-more (2 ^ 38 + 270000 * 1) (2 ^ 39) e₁ (omega arith) (b .under (2 ^ 38) (a .under))
 
-  pub added-done : recordFault r ≡ 0 → (e₂ : Emitter) (o₃ : List ℕ) → Finishes n e₁ o₂ e₂ o₃ → Done n (extend (ops r) p) o e₂ o₃
-  added-done z e₂ o₃ f = rw (extend-build (ops r) p (ops-good r z .is-built)) (builds n o (ops r ++ (p ∷ [])) refl (adds-append n (a .adds) b) f)
+  pub added-done : (e₂ : Emitter) (o₃ : List ℕ) → Finishes n e₁ o₂ e₂ o₃ → Done n (extend (ops r) p) o e₂ o₃
+  unfolding extend addAll
+  added-done e₂ o₃ f = f .done o (add (reverse (ops r)) p) (b .keeps o (reverse (ops r)) (a .rep))
 
 -- ---- 9, where the operation alone passes a limit
 

@@ -1,12 +1,15 @@
 -- What the functions below the builders promise each other. No entry's contract cites this.
-use Prim.Native.Nat.{ℕ, _^_}
-use mathlib.Core.List.{List}
-use lib.ListN.{length}
+use Prim.Native.Nat.{ℕ, zero, suc, _*_, _^_, _≤_}
+use mathlib.Core.Bool.{cond}
+use mathlib.Core.List.{List, reverse}
+use lib.Dec.{eqb}
+use lib.ListN.{length, take, drop}
 use Rattle.utf8.specs.Text.{Char, chars}
 use Rattle.operation.specs.Op.{Op, retain, insert, delete}
-use Rattle.operation.specs.Record.{ops}
+use Rattle.operation.specs.Layout.{recordsOf, kindsStart, countsStart, textStart, kindAt, countAt}
+use Rattle.operation.specs.Record.{textOf, ops}
 use Rattle.operational_transform.specs.declared.core.Emitter.{Emitter}
-use Rattle.operational_transform.specs.Emit.{Under, nothing, Adds}
+use Rattle.operational_transform.specs.Emit.{over, Under, Rep}
 use Rattle.builders.specs.declared.Added.{Added}
 use Rattle.builders.specs.declared.Added.the-variants.{Retain, Insert, Delete}
 
@@ -22,7 +25,23 @@ countOf (Retain n) t = n
 countOf Insert t = length t
 countOf (Delete n) t = n
 
+-- the count of the record before record k, where it is of this kind; else 0
+unfoldable pub lastCount : List ℕ → ℕ → ℕ → ℕ
+lastCount r zero kind = 0
+lastCount r (suc k) kind = cond (eqb (kindAt r k) kind) (countAt r k) 0
+
+-- the first k kinds and counts and all text of the record, at their places in one of n operations
+unfoldable pub begun : ℕ → List ℕ → ℕ → List ℕ → List ℕ
+unfolding over textOf
+begun n r k o = over kindsStart (take k (drop kindsStart r)) (over (countsStart n) (take (2 * k) (drop (countsStart (recordsOf r)) r)) (over (textStart n) (textOf r) o))
+
+-- the emitter has the record's last group pending, and stands for the record's operations once all before the group is laid
+pub record Pends (r : List ℕ) (e : Emitter) : Type 0 where
+  pub few : e .records ≤ recordsOf r
+  pub under : Under (2 ^ 38) e
+  pub rep : (n : ℕ) (o : List ℕ) → Rep n o (reverse (ops r)) e (begun n r (e .records) o)
+
 -- the record's operations were emitted
 pub record Repeats (n : ℕ) (r o : List ℕ) (e : Emitter) (o′ : List ℕ) : Type 0 where
-  pub adds : Adds n (ops r) nothing o e o′
+  pub rep : Rep n o (reverse (ops r)) e o′
   pub under : Under (2 ^ 38) e

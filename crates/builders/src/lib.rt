@@ -5,16 +5,16 @@ use operational_transform::Written;
 use operational_transform::core::Emitter;
 ghost use mathlib.Core.Path.{_≡_};
 ghost use mathlib.Core.List.{[], _∷_};
-ghost use Prim.Native.Nat.{_^_, _≤_};
+ghost use Prim.Native.Nat.{_+_, _^_, _≤_, _<_};
 ghost use lib.Dec.{T};
 ghost use Rattle.utf8.specs.Form.{wellFormed};
 ghost use Rattle.operation.specs.Layout.{recordsOf};
 ghost use Rattle.operation.specs.Record.{ops, recordFault};
 ghost use Rattle.operational_transform.specs.Build.{extend};
 ghost use Rattle.operational_transform.specs.Calls.{textFault, deliver, retainCall, deleteCall, insertCall};
-ghost use Rattle.operational_transform.specs.Emit.{writtenOf, Under, Adds, Done, Writes};
+ghost use Rattle.operational_transform.specs.Emit.{writtenOf, one, Under, Adds, Done, Writes};
 ghost use Rattle.operational_transform.specs.Given.{Gives};
-ghost use Rattle.builders.specs.Extending.{opOf, countOf, Repeats};
+ghost use Rattle.builders.specs.Extending.{opOf, countOf, lastCount, begun, Pends, Repeats};
 
 // The operation that is added: an insert's text goes with it.
 enum Added {
@@ -34,17 +34,76 @@ fn count(x: Added, text: &[u8]) -> u64
     }
 }
 
+// The count of the record before record k, where it is of this kind; else 0.
+fn ending(rec: &[u8], records: usize, k: usize, kind: u8) -> usize
+    requires { ⌜ (recordFault (now rec) ≡ 0) × (records ≡ recordsOf (now rec)) × (k ≤ records) ⌝ }
+    ensures { λ r. ⌜ (r ≡ lastCount (now (rec .entry)) k kind) × (r < 65536) ⌝ }
+{
+    if k == 0 {
+        return 0;
+    }
+    if operation::core::kind(rec, k - 1) != kind {
+        return 0;
+    }
+    operation::core::count(rec, records, k - 1)
+}
+
+// How many records stand before one of this count, which is none where the count is 0.
+fn before(k: usize, count: usize) -> usize
+    requires { ⌜ one count ≤ k ⌝ }
+    ensures { λ r. ⌜ r + one count ≡ k ⌝ }
+{
+    if count == 0 { k } else { k - 1 }
+}
+
+// The last group of the record, as pending: all before it is done.
+fn pending(rec: &[u8], records: usize) -> Emitter
+    requires { ⌜ (recordFault (now rec) ≡ 0) × (records ≡ recordsOf (now rec)) × (records ≤ 1024) ⌝ }
+    ensures { λ r. ⌜ Pends (now (rec .entry)) r ⌝ }
+{
+    let ret = ending(rec, records, records, 1);
+    let x = before(records, ret);
+    let del = ending(rec, records, x, 3);
+    let y = before(x, del);
+    let ins = ending(rec, records, y, 2);
+    let text = operation::core::size(rec) - operation::core::text_start(records);
+    Emitter {
+        ins,
+        del,
+        ret,
+        records: before(y, ins),
+        text,
+        base: operation::core::base(rec),
+        target: operation::core::target(rec),
+    }
+}
+
+// The first k kinds and counts and all text of the record, at their places in one of n.
+fn lay(out: &mut [u8], n: usize, rec: &[u8], records: usize, k: usize)
+    requires { ⌜ (recordFault (now rec) ≡ 0) × (records ≡ recordsOf (now rec)) × (records ≤ 1024) × (k ≤ records) × (n ≤ 2 ^ 40) ⌝ }
+    ensures { λ _. ⌜ now (out .exit) ≡ begun n (now (rec .entry)) k (now (out .entry)) ⌝ }
+{
+    let end = operation::core::size(rec);
+    let text = operation::core::text_start(records);
+    let counts = operation::core::count_place(records, 0);
+    operational_transform::core::copy(out, operation::core::text_start(n), rec, text, end);
+    operational_transform::core::copy(
+        out,
+        operation::core::count_place(n, 0),
+        rec,
+        counts,
+        counts + 2 * k,
+    );
+    operational_transform::core::copy(out, 8, rec, 8, 8 + k);
+}
+
 // The operations that the record has already.
 fn repeat(rec: &[u8], records: usize, out: &mut [u8], n: usize) -> Emitter
     requires { ⌜ (recordFault (now rec) ≡ 0) × (records ≡ recordsOf (now rec)) × (records ≤ 1024) × (n ≤ 2 ^ 40) ⌝ }
     ensures { λ r. ⌜ Repeats n (now (rec .entry)) (now (out .entry)) r (now (out .exit)) ⌝ }
 {
-    let mut e = operational_transform::core::start();
-    let mut f = operation::core::first(rec, records);
-    while f.kind != 0 {
-        e = operational_transform::core::part(out, n, e, rec, f, f.left, f.to);
-        f = operation::core::load(rec, records, f.next, f.to);
-    }
+    let e = pending(rec, records);
+    lay(out, n, rec, records, e.records);
     e
 }
 

@@ -112,11 +112,11 @@ module _ (s : Seq) (more : List ℕ) where
   pub size-encode : sizeOf (encode s ++ more) ≡ length (encode s)
   size-encode = omega (arith, sizes, encode-length s)
 
-  drop-kinds : drop kindsStart (encode s ++ more) ≡ map code (map inBytes s) ++ (words (map size (map inBytes s)) ++ (text (map inBytes s) ++ more))
+  pub drop-kinds : drop kindsStart (encode s ++ more) ≡ map code (map inBytes s) ++ (words (map size (map inBytes s)) ++ (text (map inBytes s) ++ more))
   unfolding encode
   drop-kinds = simp append-assoc
 
-  drop-counts : drop (countsStart (recordsOf (encode s ++ more))) (encode s ++ more) ≡ words (map size (map inBytes s)) ++ (text (map inBytes s) ++ more)
+  pub drop-counts : drop (countsStart (recordsOf (encode s ++ more))) (encode s ++ more) ≡ words (map size (map inBytes s)) ++ (text (map inBytes s) ++ more)
   drop-counts = drop-front (encode s ++ more) kindsStart _ (recordsOf (encode s ++ more)) _ drop-kinds refl ∙ drop-at (map code (map inBytes s)) _ (recordsOf (encode s ++ more)) (simp length-map (sym records-encode))
 
   drop-text : drop (textStart (recordsOf (encode s ++ more))) (encode s ++ more) ≡ text (map inBytes s) ++ more
@@ -246,7 +246,7 @@ module _ (r : List ℕ) (z : recordFault r ≡ 0) where
   bounds : InLimits r
   bounds = limits r .0 (facts .in-limits)
 
-  text-length : length (textOf r) ≡ textBytesOf r
+  pub text-length : length (textOf r) ≡ textBytesOf r
   unfolding textOf
   text-length = simp (length-take, length-drop) (omega (arith, bounds))
 
@@ -257,7 +257,7 @@ module _ (r : List ℕ) (z : recordFault r ≡ 0) where
   unfolding byteOps
   inBytes-entries = are .0
 
-  inBytes-text : text (byteOps r) ≡ textOf r
+  pub inBytes-text : text (byteOps r) ≡ textOf r
   unfolding byteOps
   inBytes-text = are .1 ∙ ap (λ n. take n (textOf r)) (facts .adds-up ∙ sym text-length) ∙ take-length (textOf r)
 

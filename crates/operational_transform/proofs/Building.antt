@@ -3,11 +3,11 @@ use Prim.Native.Nat.{_<_}
 use native.Mathlib.Omega.{arith}
 use mathlib.Core.Path.{_≡_, refl, sym, _∙_}
 use lib.Dec.{T}
-use mathlib.Core.List.{List, [], _∷_, _++_, reverseAux}
+use mathlib.Core.List.{List, [], _∷_, _++_, reverse, reverseAux}
 use lib.ListN.{length-append}
 use Rattle.operation.specs.Op.{Op, retain, insert, delete, size}
 use Rattle.operation.specs.Built.{Kind, follows, kind, Built}
-use Rattle.operation.proofs.Links.{Links, links-built}
+use Rattle.operation.proofs.Links.{Links, built-links, links-built}
 use Rattle.operational_transform.specs.Build.{put, add, addAll, build}
 use Rattle.operational_transform.proofs.Meaning.{ifZero-elim, Lasting, behind-reverse, mean, mean-lasts}
 
@@ -57,7 +57,7 @@ module _ {C : Type 0} where
   Prev [] k = Unit {0}
   Prev (p ∷ r) k = T (follows (kind p) k)
 
-  abbrev Back : List (Op C) → Type 0
+  abbrev pub Back : List (Op C) → Type 0
   Back [] = Unit {0}
   Back (o ∷ r) = (0 < size o) × Prev r (kind o) × Back r
 
@@ -69,6 +69,18 @@ module _ {C : Type 0} where
   back-built [] s b j h = h
   back-built (o ∷ r) [] b j h = back-built r (o ∷ []) (b .2) (b .1) (b .0, tt, tt)
   back-built (o ∷ r) (p ∷ s) b j h = back-built r (o ∷ p ∷ s) (b .2) (b .1) (b .0, j, h)
+
+  -- and the other way
+  links-back : (o : Op C) (s r : List (Op C)) → Links (o ∷ s) → Prev r (kind o) → Back r → Back (reverseAux s (o ∷ r))
+  links-back o [] r h p b = (h .0, p, b)
+  links-back o (q ∷ s) r h p b = links-back q s (o ∷ r) (h .2) (h .1) (h .0, p, b)
+
+  pub built-back : (s : List (Op C)) → Built s → Back (reverse s)
+  built-back s h = go s (built-links s h)
+    where
+      go : (s : List (Op C)) → Links s → Back (reverse s)
+      go [] h = tt
+      go (o ∷ s) h = links-back o s [] h tt tt
 
   back-put : (o : Op C) (r : List (Op C)) → 0 < size o → Back r → Back (put o r)
   unfolding put

@@ -24,3 +24,4 @@ pub mod Emitting
 pub mod Adding
 pub mod Delivering
 pub mod Giving
+pub mod Parts
