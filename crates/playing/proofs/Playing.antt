@@ -3,21 +3,21 @@ use Prim.Native.Nat.{ℕ, _+_, _-_, _*_, _≤_, _<_, zero-le}
 use native.Mathlib.Nat.{add-zero}
 use native.Mathlib.Omega.{arith}
 use mathlib.Core.Path.{_≡_, refl, sym, ap, ap₂, _∙_}
-use mathlib.Core.List.{List, [], _++_}
+use mathlib.Core.List.{List, [], _∷_, _++_, map}
 use lib.Dec.{T}
-use lib.ListN.{length, take, drop, length-append, length-drop}
+use lib.ListN.{length, take, drop, length-append, length-drop, take-append-drop}
 use lib.Seq.{drop-drop, take-append-seam, drop-append-seam, length-take-le}
 use Rattle.utf8.specs.Form.{wellFormed}
 use Rattle.utf8.specs.Chars.{numChars}
 use Rattle.utf8.specs.Text.{Char, chars, bytes}
 use Rattle.utf8.proofs.Texts.{bytes-chars, chars-length, bytes-append}
 use Rattle.operation.specs.declared.core.Front.{Front}
-use Rattle.operation.specs.Op.{Op, takes}
-use Rattle.operation.specs.Layout.{recordsOf, baseOf}
-use Rattle.operation.specs.Record.{ops, recordFault}
+use Rattle.operation.specs.Op.{Op, retain, insert, delete, takes}
+use Rattle.operation.specs.Layout.{textBytesOf, baseOf}
+use Rattle.operation.specs.Record.{Seq, inBytes, inserted, text, ops, recordFault}
 use Rattle.operation.specs.Front.{frontText, frontOp, ahead, Stands, Loads}
 use Rattle.operation.proofs.Sequences.{fits-limits}
-use Rattle.operation.proofs.Records.{ops-base, ops-good}
+use Rattle.operation.proofs.Records.{ops-text, ops-base, ops-good}
 use Rattle.operation.proofs.Answers.{no-fault}
 use Rattle.operation.proofs.Fronts.{ops-start, op-retain, op-insert, op-delete}
 use Rattle.operational_transform.specs.Apply.{writes, apply}
@@ -87,6 +87,34 @@ module _ (r t : List ℕ) (s : State) (g : Stage r t s) (q : Place) (v : Passes 
   pub step-delete : (b : List ℕ) → (s .place .front .kind ≡ 1 → ⊥) → (s .place .front .kind ≡ 2 → ⊥) → Steps r t s b (record { place = q; len = s .len }) b
   unfolding bytes
   step-delete b d e = moves [] _ b b (ap effect (sym (op-delete r (s .place .front) d e))) (sym (add-zero (s .len))) (sym (over-nil (s .len) b))
+
+-- ---- how long the text after an edit is
+
+-- one operation more, where the others give x from what it leaves
+module _ (t x : List Char) (m : ℕ) where
+  gives-most : (n : ℕ) → length (bytes x) ≤ length (bytes (drop n t)) + m → length (bytes (take n t)) + length (bytes x) ≤ length (bytes t) + m
+  gives-most n h =
+      omega (
+        arith,
+        ap (λ l. length (bytes l)) (take-append-drop n t),
+        ap length (bytes-append (take n t) (drop n t)),
+        length-append (bytes (take n t)) (bytes (drop n t)),
+      )
+
+  writes-most : (o : Op Char) → length (bytes x) ≤ length (bytes (drop (takes o) t)) + m → length (bytes (writes o t ++ x)) ≤ length (bytes t) + (length (inserted (inBytes o)) + m)
+  unfolding inBytes
+  writes-most (retain n) h = omega (arith, gives-most n h, ap length (bytes-append (take n t) x), length-append (bytes (take n t)) (bytes x))
+  writes-most (insert y) h = omega (arith, ap length (bytes-append y x), length-append (bytes y) (bytes x))
+  writes-most (delete n) h = omega (arith, gives-most n h)
+
+-- no longer than the text before and what is inserted
+apply-most : (s : Seq) (t : List Char) → length (bytes (apply s t)) ≤ length (bytes t) + length (text (map inBytes s))
+apply-most [] t = unfold bytes in zero-le
+apply-most (o ∷ s) t = rw length-append (writes-most t (apply s (drop (takes o) t)) (length (text (map inBytes s))) o (apply-most s (drop (takes o) t)))
+
+pub played-most : (r t : List ℕ) → recordFault r ≡ 0 → T (wellFormed t) → length (played r t) ≤ length t + textBytesOf r
+unfolding played
+played-most r t z w = omega (arith, apply-most (ops r) (chars t), ap length (bytes-chars t w), ops-text r z)
 
 -- ---- the first stage and the last
 
