@@ -1,5 +1,5 @@
 -- Places in the text, and what undoes an operation there.
-use Prim.Native.Nat.{ℕ, _+_, _-_, _^_, _≤_, _<_}
+use Prim.Native.Nat.{ℕ, _+_, _-_, _^_, _≤_, _<_, min}
 use native.Mathlib.Omega.{arith}
 use mathlib.Core.Path.{_≡_, sym, ap, _∙_}
 use mathlib.Core.List.{List, [], _∷_}
@@ -8,11 +8,11 @@ use lib.ListN.{length, take, drop, length-take, length-drop}
 use lib.Seq.{length-take-le}
 use borrow.Author.Tests.{eq-eqb, ne-eqb}
 use Rattle.utf8.specs.Form.{wellFormed}
-use Rattle.utf8.specs.Chars.{takeChars}
+use Rattle.utf8.specs.Chars.{numChars, takeChars}
 use Rattle.utf8.specs.Text.{Char, chars}
 use Rattle.utf8.specs.Places.{Passes}
 use Rattle.utf8.proofs.Texts.{chars-bytes, bytes-well}
-use Rattle.utf8.proofs.Places.{skips, stays-there}
+use Rattle.utf8.proofs.Places.{skips, skips-plain, stays-there}
 use Rattle.operation.specs.declared.core.Front.{Front}
 use Rattle.operation.specs.Op.{insert, delete, size, takes}
 use Rattle.operation.specs.Front.{frontOp, Stands}
@@ -30,6 +30,9 @@ module _ (t : List ℕ) (at : ℕ) (h : at ≤ length t) (w : T (wellFormed (dro
   pub stays : (f : Front) → f .kind ≡ 2 → Passes t at (taken f) at
   stays f e = rw (eq-eqb (f .kind) 2 e) (stays-there t at h w)
 
+  pub moves-plain : (f : Front) (n l : ℕ) → (f .kind ≡ 2 → ⊥) → n ≡ numChars t → n ≡ length t → l ≡ min (f .left) (length t - at) → Passes t at (taken f) (at + l)
+  moves-plain f n l e p q m = rw (ne-eqb (f .kind) 2 e) (skips-plain t at (f .left) h w (sym p ∙ q) (at + l) (ap (λ i. at + i) m))
+
   pub moves : (f : Front) (to : ℕ) → (f .kind ≡ 2 → ⊥) → to ≡ at + length (takeChars (f .left) (drop at t)) → Passes t at (taken f) to
   moves f to e p = rw (ne-eqb (f .kind) 2 e) (skips t at (f .left) h w to p)
 
@@ -39,6 +42,9 @@ pub under-room : (e : Emitter) → Under (2 ^ 39) e → Under (2 ^ 40) e
 under-room e u = under-more (2 ^ 39) (2 ^ 40) e (omega arith) u
 
 module _ (t : List ℕ) (f : Front) (at to : ℕ) (p : Passes t at (taken f) to) where
+  pub passes-left : (f .kind ≡ 2 → ⊥) → Passes t at (f .left) to
+  passes-left e = rw (ne-eqb (f .kind) 2 e) at p
+
   pub part-well : T (wellFormed (take (to - at) (drop at t)))
   part-well = rw (p .part) (bytes-well (take (taken f) (chars (drop at t))))
 

@@ -6,11 +6,12 @@ use operational_transform::Written;
 use operational_transform::core::Emitter;
 ghost use mathlib.Core.Path.{_≡_};
 ghost use mathlib.Core.List.{[], _∷_};
-ghost use Prim.Native.Nat.{_^_, _≤_, _<_};
+ghost use Prim.Native.Nat.{_-_, _^_, _≤_, _<_};
 ghost use lib.Dec.{T};
-ghost use lib.ListN.{length, drop};
+ghost use lib.ListN.{length, take, drop};
 ghost use Rattle.utf8.specs.Form.{wellFormed};
-ghost use Rattle.utf8.specs.Text.{chars};
+ghost use Rattle.utf8.specs.Chars.{numChars};
+ghost use Rattle.utf8.specs.Text.{chars as charsOf};
 ghost use Rattle.utf8.specs.Places.{Passes};
 ghost use Rattle.operation.specs.Layout.{recordsOf};
 ghost use Rattle.operation.specs.Record.{ops, recordFault};
@@ -20,15 +21,30 @@ ghost use Rattle.operational_transform.specs.Emit.{writtenOf, Under, Adds, Done
 ghost use Rattle.operational_transform.specs.Given.{Gives};
 ghost use Rattle.invert.specs.Inverting.{taken, undone};
 
-// The place in the text behind what the operation takes from it, or the end where the characters run out.
-fn past(text: &[u8], at: usize, f: Front) -> usize
-    requires { ⌜ (at ≤ length (now text)) × T (wellFormed (drop at (now text))) ⌝ }
+// The place in the text behind what the operation takes from it, or the end where the characters run out. The text has
+// `chars` characters.
+fn past(text: &[u8], chars: usize, at: usize, f: Front) -> usize
+    requires { ⌜ (chars ≡ numChars (now text)) × (at ≤ length (now text)) × T (wellFormed (drop at (now text))) ⌝ }
     ensures { λ to. ⌜ Passes (now (text .entry)) at (taken f) to ⌝ }
 {
     if f.kind == 2 {
         return at;
     }
+    if chars == text.len() {
+        return at + operational_transform::core::lesser(f.left, text.len() - at);
+    }
     utf8::core::skip(text, at, f.left)
+}
+
+// How many characters text[at..to] has: the k that were to be passed, unless the text ran out.
+fn passed(text: &[u8], at: usize, k: usize, to: usize) -> usize
+    requires { ⌜ Passes (now text) at k to ⌝ }
+    ensures { λ r. ⌜ r ≡ numChars (take (to - at) (drop at (now (text .entry)))) ⌝ }
+{
+    if to < text.len() {
+        return k;
+    }
+    utf8::num_chars(&text[at..to])
 }
 
 // What undoes the operation, which takes text[at..to].
@@ -42,7 +58,7 @@ fn give(
     to: usize,
 ) -> Emitter
     requires { ⌜ (n ≤ 2 ^ 40) × Under (2 ^ 39) e × (f .left < 65536) × Passes (now text) at (taken f) to ⌝ }
-    ensures { λ r. ⌜ Adds n (undone f (chars (drop at (now (text .entry)))) ∷ []) e (now (out .entry)) r (now (out .exit)) ⌝ }
+    ensures { λ r. ⌜ Adds n (undone f (charsOf (drop at (now (text .entry)))) ∷ []) e (now (out .entry)) r (now (out .exit)) ⌝ }
 {
     let kind = f.kind;
     if kind == 1 {
@@ -51,20 +67,20 @@ fn give(
     if kind == 2 {
         return operational_transform::core::delete(out, n, e, f.left);
     }
-    let num = utf8::num_chars(&text[at..to]);
+    let num = passed(text, at, f.left, to);
     operational_transform::core::insert(out, n, e, text, at, to, num)
 }
 
 // All of invert, for a result of n records.
-fn run(rec: &[u8], records: usize, text: &[u8], out: &mut [u8], n: usize) -> Emitter
-    requires { ⌜ (recordFault (now rec) ≡ 0) × (records ≡ recordsOf (now rec)) × (records ≤ 1024) × T (wellFormed (now text)) × (n ≤ 2 ^ 40) ⌝ }
-    ensures { λ r. ⌜ Done n (invertOf (ops (now (rec .entry))) (chars (now (text .entry)))) (now (out .entry)) r (now (out .exit)) ⌝ }
+fn run(rec: &[u8], records: usize, text: &[u8], chars: usize, out: &mut [u8], n: usize) -> Emitter
+    requires { ⌜ (recordFault (now rec) ≡ 0) × (records ≡ recordsOf (now rec)) × (records ≤ 1024) × T (wellFormed (now text)) × (chars ≡ numChars (now text)) × (n ≤ 2 ^ 40) ⌝ }
+    ensures { λ r. ⌜ Done n (invertOf (ops (now (rec .entry))) (charsOf (now (text .entry)))) (now (out .entry)) r (now (out .exit)) ⌝ }
 {
     let mut e = operational_transform::core::start();
     let mut f = operation::core::first(rec, records);
     let mut at = 0;
     while f.kind != 0 {
-        let to = past(text, at, f);
+        let to = past(text, chars, at, f);
         e = give(text, out, n, e, f, at, to);
         f = operation::core::load(rec, records, f.next, f.to);
         at = to;
@@ -73,27 +89,28 @@ fn run(rec: &[u8], records: usize, text: &[u8], out: &mut [u8], n: usize) -> Emi
 }
 
 // The record of a result of n records.
-fn write(rec: &[u8], records: usize, text: &[u8], out: &mut [u8], n: usize)
-    requires { ⌜ (recordFault (now rec) ≡ 0) × (records ≡ recordsOf (now rec)) × (records ≤ 1024) × T (wellFormed (now text)) × (n ≤ 2 ^ 40) ⌝ }
-    ensures { λ _. ⌜ Writes n (invertOf (ops (now (rec .entry))) (chars (now (text .entry)))) (now (out .entry)) (now (out .exit)) ⌝ }
+fn write(rec: &[u8], records: usize, text: &[u8], chars: usize, out: &mut [u8], n: usize)
+    requires { ⌜ (recordFault (now rec) ≡ 0) × (records ≡ recordsOf (now rec)) × (records ≤ 1024) × T (wellFormed (now text)) × (chars ≡ numChars (now text)) × (n ≤ 2 ^ 40) ⌝ }
+    ensures { λ _. ⌜ Writes n (invertOf (ops (now (rec .entry))) (charsOf (now (text .entry)))) (now (out .entry)) (now (out .exit)) ⌝ }
 {
-    let e = run(rec, records, text, out, n);
+    let e = run(rec, records, text, chars, out, n);
     operational_transform::core::header(out, e);
 }
 
 // Of a record and a text that were checked.
 fn inverted(rec: &[u8], text: &[u8], out: &mut [u8]) -> Written
     requires { ⌜ (recordFault (now rec) ≡ 0) × T (wellFormed (now text)) ⌝ }
-    ensures { λ r. ⌜ Gives (deliver 0 (invertOf (ops (now (rec .entry))) (chars (now (text .entry)))) (now (out .entry))) r (now (out .exit)) ⌝ }
+    ensures { λ r. ⌜ Gives (deliver 0 (invertOf (ops (now (rec .entry))) (charsOf (now (text .entry)))) (now (out .entry))) r (now (out .exit)) ⌝ }
 {
     let records = operation::core::records(rec);
+    let chars = utf8::num_chars(text);
     let mut none = [0u8; 0];
-    let e = run(rec, records, text, &mut none, 0);
+    let e = run(rec, records, text, chars, &mut none, 0);
     let n = e.records;
     match operational_transform::core::judge(e, out.len()) {
         Written::Refused(x) => Written::Refused(x),
         Written::Bytes(k) => {
-            write(rec, records, text, out, n);
+            write(rec, records, text, chars, out, n);
             Written::Bytes(k)
         }
     }

@@ -124,8 +124,17 @@ pub ended-ahead : (r : List ℕ) (f : Front) → Stands r f → f .kind ≡ 0 �
 unfolding ahead
 ended-ahead r f s e = rw (s .ended e)
 
+-- the records from k on begin with the operation o, and the text of those behind it begins at `to`
+pub record Begins (r : List ℕ) (k at : ℕ) (o : Op Char) (to : ℕ) : Type 0 where
+  pub place : Place r (k + 1) to
+  pub has : opsLeft r k at ≡ o ∷ opsLeft r (k + 1) to
+
+pub begins-none : (r : List ℕ) (n k at : ℕ) → n ≡ recordsOf r → n ≤ k → opsLeft r k at ≡ []
+unfolding opsLeft
+begins-none r n k at e h = ap (map inChars) (left-done r k at (omega arith))
+
 pub load-end : (r : List ℕ) (n k at : ℕ) → n ≡ recordsOf r → Place r k at → n ≤ k → Loads r k at (record { kind = 0; left = 0; from = at; to = at; next = k })
-unfolding ahead opsLeft within
+unfolding ahead within
 load-end r n k at e p h =
     record {
       stands = record {
@@ -138,7 +147,7 @@ load-end r n k at e p h =
         text = λ z. absurd (omega arith);
         none = λ z. refl;
       };
-      has = sym (ap (map inChars) (left-done r k at (omega arith)));
+      has = sym (begins-none r n k at e h);
     }
 
 -- the record at k, as the code finds it
@@ -163,38 +172,54 @@ module _ (r : List ℕ) (n k at kind count : ℕ) (e : n ≡ recordsOf r) (p : P
   known : T (within 0 3 kind)
   known = rw (inside 0 3 kind (omega arith) (omega (arith, next))) tt
 
-  other : (o : Op ℕ) → (kind ≡ 2 → ⊥) → byteOpsLeft r k at ≡ o ∷ byteOpsLeft r (k + 1) at → (f : Front) → f ≡ record { kind = kind; left = count; from = at; to = at; next = k + 1 }
-      → frontOp r f ≡ inChars o → Loads r k at f
+  begins : (o : Op ℕ) (to : ℕ) → byteOpsLeft r k at ≡ o ∷ byteOpsLeft r (k + 1) to → to + insertBytes (entriesLeft r (k + 1)) ≤ length r → Begins r k at (inChars o) to
   unfolding opsLeft
-  other o z i f g w =
-      rw g (record {
-        stands = record {
-          place = place-next o at i (omega (arith, inserts-same r k in-range (λ y. z (q ∙ y)), p .room));
-          known = known;
-          ended = λ y. absurd (omega (arith, next));
-          some = λ y. omega (arith, next);
-          small = small;
-          part = omega arith;
-          text = λ y. absurd (z y);
-          none = λ y. refl;
-        };
-        has = some-ahead r _ (omega (arith, next)) ∙ ap (λ x. x ∷ map inChars (byteOpsLeft r (k + 1) at)) (rw g at w) ∙ ap (map inChars) (sym i);
-      })
+  begins o to i room = record { place = place-next o to i room; has = ap (map inChars) i }
 
-  pub load-other : (kind ≡ 2 → ⊥) → Loads r k at (record { kind = kind; left = count; from = at; to = at; next = k + 1 })
-  unfolding inChars
-  load-other z = go (eqb kind 1) refl
-    where
-      f : Front
-      f = record { kind = kind; left = count; from = at; to = at; next = k + 1 }
+  -- an operation without text
+  module _ (z : kind ≡ 2 → ⊥) where
+    same-room : at + insertBytes (entriesLeft r (k + 1)) ≤ length r
+    same-room = omega (arith, inserts-same r k in-range (λ y. z (q ∙ y)), p .room)
 
-      go : (b : Bool) → eqb kind 1 ≡ b → Loads r k at f
-      go true y =
-          let d = eqb-true kind 1 y in
-          other (retain count) z (left-retain r k in-range at (sym q ∙ d) ∙ ap (λ j. retain j ∷ byteOpsLeft r (k + 1) at) (sym c)) f refl (op-retain r f d)
-      go false y =
-          let d = eqb-false kind 1 y in
-          other (delete count) z (left-delete r k in-range at (λ x. d (q ∙ x)) (λ x. z (q ∙ x)) ∙ ap (λ j. delete j ∷ byteOpsLeft r (k + 1) at) (sym c)) f refl (op-delete r f d z)
+    retain-begins : kind ≡ 1 → Begins r k at (retain count) at
+    unfolding inChars
+    retain-begins d = begins (retain count) at (left-retain r k in-range at (sym q ∙ d) ∙ ap (λ j. retain j ∷ byteOpsLeft r (k + 1) at) (sym c)) same-room
+
+    delete-begins : (kind ≡ 1 → ⊥) → Begins r k at (delete count) at
+    unfolding inChars
+    delete-begins d = begins (delete count) at (left-delete r k in-range at (λ x. d (q ∙ x)) (λ x. z (q ∙ x)) ∙ ap (λ j. delete j ∷ byteOpsLeft r (k + 1) at) (sym c)) same-room
+
+    other : (o : Op Char) → Begins r k at o at → (f : Front) → f ≡ record { kind = kind; left = count; from = at; to = at; next = k + 1 } → frontOp r f ≡ o → Loads r k at f
+    other o b f g w =
+        rw g (record {
+          stands = record {
+            place = b .place;
+            known = known;
+            ended = λ y. absurd (omega (arith, next));
+            some = λ y. omega (arith, next);
+            small = small;
+            part = omega arith;
+            text = λ y. absurd (z y);
+            none = λ y. refl;
+          };
+          has = some-ahead r _ (omega (arith, next)) ∙ ap (λ x. x ∷ opsLeft r (k + 1) at) (rw g at w) ∙ sym (b .has);
+        })
+
+    pub load-other : Loads r k at (record { kind = kind; left = count; from = at; to = at; next = k + 1 })
+    load-other = go (eqb kind 1) refl
+      where
+        f : Front
+        f = record { kind = kind; left = count; from = at; to = at; next = k + 1 }
+
+        go : (b : Bool) → eqb kind 1 ≡ b → Loads r k at f
+        go true y = let d = eqb-true kind 1 y in other (retain count) (retain-begins d) f refl (op-retain r f d)
+        go false y = let d = eqb-false kind 1 y in other (delete count) (delete-begins d) f refl (op-delete r f d z)
+
+  pub begins-retain : kind ≡ 1 → Begins r k at (retain count) at
+  begins-retain d = retain-begins (λ z. absurd (omega arith)) d
+
+  pub begins-delete : (kind ≡ 1 → ⊥) → (kind ≡ 2 → ⊥) → Begins r k at (delete count) at
+  begins-delete d z = delete-begins z d
 
   module _ (z : kind ≡ 2) where
     pub load-room : at + count ≤ length r
@@ -209,34 +234,36 @@ module _ (r : List ℕ) (n k at kind count : ℕ) (e : n ≡ recordsOf r) (p : P
         let y : at + count - at ≡ count = omega arith in
         left-insert r k in-range at (sym q ∙ z) ∙ ap₂ (λ i j. insert i ∷ byteOpsLeft r (k + 1) (at + j)) (ap (λ j. take j (drop at r)) (sym c ∙ sym y)) (sym c)
 
-    well : T (wellFormed text)
-    well = both (wellInserted (insert text)) _ .0 (rw split at (p .texts)) .0
+    pub begins-well : T (wellFormed (take (at + count - at) (drop at r)))
+    unfolding text
+    begins-well = both (wellInserted (insert text)) _ .0 (rw split at (p .texts)) .0
+
+    pub begins-insert : Begins r k at (insert (chars (take (at + count - at) (drop at r)))) (at + count)
+    unfolding text inChars
+    begins-insert = begins (insert text) (at + count) split (omega (arith, inserts-more r k in-range (sym q ∙ z), p .room))
 
     some : 0 < numChars text
     unfolding text inChars
     some =
         let l : length text ≡ count = length-take-le (at + count - at) (drop at r) (simp length-drop (omega (arith, load-room))) ∙ omega arith in
-        omega (arith, chars-length text well, inChars-size (insert text) well (omega (arith, l, next)))
+        omega (arith, chars-length text begins-well, inChars-size (insert text) begins-well (omega (arith, l, next)))
 
     pub load-insert : (n : ℕ) → n ≡ numChars (take (at + count - at) (drop at r)) → Loads r k at (record { kind = kind; left = n; from = at; to = at + count; next = k + 1 })
-    unfolding opsLeft text inChars
+    unfolding text
     load-insert n m =
         let f : Front = record { kind = kind; left = n; from = at; to = at + count; next = k + 1 } in
         record {
           stands = record {
-            place = place-next (insert text) (at + count) split (omega (arith, inserts-more r k in-range (sym q ∙ z), p .room));
+            place = begins-insert .place;
             known = known;
             ended = λ y. absurd (omega arith);
             some = λ y. omega (arith, some);
             small = omega (arith, num-le text, length-take (at + count - at) (drop at r));
             part = omega arith;
-            text = λ y. (well, m);
+            text = λ y. (begins-well, m);
             none = λ y. absurd (y z);
           };
-          has =
-              some-ahead r f (omega (arith, some))
-              ∙ ap (λ x. x ∷ map inChars (byteOpsLeft r (k + 1) (at + count))) (op-insert r f z)
-              ∙ ap (map inChars) (sym split);
+          has = some-ahead r f (omega (arith, some)) ∙ ap (λ x. x ∷ opsLeft r (k + 1) (at + count)) (op-insert r f z) ∙ sym (begins-insert .has);
         }
 
 -- ---- cutting

@@ -265,6 +265,9 @@ module _ (r : List ℕ) (z : recordFault r ≡ 0) where
   unfolding ops
   inBytes-ops = inBytes-inChars (byteOps r) (facts .texts)
 
+  pub ops-text : length (text (map inBytes (ops r))) ≡ textBytesOf r
+  ops-text = ap (λ q. length (text q)) inBytes-ops ∙ ap length inBytes-text ∙ text-length
+
   pub byteOps-length : length (byteOps r) ≡ recordsOf r
   unfolding entries
   byteOps-length = sym (length-map (byteOps r) entryOf) ∙ ap length inBytes-entries ∙ length-entries r 0 (recordsOf r)

@@ -2,7 +2,7 @@
 ghost use mathlib.Core.Path.{_≡_};
 ghost use Prim.Native.Nat.{_+_, _*_, _^_, _≤_, _<_};
 ghost use lib.ListN.{length};
-ghost use Rattle.operation.specs.Layout.{wordAt, recordsOf, baseOf, targetOf, sizeOf, kindsStart, countsStart, textStart, kindAt, countAt};
+ghost use Rattle.operation.specs.Layout.{wordAt, recordsOf, textBytesOf, baseOf, targetOf, sizeOf, kindsStart, countsStart, textStart, kindAt, countAt};
 ghost use Rattle.operation.specs.Record.{recordFault, ops};
 ghost use Rattle.operation.specs.Calls.{textFrom};
 ghost use Rattle.operation.specs.Front.{Place, Stands, ahead, Loads, Leaves, Cut};
@@ -45,6 +45,14 @@ pub fn target(rec: &[u8]) -> usize
     ensures { λ r. ⌜ r ≡ targetOf (now (rec .entry)) ⌝ }
 {
     crate::layout::target(rec)
+}
+
+// How many bytes are inserted.
+pub fn text_bytes(rec: &[u8]) -> usize
+    requires { ⌜ recordFault (now rec) ≡ 0 ⌝ }
+    ensures { λ r. ⌜ (r ≡ textBytesOf (now (rec .entry))) × (r < 65536) ⌝ }
+{
+    crate::layout::text_bytes(rec)
 }
 
 // How many bytes the record has.

@@ -1,5 +1,5 @@
 -- From what the code finds to the answer of apply.
-use Prim.Native.Nat.{ℕ, zero, suc, _≤_, _<_}
+use Prim.Native.Nat.{ℕ, zero, suc, _+_, _≤_, _<_}
 use native.Mathlib.Omega.{arith}
 use mathlib.Core.Path.{_≡_, refl, sym, ap, _∙_}
 use mathlib.Core.Bool.{Bool, true, false, not}
@@ -14,7 +14,7 @@ use Rattle.operation.specs.declared.Refusal.{Refusal}
 use Rattle.operation.specs.declared.Fact.{Fact}
 use Rattle.operation.specs.declared.Fact.the-variants as fact
 use Rattle.operation.specs.Answer.{number, gives, refused, factOf, needs, first, settle}
-use Rattle.operation.specs.Layout.{baseOf}
+use Rattle.operation.specs.Layout.{textBytesOf, baseOf}
 use Rattle.operation.specs.Record.{recordFault}
 use Rattle.operation.specs.Calls.{checkCall}
 use Rattle.operation.proofs.Answers.{same-refusal, passed}
@@ -24,6 +24,7 @@ use Rattle.operational_transform.specs.Emit.{over}
 use Rattle.playing.specs.Steps.{played}
 use Rattle.operational_transform.proofs.Over.{over-none, over-front}
 use Rattle.operational_transform.proofs.Outputs.{writing-stops, writing-short, writing-goes, untouched}
+use Rattle.playing.proofs.Playing.{played-most}
 
 -- ---- apply
 
@@ -44,6 +45,29 @@ module _ (r t o : List ℕ) (z : recordFault r ≡ 0) (w : T (wellFormed t)) (a 
   no-fault : faultOf r t ≡ 0
   no-fault = rw (z, holds (wellFormed t) w, eq-eqb (numChars t) (baseOf r) a)
 
+  -- there is room
+  module _ (room : length (played r t) ≤ length o) where
+    whole : record { answer = gives (length (played r t) ∷ []); out = atFront (played r t) o } ≡ applyCall r t o
+    unfolding applyCall played
+    whole = writing-goes (faultOf r t) (played r t) o no-fault room
+
+    gives-size : (k : ℕ) → k ≡ length (played r t) → gives (k ∷ []) ≡ applyCall r t o .answer
+    gives-size k p = ap (λ i. gives (i ∷ [])) p ∙ ap (λ x. x .answer) whole
+
+    gives-out : (c : List ℕ) → c ≡ over 0 (played r t) o → c ≡ applyCall r t o .out
+    gives-out c p = p ∙ over-front (played r t) o room ∙ ap (λ x. x .out) whole
+
+  -- room for the text before and all that is inserted
+  module _ (m : ℕ) (pm : m ≡ textBytesOf r) (l : length t + m ≤ length o) where
+    ample : length (played r t) ≤ length o
+    ample = omega (arith, played-most r t z w)
+
+    pub once-0 : (k : ℕ) → k ≡ length (played r t) → gives (k ∷ []) ≡ applyCall r t o .answer
+    once-0 = gives-size ample
+
+    pub once-out : (c : List ℕ) → c ≡ over 0 (played r t) o → c ≡ applyCall r t o .out
+    once-out = gives-out ample
+
   -- the run on no output leaves e
   module _ (e : List ℕ) (pe : e ≡ over 0 (played r t) []) (size : ℕ) (ps : size ≡ length (played r t)) where
     same : e ++ o ≡ o
@@ -57,15 +81,11 @@ module _ (r t o : List ℕ) (z : recordFault r ≡ 0) (w : T (wellFormed t)) (a 
       room : length (played r t) ≤ length o
       room = omega (arith, ap length same)
 
-      whole : record { answer = gives (length (played r t) ∷ []); out = atFront (played r t) o } ≡ applyCall r t o
-      unfolding applyCall played
-      whole = writing-goes (faultOf r t) (played r t) o no-fault room
-
       pub apply-0 : (k : ℕ) → k ≡ length (played r t) → gives (k ∷ []) ≡ applyCall r t o .answer
-      apply-0 k p = ap (λ i. gives (i ∷ [])) p ∙ ap (λ x. x .answer) whole
+      apply-0 = gives-size room
 
       pub apply-out : (c : List ℕ) → c ≡ over 0 (played r t) (e ++ o) → c ≡ applyCall r t o .out
-      apply-out c p = p ∙ ap (over 0 (played r t)) same ∙ over-front (played r t) o room ∙ ap (λ x. x .out) whole
+      apply-out c p = gives-out room c (p ∙ ap (over 0 (played r t)) same)
 
 -- what the checks find
 module _ (r t o : List ℕ) (f : Fact) (p : factOf f ≡ checkCall r) where

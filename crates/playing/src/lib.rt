@@ -34,11 +34,16 @@ pub fn apply(rec: &[u8], text: &[u8], out: &mut [u8]) -> Written
     }
 }
 
-// A first run yields the size and writes nothing.
+// The text after the edit has no more bytes than the text before and what is inserted. Where there may be too little room
+// a first run yields the size and writes nothing.
 fn write(rec: &[u8], text: &[u8], out: &mut [u8]) -> Written
     requires { ⌜ (recordFault (now rec) ≡ 0) × T (wellFormed (now text)) × (numChars (now text) ≡ baseOf (now rec)) ⌝ }
     ensures { λ r. ⌜ (writtenOf r ≡ applyCall (now (rec .entry)) (now (text .entry)) (now (out .entry)) .answer) × (now (out .exit) ≡ applyCall (now (rec .entry)) (now (text .entry)) (now (out .entry)) .out) ⌝ }
 {
+    let inserted = operation::core::text_bytes(rec);
+    if text.len() + inserted <= out.len() {
+        return Written::Bytes(steps::run(out, rec, text));
+    }
     let size = steps::run(&mut out[..0], rec, text);
     if out.len() < size {
         return Written::Refused(Refusal::Room);

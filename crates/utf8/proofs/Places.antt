@@ -1,18 +1,19 @@
 -- The place that `skip` finds.
-use Prim.Native.Nat.{ℕ, _+_, _-_, _≤_}
+use Prim.Native.Nat.{ℕ, _+_, _-_, _≤_, _<_, min}
 use native.Mathlib.Omega.{arith}
 use mathlib.Core.Path.{_≡_, refl, sym, ap, ap₂, _∙_}
-use mathlib.Core.List.{List, _++_}
+use mathlib.Core.List.{List, [], _∷_, _++_}
 use lib.Dec.{T}
-use lib.ListN.{length, take, drop, length-append, length-drop}
+use lib.ListN.{length, take, drop, length-append, length-take, length-drop, take-append-drop}
 use lib.Seq.{drop-drop, take-at, drop-at}
 use Rattle.utf8.specs.Form.{wellFormed}
-use Rattle.utf8.specs.Chars.{charsOf, concat, takeChars}
-use Rattle.utf8.specs.Text.{chars, bytes}
+use Rattle.utf8.specs.Chars.{numChars, charsOf, concat, takeChars, dropChars}
+use Rattle.utf8.specs.Text.{Char, chars, bytes}
 use Rattle.utf8.specs.Places.{Passes}
 use Rattle.utf8.proofs.Tests.{holds}
-use Rattle.utf8.proofs.Chars.{well-all}
-use Rattle.utf8.proofs.Texts.{chars-bytes, bytes-well, bytes-take, bytes-split}
+use Rattle.utf8.proofs.Chars.{num-append, num-le, well-all}
+use Rattle.utf8.proofs.Cuts.{take-drop-chars, num-take}
+use Rattle.utf8.proofs.Texts.{chars-bytes, bytes-chars, bytes-well, chars-length, bytes-take, bytes-split}
 
 module _ (t : List ℕ) (at k : ℕ) (h : at ≤ length t) (w : T (wellFormed (drop at t))) where
   -- behind the bytes of k characters
@@ -37,6 +38,63 @@ module _ (t : List ℕ) (at k : ℕ) (h : at ≤ length t) (w : T (wellFormed (d
     where
       skipped : takeChars k (drop at t) ≡ bytes (take k (chars (drop at t)))
       skipped = ap (λ l. l ++ concat (take k (charsOf (drop at t)))) (well-all (drop at t) (holds (wellFormed (drop at t)) w) .0) ∙ sym (bytes-take k (drop at t) w)
+
+  -- where every character is one byte, k of them are k bytes
+  module _ (e : numChars t ≡ length t) where
+    plain : numChars (drop at t) ≡ length (drop at t)
+    plain =
+        omega (
+          arith,
+          ap numChars (take-append-drop at t),
+          num-append (take at t) (drop at t),
+          ap length (take-append-drop at t),
+          length-append (take at t) (drop at t),
+          num-le (take at t),
+          num-le (drop at t),
+        )
+
+    pub skips-plain : (to : ℕ) → to ≡ at + min k (length t - at) → Passes t at k to
+    skips-plain to p = skips to (p ∙ ap (λ i. at + i) (sym taken))
+      where
+        taken : length (takeChars k (drop at t)) ≡ min k (length t - at)
+        taken =
+            let x = drop at t in
+            omega (
+              arith,
+              plain,
+              length-drop at t,
+              ap numChars (take-drop-chars k x),
+              num-append (takeChars k x) (dropChars k x),
+              ap length (take-drop-chars k x),
+              length-append (takeChars k x) (dropChars k x),
+              num-le (takeChars k x),
+              num-le (dropChars k x),
+              num-take k x,
+            )
+
+some-chars : (y : List ℕ) → T (wellFormed y) → 0 < length y → 0 < length (chars y)
+unfolding bytes
+some-chars y w l = go (chars y) (bytes-chars y w)
+  where
+    go : (c : List Char) → bytes c ≡ y → 0 < length c
+    go [] e = absurd (omega (arith, ap length e))
+    go (d ∷ c) e = omega arith
+
+-- characters that the text does not run out of are all there
+pub passes-all : (t : List ℕ) (at k to : ℕ) → Passes t at k to → to < length t → k ≡ numChars (take (to - at) (drop at t))
+passes-all t at k to p h =
+    let x = chars (drop at t) in
+    let y = drop to t in
+    omega (
+      arith,
+      ap numChars (p .part),
+      chars-length (bytes (take k x)) (bytes-well (take k x)),
+      ap length (chars-bytes (take k x)),
+      length-take k x,
+      ap length (p .left),
+      length-drop k x,
+      some-chars y (p .well) (omega (arith, length-drop to t)),
+    )
 
 -- no characters
 pub stays-there : (t : List ℕ) (at : ℕ) → at ≤ length t → T (wellFormed (drop at t)) → Passes t at 0 at

@@ -1,5 +1,6 @@
 -- ASCII bytes: eight seen at once, and a run of them passed.
 use Prim.Native.Nat.{ℕ, zero, suc, _+_, _*_, _-_, _/_, _%_, _^_, _≤_, _<_}
+use native.Mathlib.Nat.{zero-add, sub-zero}
 use native.Mathlib.Omega.{arith}
 use mathlib.Core.Path.{_≡_, refl, sym, ap, ap₂, _∙_}
 use mathlib.Core.Logic.{⊎-elim}
@@ -13,10 +14,10 @@ use lib.Bits.{bitAnd, bitOr, and-block, and-high, or-shifted-r}
 use borrow.Author.Tests.{lt-ltb, le-ltb, ltb-true, ne-eqb}
 use Rattle.utf8.specs.declared.Lead.the-variants.{Of}
 use Rattle.utf8.specs.Form.{rows, leadOf, wellFormed}
-use Rattle.utf8.specs.Chars.{allOf}
+use Rattle.utf8.specs.Chars.{isCont, numChars, allOf}
 use Rattle.utf8.specs.Ascii.{isAscii, wordOf, Runs, RunsOut}
 use Rattle.utf8.proofs.Tests.{holds, known}
-use Rattle.utf8.proofs.Leads.{le-or-lt, lead-row}
+use Rattle.utf8.proofs.Leads.{under, le-or-lt, lead-row}
 use Rattle.utf8.proofs.Chars.{split, all-append}
 use Rattle.utf8.proofs.Walk.{next}
 
@@ -159,6 +160,19 @@ runs-well t at to r =
     let a = r .above in
     let z : at + (to - at) ≡ to = omega arith in
     ap (λ j. wellFormed (drop j t)) (sym z) ∙ ap wellFormed (sym (drop-drop (to - at) at t)) ∙ ascii-well (to - at) (drop at t) (holds (allOf isAscii (take (to - at) (drop at t))) (r .plain))
+
+ascii-num : (n : ℕ) (l : List ℕ) → n ≤ length l → allOf isAscii (take n l) ≡ true → n + numChars (drop n l) ≡ numChars l
+unfolding isAscii isCont
+ascii-num zero l h e = zero-add (numChars l)
+ascii-num (suc n) [] h e = absurd (omega arith)
+ascii-num (suc n) (b ∷ l) h e =
+    let (p, q) = split (isAscii b) (allOf isAscii (take n l)) e in
+    let m = ascii-num n l (omega arith) q in
+    rw (under 0x80 0xBF b (ltb-true b 0x80 p)) (omega arith)
+
+-- each byte of a run is a character
+pub runs-num : (t : List ℕ) (to : ℕ) → RunsOut t 0 to → to + numChars (drop to t) ≡ numChars t
+runs-num t to r = ascii-num to t (r .runs .below) (rw (sub-zero to) at (holds (allOf isAscii (take (to - 0) t)) (r .runs .plain)))
 
 pub runs-out : (t : List ℕ) (at i j to : ℕ) → Runs t at i → Runs t i j → RunsOut t j to → RunsOut t at to
 runs-out t at i j to p q r = record { runs = runs-join t at j to (runs-join t at i j p q) (r .runs); out = r .out }

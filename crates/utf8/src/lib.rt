@@ -21,12 +21,12 @@ fn is_cont(b: u8) -> bool
     0x80 <= b && b <= 0xBF
 }
 
-// The number of bytes that aren't continuations.
+// The number of bytes that aren't continuations: first a run of ASCII bytes, then each byte.
 pub fn num_chars(bytes: &[u8]) -> usize
     ensures { λ r. ⌜ r ≡ numChars (now (bytes .entry)) ⌝ }
 {
-    let mut n: usize = 0;
-    let mut i = 0;
+    let mut i = ascii::run(bytes, 0);
+    let mut n = i;
     while i < bytes.len() {
         if !is_cont(bytes[i]) {
             n += 1;

@@ -1,4 +1,4 @@
-use Rattle.invert.proofs.Passing.{under-room, part-well, part-few, gives-retain, gives-delete, gives-insert}
+use Rattle.invert.proofs.Passing.{passes-left, under-room, part-well, part-few, gives-retain, gives-delete, gives-insert}
 use borrow.Author.Needs.{needs}
 use Rattle.invert.proofs.give.Statement.{statement}
 use Rattle.invert.proofs.give.Tie as tie
@@ -18,17 +18,8 @@ same-length c = search needs
 returns-2 : tie.Need-returns-2
 returns-2 c = search gives-delete
 
-sub-num-chars : tie.Need-sub-num-chars
-sub-num-chars c = search needs
-
-part-num-chars-start : tie.Need-part-num-chars-start
-part-num-chars-start c = search needs
-
-part-num-chars-end : tie.Need-part-num-chars-end
-part-num-chars-end c = search needs
-
-num-chars-requires : tie.Need-num-chars-requires
-num-chars-requires c κs = search needs
+passed-requires : tie.Need-passed-requires
+passed-requires c κs = search passes-left
 
 insert-requires : tie.Need-insert-requires
 insert-requires c κs = search (part-well, part-few, under-room, needs)
@@ -48,10 +39,7 @@ give-spec =
     delete-requires
     same-length
     returns-2
-    sub-num-chars
-    part-num-chars-start
-    part-num-chars-end
-    num-chars-requires
+    passed-requires
     insert-requires
     same-length-2
     returns-3)

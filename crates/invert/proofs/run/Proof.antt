@@ -7,10 +7,10 @@ use Rattle.invert.proofs.run.Statement.{statement}
 use Rattle.invert.proofs.run.Tie as tie
 
 abbrev Inv-loop : tie.InvT-loop
-Inv-loop rec records text out₀ n e₀ f₀ at₀ out e f at = Going n rec text out₀ f at e out × (length out ≡ length out₀)
+Inv-loop rec records text chars out₀ n e₀ f₀ at₀ out e f at = Going n rec text out₀ f at e out × (length out ≡ length out₀)
 
 abbrev μ-loop : tie.MeasureT-loop
-μ-loop rec records text out₀ n e₀ f₀ at₀ out e f at = length (ahead rec f)
+μ-loop rec records text chars out₀ n e₀ f₀ at₀ out e f at = length (ahead rec f)
 
 start-requires : tie.Need-start-requires Inv-loop μ-loop
 start-requires c κs = search needs

@@ -6,18 +6,22 @@ use lib.ListN.{length, drop, drop-of-length-le}
 use borrow.Author.Tests.{not-true, not-false}
 use Rattle.utf8.specs.Chars.{numChars}
 use Rattle.utf8.proofs.Walk.{num-cont, num-start}
+use Rattle.utf8.proofs.Runs.{runs-num}
 use borrow.Author.Needs.{needs}
 use Rattle.utf8.proofs.num_chars.Statement.{statement}
 use Rattle.utf8.proofs.num_chars.Tie as tie
 
 abbrev Inv-loop : tie.InvT-loop
-Inv-loop s n₀ i₀ n i = (i ≤ length s) × (n ≤ i) × (n + numChars (drop i s) ≡ numChars s)
+Inv-loop s i₀ n₀ i n = (i ≤ length s) × (n ≤ i) × (n + numChars (drop i s) ≡ numChars s)
 
 abbrev μ-loop : tie.MeasureT-loop
-μ-loop s n₀ i₀ n i = length s - i
+μ-loop s i₀ n₀ i n = length s - i
+
+run-requires : tie.Need-run-requires Inv-loop μ-loop
+run-requires c κs = search needs
 
 loop-holds : tie.Need-loop-holds Inv-loop μ-loop
-loop-holds c = search needs
+loop-holds c = (search needs, search needs, search runs-num)
 
 shared-slice-read-is-cont : tie.Need-shared-slice-read-is-cont Inv-loop μ-loop
 shared-slice-read-is-cont c = search needs
@@ -36,13 +40,13 @@ loop-less c = search needs
 
 loop-again : tie.Need-loop-again Inv-loop μ-loop
 loop-again c =
-    let s = c .before .before .before .before .before .before .args .bytes .now in
+    let s = c .before .before .before .before .before .before .before .args .bytes .now in
     let i = c .before .before .before .before .loop .i in
     let h : i < length s = omega arith in
     ⊎-elim (λ w. omega (arith, num-start s i h (cc (not-true (c .before .is-cont .result) (w .0 .taken))))) (λ w. omega (arith, num-cont s i h (cc (not-false (c .before .is-cont .result) (w .0 .left))))) (c .if1 .came)
 
 returns : tie.Need-returns Inv-loop μ-loop
-returns c = omega (arith, ap numChars (drop-of-length-le (c .before .before .before .args .bytes .now) {i = c .before .loop .i} (omega arith)))
+returns c = omega (arith, ap numChars (drop-of-length-le (c .before .before .before .before .args .bytes .now) {i = c .before .loop .i} (omega arith)))
 
 pub num-chars-spec : {M : Type 1} → statement M
 num-chars-spec =
@@ -50,6 +54,7 @@ num-chars-spec =
     (tie.spec
     Inv-loop
     μ-loop
+    run-requires
     loop-holds
     shared-slice-read-is-cont
     is-cont-requires

@@ -1,7 +1,7 @@
-use mathlib.Core.Path.{_≡_, refl, sym}
+use Prim.Native.Nat.{_-_}
+use mathlib.Core.Path.{_≡_, refl, sym, _∙_}
 use lib.ListN.{length, take}
 use borrow.Author.Needs.{needs}
-use Rattle.operation.specs.Front.{ahead}
 use Rattle.operational_transform.specs.Emit.{over}
 use Rattle.playing.specs.Steps.{played, Stage}
 use Rattle.operational_transform.proofs.Over.{over-nil}
@@ -11,16 +11,19 @@ use Rattle.playing.proofs.steps.run.Statement.{statement}
 use Rattle.playing.proofs.steps.run.Tie as tie
 
 abbrev Inv-loop : tie.InvT-loop
-Inv-loop out₀ rec text n s₀ out s = Stage rec text s × (out ≡ over 0 (take (s .len) (played rec text)) out₀) × (length out ≡ length out₀)
+Inv-loop out₀ rec text n chars from s₀ out s = Stage rec text s × (out ≡ over 0 (take (s .len) (played rec text)) out₀) × (length out ≡ length out₀)
 
 abbrev μ-loop : tie.MeasureT-loop
-μ-loop out₀ rec text n s₀ out s = length (ahead rec (s .place .front))
+μ-loop out₀ rec text n chars from s₀ out s = n - s .k
 
 records-requires : tie.Need-records-requires Inv-loop μ-loop
 records-requires c κs = search needs
 
-first-requires : tie.Need-first-requires Inv-loop μ-loop
-first-requires c κs = search needs
+base-requires : tie.Need-base-requires Inv-loop μ-loop
+base-requires c κs = search needs
+
+text-start-requires : tie.Need-text-start-requires Inv-loop μ-loop
+text-start-requires c κs = search needs
 
 loop-holds : tie.Need-loop-holds Inv-loop μ-loop
 loop-holds c = (search stage-start, sym (over-nil 0 _), refl)
@@ -47,7 +50,8 @@ run-spec =
     Inv-loop
     μ-loop
     records-requires
-    first-requires
+    base-requires
+    text-start-requires
     loop-holds
     step-requires
     loop-less

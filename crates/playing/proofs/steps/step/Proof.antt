@@ -1,16 +1,22 @@
-use Rattle.playing.proofs.Playing.{step-insert, step-retain, step-delete}
+use Rattle.playing.proofs.Playing.{insert-room, step-insert, chars-room, step-retain, step-delete}
 use borrow.Author.Needs.{needs}
 use Rattle.playing.proofs.steps.step.Statement.{statement}
 use Rattle.playing.proofs.steps.step.Tie as tie
 
-next-requires : tie.Need-next-requires
-next-requires c κs = search needs
+kind-requires : tie.Need-kind-requires
+kind-requires c κs = search needs
+
+count-requires : tie.Need-count-requires
+count-requires c κs = search needs
+
+add-to : tie.Need-add-to
+add-to c = search needs
 
 copy-requires : tie.Need-copy-requires
-copy-requires c κs = search needs
+copy-requires c κs = (search needs, search needs, search insert-room)
 
-sub-t19 : tie.Need-sub-t19
-sub-t19 c = search needs
+add-t19 : tie.Need-add-t19
+add-t19 c = search needs
 
 add-t20 : tie.Need-add-t20
 add-t20 c = search needs
@@ -21,20 +27,29 @@ same-length c = search needs
 returns : tie.Need-returns
 returns c = search step-insert
 
+behind-requires : tie.Need-behind-requires
+behind-requires c κs = (search needs, search needs, search needs, search needs, search chars-room)
+
 copy-requires-2 : tie.Need-copy-requires-2
 copy-requires-2 c κs = search needs
 
-sub-t24 : tie.Need-sub-t24
-sub-t24 c = search needs
+add-t24 : tie.Need-add-t24
+add-t24 c = search needs
 
-add-t25 : tie.Need-add-t25
-add-t25 c = search needs
+sub-t25 : tie.Need-sub-t25
+sub-t25 c = search needs
+
+add-t26 : tie.Need-add-t26
+add-t26 c = search needs
 
 same-length-2 : tie.Need-same-length-2
 same-length-2 c = search needs
 
 returns-2 : tie.Need-returns-2
 returns-2 c = search step-retain
+
+add-t27 : tie.Need-add-t27
+add-t27 c = search needs
 
 returns-3 : tie.Need-returns-3
 returns-3 c = search step-delete
@@ -43,15 +58,20 @@ pub step-spec : {M : Type 1} → statement M
 step-spec =
     tie.close
     (tie.spec
-    next-requires
+    kind-requires
+    count-requires
+    add-to
     copy-requires
-    sub-t19
+    add-t19
     add-t20
     same-length
     returns
+    behind-requires
     copy-requires-2
-    sub-t24
-    add-t25
+    add-t24
+    sub-t25
+    add-t26
     same-length-2
     returns-2
+    add-t27
     returns-3)
