@@ -44,7 +44,7 @@ fn passed(text: &[u8], at: usize, k: usize, to: usize) -> usize
     if to < text.len() {
         return k;
     }
-    utf8::num_chars(&text[at..to])
+    utf8::core::count(&text[at..to])
 }
 
 // What undoes the operation, which takes text[at..to].

@@ -8,7 +8,7 @@ use mathlib.Core.Bool.{Bool, true, false, _&&_}
 use mathlib.Core.List.{List, [], _∷_}
 use lib.Dec.{T, eqb, lit<, lit≤}
 use lib.ListN.{length, getD, take, drop, length-take, length-drop}
-use lib.Seq.{take-add, drop-drop, getD-drop}
+use lib.Seq.{take-all, take-add, drop-drop, getD-drop}
 use lib.Pow as Pow
 use lib.Bits.{bitAnd, bitOr, and-block, and-high, or-shifted-r}
 use borrow.Author.Tests.{lt-ltb, le-ltb, ltb-true, ne-eqb}
@@ -171,8 +171,11 @@ ascii-num (suc n) (b ∷ l) h e =
     rw (under 0x80 0xBF b (ltb-true b 0x80 p)) (omega arith)
 
 -- each byte of a run is a character
-pub runs-num : (t : List ℕ) (to : ℕ) → RunsOut t 0 to → to + numChars (drop to t) ≡ numChars t
+runs-num : (t : List ℕ) (to : ℕ) → RunsOut t 0 to → to + numChars (drop to t) ≡ numChars t
 runs-num t to r = ascii-num to t (r .runs .below) (rw (sub-zero to) at (holds (allOf isAscii (take (to - 0) t)) (r .runs .plain)))
+
+pub runs-count : (t : List ℕ) (to n : ℕ) → RunsOut t 0 to → n ≡ numChars (take (length t - to) (drop to t)) → to + n ≡ numChars t
+runs-count t to n r e = ap (λ k. to + k) (e ∙ ap numChars (take-all (length t - to) (drop to t) (omega (arith, length-drop to t)))) ∙ runs-num t to r
 
 pub runs-out : (t : List ℕ) (at i j to : ℕ) → Runs t at i → Runs t i j → RunsOut t j to → RunsOut t at to
 runs-out t at i j to p q r = record { runs = runs-join t at j to (runs-join t at i j p q) (r .runs); out = r .out }

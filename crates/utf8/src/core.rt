@@ -3,7 +3,7 @@ ghost use mathlib.Core.Path.{_≡_};
 ghost use mathlib.Core.List.{_++_};
 ghost use Prim.Native.Nat.{_+_, _≤_};
 ghost use lib.ListN.{length, take, drop};
-ghost use Rattle.utf8.specs.Chars.{isCont, takeChars};
+ghost use Rattle.utf8.specs.Chars.{numChars, isCont, takeChars};
 ghost use Rattle.utf8.specs.Order.{byteOrder};
 
 pub fn continues(b: u8) -> bool
@@ -17,6 +17,21 @@ pub enum Ordering {
     Less,
     Equal,
     Greater,
+}
+
+// The number of bytes that aren't continuations, byte by byte: for short texts.
+pub fn count(bytes: &[u8]) -> usize
+    ensures { λ r. ⌜ (r ≡ numChars (now (bytes .entry))) × (r ≤ length (now (bytes .entry))) ⌝ }
+{
+    let mut n: usize = 0;
+    let mut i = 0;
+    while i < bytes.len() {
+        if !crate::is_cont(bytes[i]) {
+            n += 1;
+        }
+        i += 1;
+    }
+    n
 }
 
 // The place k characters after `at`, or the end where they run out.

@@ -25,15 +25,8 @@ fn is_cont(b: u8) -> bool
 pub fn num_chars(bytes: &[u8]) -> usize
     ensures { λ r. ⌜ r ≡ numChars (now (bytes .entry)) ⌝ }
 {
-    let mut i = ascii::run(bytes, 0);
-    let mut n = i;
-    while i < bytes.len() {
-        if !is_cont(bytes[i]) {
-            n += 1;
-        }
-        i += 1;
-    }
-    n
+    let i = ascii::run(bytes, 0);
+    i + core::count(&bytes[i..])
 }
 
 fn lead_of(b: u8) -> Lead

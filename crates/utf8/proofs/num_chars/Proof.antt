@@ -1,65 +1,37 @@
-use Prim.Native.Nat.{_+_, _-_, _≤_, _<_}
-use mathlib.Core.Path.{_≡_, ap}
-use mathlib.Core.Logic.{⊎-elim}
-use native.Mathlib.Omega.{arith}
-use lib.ListN.{length, drop, drop-of-length-le}
-use borrow.Author.Tests.{not-true, not-false}
-use Rattle.utf8.specs.Chars.{numChars}
-use Rattle.utf8.proofs.Walk.{num-cont, num-start}
-use Rattle.utf8.proofs.Runs.{runs-num}
+use Rattle.utf8.proofs.Runs.{runs-count}
 use borrow.Author.Needs.{needs}
 use Rattle.utf8.proofs.num_chars.Statement.{statement}
 use Rattle.utf8.proofs.num_chars.Tie as tie
 
-abbrev Inv-loop : tie.InvT-loop
-Inv-loop s i₀ n₀ i n = (i ≤ length s) × (n ≤ i) × (n + numChars (drop i s) ≡ numChars s)
-
-abbrev μ-loop : tie.MeasureT-loop
-μ-loop s i₀ n₀ i n = length s - i
-
-run-requires : tie.Need-run-requires Inv-loop μ-loop
+run-requires : tie.Need-run-requires
 run-requires c κs = search needs
 
-loop-holds : tie.Need-loop-holds Inv-loop μ-loop
-loop-holds c = (search needs, search needs, search runs-num)
+sub-count : tie.Need-sub-count
+sub-count c = search needs
 
-shared-slice-read-is-cont : tie.Need-shared-slice-read-is-cont Inv-loop μ-loop
-shared-slice-read-is-cont c = search needs
+part-count-start : tie.Need-part-count-start
+part-count-start c = search needs
 
-is-cont-requires : tie.Need-is-cont-requires Inv-loop μ-loop
-is-cont-requires c κs = search needs
+part-count-end : tie.Need-part-count-end
+part-count-end c = search needs
 
-add-n : tie.Need-add-n Inv-loop μ-loop
-add-n c = search needs
+count-requires : tie.Need-count-requires
+count-requires c κs = search needs
 
-add-i : tie.Need-add-i Inv-loop μ-loop
-add-i c = search needs
+add-result : tie.Need-add-result
+add-result c = search needs
 
-loop-less : tie.Need-loop-less Inv-loop μ-loop
-loop-less c = search needs
-
-loop-again : tie.Need-loop-again Inv-loop μ-loop
-loop-again c =
-    let s = c .before .before .before .before .before .before .before .args .bytes .now in
-    let i = c .before .before .before .before .loop .i in
-    let h : i < length s = omega arith in
-    ⊎-elim (λ w. omega (arith, num-start s i h (cc (not-true (c .before .is-cont .result) (w .0 .taken))))) (λ w. omega (arith, num-cont s i h (cc (not-false (c .before .is-cont .result) (w .0 .left))))) (c .if1 .came)
-
-returns : tie.Need-returns Inv-loop μ-loop
-returns c = omega (arith, ap numChars (drop-of-length-le (c .before .before .before .before .args .bytes .now) {i = c .before .loop .i} (omega arith)))
+returns : tie.Need-returns
+returns c = search runs-count
 
 pub num-chars-spec : {M : Type 1} → statement M
 num-chars-spec =
     tie.close
     (tie.spec
-    Inv-loop
-    μ-loop
     run-requires
-    loop-holds
-    shared-slice-read-is-cont
-    is-cont-requires
-    add-n
-    add-i
-    loop-less
-    loop-again
+    sub-count
+    part-count-start
+    part-count-end
+    count-requires
+    add-result
     returns)
