@@ -18,17 +18,17 @@ count-requires c κs = search needs
 add-to : tie.Need-add-to
 add-to c = search needs
 
-sub-num-chars : tie.Need-sub-num-chars
-sub-num-chars c = search needs
+sub-count : tie.Need-sub-count
+sub-count c = search needs
 
-part-num-chars-start : tie.Need-part-num-chars-start
-part-num-chars-start c = search needs
+part-count-start : tie.Need-part-count-start
+part-count-start c = search needs
 
-part-num-chars-end : tie.Need-part-num-chars-end
-part-num-chars-end c = search (load-room, needs)
+part-count-end : tie.Need-part-count-end
+part-count-end c = search (load-room, needs)
 
-num-chars-requires : tie.Need-num-chars-requires
-num-chars-requires c κs = search needs
+count-requires-2 : tie.Need-count-requires-2
+count-requires-2 c κs = search needs
 
 add-t12 : tie.Need-add-t12
 add-t12 c = search needs
@@ -51,10 +51,10 @@ load-spec =
     cast-kind
     count-requires
     add-to
-    sub-num-chars
-    part-num-chars-start
-    part-num-chars-end
-    num-chars-requires
+    sub-count
+    part-count-start
+    part-count-end
+    count-requires-2
     add-t12
     returns-2
     add-t15
