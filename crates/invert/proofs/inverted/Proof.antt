@@ -6,8 +6,8 @@ use Rattle.invert.proofs.inverted.Tie as tie
 records-requires : tie.Need-records-requires
 records-requires c κs = search needs
 
-num-chars-requires : tie.Need-num-chars-requires
-num-chars-requires c κs = search needs
+counted-requires : tie.Need-counted-requires
+counted-requires c κs = search needs
 
 slice-aggregate-run : tie.Need-slice-aggregate-run
 slice-aggregate-run c = search needs
@@ -41,7 +41,7 @@ inverted-spec =
     tie.close
     (tie.spec
     records-requires
-    num-chars-requires
+    counted-requires
     slice-aggregate-run
     run-requires
     judge-requires
