@@ -55,7 +55,7 @@ fn passed(text: &[u8], at: usize, k: usize, to: usize) -> usize
     if to < text.len() {
         return k;
     }
-    utf8::core::count(&text[at..to])
+    utf8::num_chars(&text[at..to])
 }
 
 // What undoes the operation, which takes text[at..to].
