@@ -278,6 +278,72 @@ mod measured {
             );
         }
         println!();
+        println!("| accept against the newest revision | bytes of log | ours, ns | ns for each byte |");
+        println!("|---|---|---|---|");
+        for revisions in [1usize, 16, 255] {
+            let mut log = vec![0u8; ot::LOG];
+            let mut out = vec![0u8; 8];
+            let mut len = 40u64;
+            let mut size = ot::open(len, &mut log).unwrap();
+            let edit = |len: u64, k: usize| {
+                let mut v = OperationSeq::default();
+                v.retain(len / 2);
+                v.insert(&letters(k % 2 == 1, 1, k));
+                v.retain(len - len / 2);
+                encode(&v)
+            };
+            for k in 0..revisions {
+                size += ot::accept(&edit(len, k), k as u64, &mut log, &mut out).unwrap().0;
+                len += 1;
+            }
+            let rec = edit(len, revisions);
+            let kept = log[..4].to_vec();
+            let room = size + 200;
+            let ours = (0..WINDOWS).map(|_| {
+                window(&mut || {
+                    log[..4].copy_from_slice(&kept);
+                    black_box(ot::accept(black_box(&rec), revisions as u64, &mut log[..room], &mut out).unwrap());
+                })
+            });
+            let ours = ours.fold(f64::MAX, f64::min);
+            println!("| after {revisions} | {size} | {} | {:.2} |", show(ours), ours / size as f64);
+        }
+        println!();
+        println!("| call | ns for each record at 100 | at 1000 | at 1024 |");
+        println!("|---|---|---|---|");
+        for what in ["check", "apply", "compose", "transform"] {
+            let mut row = Vec::new();
+            for records in [100usize, 1000, 1023] {
+                let x = sequence(records, false, 4 * records + 8, 0);
+                let mut y = OperationSeq::default();
+                y.retain(x.base_len() as u64);
+                let mut z = OperationSeq::default();
+                z.retain(x.target_len() as u64);
+                let text = letters(false, x.base_len(), 3);
+                let (a, b, c) = (encode(&x), encode(&y), encode(&z));
+                let mut out = vec![0u8; 4 * ot::RECORD];
+                let mut other = vec![0u8; 4 * ot::RECORD];
+                let ours = (0..WINDOWS).map(|_| {
+                    window(&mut || match what {
+                        "check" => {
+                            black_box(ot::check(black_box(&a)).unwrap());
+                        }
+                        "apply" => {
+                            black_box(ot::apply(black_box(&a), text.as_bytes(), &mut out).unwrap());
+                        }
+                        "compose" => {
+                            black_box(ot::compose(black_box(&a), black_box(&c), &mut out).unwrap());
+                        }
+                        _ => {
+                            black_box(ot::transform(black_box(&a), black_box(&b), &mut out, &mut other).unwrap());
+                        }
+                    })
+                });
+                row.push(ours.fold(f64::MAX, f64::min) / x.ops().len() as f64);
+            }
+            println!("| {what} | {} | {} | {} |", show(row[0]), show(row[1]), show(row[2]));
+        }
+        println!();
         println!("| call | operations | ours, ns | the Rust, ns | ratio |");
         println!("|---|---|---|---|---|");
         for records in [1, 10, 100, 1000] {
