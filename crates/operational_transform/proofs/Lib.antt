@@ -23,5 +23,6 @@ pub mod Over
 pub mod Emitting
 pub mod Adding
 pub mod Delivering
+pub mod Staging
 pub mod Giving
 pub mod Parts

@@ -4,7 +4,7 @@ use mathlib.Core.Path.{_≡_}
 use mathlib.Core.Bool.{Bool, true, false, cond, _&&_}
 use mathlib.Core.List.{List, [], _∷_, _++_, map, reverse}
 use lib.Dec.{leb}
-use lib.ListN.{length}
+use lib.ListN.{length, take, drop}
 use Rattle.utf8.specs.Text.{Char, bytes}
 use Rattle.operation.specs.declared.Refusal.the-variants.{Limit, Room}
 use Rattle.operation.specs.Answer.{Answer, gives, refused, number}
@@ -170,6 +170,14 @@ pub record Writes (n : ℕ) (s : Seq) (out0 out : List ℕ) : Type 0 where
   pub before : List ℕ
   pub done : Done n s out0 emitter before
   pub is : out ≡ headed emitter before
+
+-- a record of n operations and t bytes of text that was written to a stage with places for `slots` operations: its parts at their
+-- places
+unfoldable pub settled : ℕ → ℕ → ℕ → List ℕ → List ℕ → List ℕ
+unfolding over
+settled slots n t stage o =
+    over kindsStart (take n (drop kindsStart stage))
+    (over (countsStart n) (take (2 * n) (drop (countsStart slots) stage)) (over (textStart n) (take t (drop (textStart slots) stage)) o))
 
 -- ---- the answer of a call that would write a record of these sizes: 9, then 10
 

@@ -8,16 +8,18 @@ use crate::Written;
 use operation::Refusal;
 use operation::core::Front;
 ghost use mathlib.Core.Path.{_≡_};
+ghost use mathlib.Core.Bool.{_&&_};
 ghost use mathlib.Core.List.{[], _∷_};
 ghost use Prim.Native.Nat.{_+_, _-_, _^_, _≤_, _<_, min};
-ghost use lib.Dec.{T};
+ghost use lib.Dec.{T, leb};
 ghost use lib.ListN.{length, take, drop};
 ghost use Rattle.utf8.specs.Form.{wellFormed};
 ghost use Rattle.utf8.specs.Chars.{numChars};
 ghost use Rattle.utf8.specs.Text.{chars};
+ghost use Rattle.operation.specs.Layout.{textStart};
 ghost use Rattle.operation.specs.Op.{insert, delete, cut};
 ghost use Rattle.operation.specs.Front.{frontOp, Stands, Cut};
-ghost use Rattle.operational_transform.specs.Emit.{over, bytes16, one, emitted, flushed, flushedRecords, opens, spilled, insertedBy, deletedBy, Under, nothing, Adds, Retains, Finishes, headed, within, sizeIn, judged};
+ghost use Rattle.operational_transform.specs.Emit.{over, bytes16, one, emitted, flushed, flushedRecords, opens, spilled, insertedBy, deletedBy, Under, nothing, Adds, Retains, Finishes, headed, within, sizeIn, judged, settled};
 
 pub struct Emitter {
     // the pending group: bytes of the insert, characters of the delete and of the retain
@@ -335,4 +337,41 @@ pub fn header(out: &mut [u8], e: Emitter)
     put16(out, 2, e.text);
     put16(out, 4, e.base);
     put16(out, 6, e.target);
+}
+
+// A record may be written before its number of records is known: to a stage that has places for `slots` of them. Whether all of it
+// has a place in a stage of `room` bytes.
+pub fn has_place(e: Emitter, slots: usize, room: usize) -> bool
+    requires { ⌜ (slots ≤ 2 ^ 40) × Under (2 ^ 40) e ⌝ }
+    ensures { λ r. ⌜ r ≡ (leb (e .records) slots && leb (textStart slots + e .text) room) ⌝ }
+{
+    if slots < e.records {
+        return false;
+    }
+    operation::core::text_start(slots) + e.text <= room
+}
+
+// The text, the counts and the kinds go from the stage to their places in a record of n.
+pub fn settle(out: &mut [u8], stage: &[u8], slots: usize, n: usize, text: usize)
+    requires { ⌜ (slots ≤ 2 ^ 40) × (n ≤ slots) × (textStart slots + text ≤ length (now stage)) ⌝ }
+    ensures { λ _. ⌜ now (out .exit) ≡ settled slots n text (now (stage .entry)) (now (out .entry)) ⌝ }
+{
+    let kinds = operation::core::kind_place(0);
+    let counts = operation::core::count_place(slots, 0);
+    let from = operation::core::text_start(slots);
+    copy(
+        out,
+        operation::core::text_start(n),
+        stage,
+        from,
+        from + text,
+    );
+    copy(
+        out,
+        operation::core::count_place(n, 0),
+        stage,
+        counts,
+        counts + 2 * n,
+    );
+    copy(out, kinds, stage, kinds, kinds + n);
 }

@@ -1,0 +1,112 @@
+-- A record that was written to a stage with more places than it has operations, moved to its own places.
+use Prim.Native.Nat.{ℕ, zero, suc, _+_, _-_, _*_, _≤_, _<_}
+use native.Mathlib.Omega.{arith}
+use mathlib.Core.Path.{_≡_, refl, sym, ap, _∙_}
+use mathlib.Core.Bool.{false, _&&_}
+use mathlib.Core.List.{List, [], _∷_, map, reverse, reverse-reverse}
+use lib.Dec.{leb}
+use lib.ListN.{length, take, drop, length-reverse}
+use borrow.Author.Tests.{le-leb, lt-leb}
+use Rattle.operation.specs.Layout.{kindsStart, countsStart, textStart}
+use Rattle.operation.specs.Record.{Seq, inBytes, text}
+use Rattle.operational_transform.specs.declared.core.Emitter.{Emitter}
+use Rattle.operational_transform.specs.Emit.{over, kindsOf, countsOf, textsOf, laid, Done, Writes, headed, settled}
+use Rattle.operational_transform.proofs.Over.{length-over, over-swap}
+use Rattle.operational_transform.proofs.Emitting.{length-kinds, length-counts}
+use Rattle.operational_transform.proofs.Delivering.{text-ahead}
+
+-- what was laid over a buffer stands there
+over-read : (p : ℕ) (xs o : List ℕ) → p + length xs ≤ length o → take (length xs) (drop p (over p xs o)) ≡ xs
+unfolding over
+over-read zero [] o h = refl
+over-read zero (x ∷ xs) [] h = absurd (omega arith)
+over-read zero (x ∷ xs) (y ∷ o) h = ap (λ r. x ∷ r) (over-read zero xs o (omega arith))
+over-read (suc p) xs [] h = absurd (omega arith)
+over-read (suc p) xs (y ∷ o) h = over-read p xs o (omega arith)
+
+read-back : (p k : ℕ) (xs o o′ : List ℕ) → o′ ≡ over p xs o → length xs ≡ k → p + k ≤ length o → take k (drop p o′) ≡ xs
+read-back p k xs o o′ e l h = rw (e, ← l) (over-read p xs o (omega arith))
+
+module _ (slots : ℕ) (w : Seq) (t o : List ℕ) (few : length w ≤ slots) (room : textStart slots + length t ≤ length o) where
+  abbrev kinds : List ℕ
+  kinds = kindsOf w
+
+  abbrev counts : List ℕ
+  counts = countsOf w
+
+  -- the parts do not meet, so each may be laid last
+  kinds-read : take (length w) (drop kindsStart (laid slots w t o)) ≡ kinds
+  unfolding laid
+  kinds-read =
+      let x = over (textStart slots) t o in
+      read-back kindsStart (length w) kinds (over (countsStart slots) counts x) _ refl (length-kinds w) (omega (arith, length-over (countsStart slots) counts x, length-over (textStart slots) t o))
+
+  counts-read : take (2 * length w) (drop (countsStart slots) (laid slots w t o)) ≡ counts
+  unfolding laid
+  counts-read =
+      let x = over (textStart slots) t o in
+      read-back (countsStart slots) (2 * length w) counts (over kindsStart kinds x) _
+      (sym (over-swap kindsStart (countsStart slots) kinds counts x (omega (arith, length-kinds w))))
+      (length-counts w)
+      (omega (arith, length-over kindsStart kinds x, length-over (textStart slots) t o))
+
+  text-read : take (length t) (drop (textStart slots) (laid slots w t o)) ≡ t
+  unfolding laid
+  text-read =
+      let x = over (countsStart slots) counts o in
+      read-back (textStart slots) (length t) t (over kindsStart kinds x) _
+      (ap (over kindsStart kinds) (sym (over-swap (countsStart slots) (textStart slots) counts t o (omega (arith, length-counts w)))) ∙ sym (over-swap kindsStart (textStart slots) kinds t x (omega (arith, length-kinds w))))
+      refl
+      (omega (arith, length-over kindsStart kinds x, length-over (countsStart slots) counts o))
+
+-- `settle` gives what a run of as many places as there are operations writes
+pub staged-writes : (slots : ℕ) (s : Seq) (o : List ℕ) (e : Emitter) (stage out out′ : List ℕ) → Done slots s o e stage → length stage ≡ length o → e .records ≤ slots → textStart slots + e .text ≤ length stage
+    → out′ ≡ headed e (settled slots (e .records) (e .text) stage out) → Writes (e .records) s out out′
+unfolding settled laid
+staged-writes slots s o e stage out out′ d l few room p =
+    let w = reverse s in
+    let n : e .records ≡ length w = d .sizes .records ∙ sym (length-reverse s) in
+    let t : e .text ≡ length (textsOf w) = d .sizes .text-bytes ∙ ap length (text-of s) in
+    let q = d .wrote few in
+    let fw : length w ≤ slots = omega arith in
+    let rt : textStart slots + length (textsOf w) ≤ length o = omega arith in
+    let kr = (λ i. take (n i) (drop kindsStart (q i))) ∙ kinds-read slots w (textsOf w) o fw rt in
+    let cr = (λ i. take (2 * n i) (drop (countsStart slots) (q i))) ∙ counts-read slots w (textsOf w) o fw rt in
+    let tr = (λ i. take (t i) (drop (textStart slots) (q i))) ∙ text-read slots w (textsOf w) o fw rt in
+    record {
+      emitter = e;
+      before = settled slots (e .records) (e .text) stage out;
+      done = record {
+        small = d .small;
+        sizes = d .sizes;
+        wrote = λ z i. over kindsStart (kr i) (over (countsStart (e .records)) (cr i) (over (textStart (e .records)) (tr i) out));
+      };
+      is = p;
+    }
+  where
+    text-of : (s : Seq) → text (map inBytes s) ≡ textsOf (reverse s)
+    text-of s = ap (λ u. text (map inBytes u)) (sym (reverse-reverse s)) ∙ text-ahead (reverse s)
+
+-- ---- `has_place`, `settle`
+
+module _ (e : Emitter) (slots room : ℕ) where
+  pub place-few : slots < e .records → false ≡ (leb (e .records) slots && leb (textStart slots + e .text) room)
+  place-few h = rw (lt-leb (e .records) slots h)
+
+  pub place-text : (x : ℕ) → x ≡ textStart slots → e .records ≤ slots → leb (x + e .text) room ≡ (leb (e .records) slots && leb (textStart slots + e .text) room)
+  place-text x p h = rw (le-leb (e .records) slots h, p)
+
+part-is : (p q a b m : ℕ) (s o : List ℕ) → p ≡ q → a ≡ b → over p (take (a + m - a) (drop a s)) o ≡ over q (take m (drop b s)) o
+part-is p q a b m s o x y = let z : a + m - a ≡ m = omega arith in λ i. over (x i) (take (z i) (drop (y i) s)) o
+
+pub settles : (slots n t : ℕ) (stage o : List ℕ) {k c f x d : ℕ} {o₁ o₂ o₃ : List ℕ} → k ≡ kindsStart + 0 → c ≡ countsStart slots + 2 * 0 → f ≡ textStart slots → x ≡ textStart n → d ≡ countsStart n + 2 * 0
+    → o₁ ≡ over x (take (f + t - f) (drop f stage)) o → o₂ ≡ over d (take (c + 2 * n - c) (drop c stage)) o₁ → o₃ ≡ over k (take (k + n - k) (drop k stage)) o₂ → o₃ ≡ settled slots n t stage o
+unfolding settled
+settles slots n t stage o {k} {c} {f} {x} {d} pk pc pf px pd p q r =
+    let k8 : k ≡ kindsStart = omega arith in
+    let cs : c ≡ countsStart slots = omega arith in
+    let dn : d ≡ countsStart n = omega arith in
+    r
+    ∙ part-is k kindsStart k kindsStart n stage _ k8 k8
+    ∙ ap (over kindsStart (take n (drop kindsStart stage)))
+    (q ∙ part-is d (countsStart n) c (countsStart slots) (2 * n) stage _ dn cs ∙ ap (over (countsStart n) (take (2 * n) (drop (countsStart slots) stage))) (p ∙ part-is x (textStart n) f (textStart slots) t stage o px pf))
