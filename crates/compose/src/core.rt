@@ -9,13 +9,13 @@ use turns::core::Turn;
 ghost use mathlib.Core.Path.{_≡_};
 ghost use mathlib.Core.Bool.{true};
 ghost use Prim.Native.Nat.{_^_, _≤_};
-ghost use Rattle.operation.specs.Layout.{recordsOf};
+ghost use Rattle.operation.specs.Layout.{recordsOf, baseOf, targetOf};
 ghost use Rattle.operation.specs.Record.{ops, recordFault};
 ghost use Rattle.operation.specs.Front.{Stands};
 ghost use Rattle.operational_transform.specs.Compose.{composeTurn, made};
 ghost use Rattle.operational_transform.specs.Compose.{compose as composeOf};
 ghost use Rattle.operational_transform.specs.Calls.{composeCall};
-ghost use Rattle.operational_transform.specs.Emit.{Under, Adds, Done, Writes};
+ghost use Rattle.operational_transform.specs.Emit.{Under, Adds, Done, Writes, Staged};
 ghost use Rattle.operational_transform.specs.Given.{Gives};
 ghost use Rattle.turns.specs.Turns.{liveIs, stepOf, Chooses, Planned, Went};
 ghost use Rattle.compose.specs.Composing.{whoseIs};
@@ -123,6 +123,83 @@ fn write(a: &[u8], na: usize, b: &[u8], nb: usize, out: &mut [u8], n: usize)
     operational_transform::core::header(out, e);
 }
 
+// From a stage, if all of the result has a place there; else by a run of its own.
+fn place(
+    a: &[u8],
+    na: usize,
+    b: &[u8],
+    nb: usize,
+    stage: &[u8],
+    slots: usize,
+    e: Emitter,
+    out: &mut [u8],
+)
+    requires { ⌜ (na ≡ recordsOf (now a)) × (na ≤ 1024) × (nb ≡ recordsOf (now b)) × (nb ≤ 1024) × (recordFault (now a) ≡ 0) × (recordFault (now b) ≡ 0) × (slots ≤ 2048) × Under (2 ^ 40) e × Staged slots (composeOf (ops (now a)) (ops (now b))) e (now stage) ⌝ }
+    ensures { λ _. ⌜ Writes (e .records) (composeOf (ops (now (a .entry))) (ops (now (b .entry)))) (now (out .entry)) (now (out .exit)) ⌝ }
+{
+    if !operational_transform::core::has_place(e, slots, stage.len()) {
+        write(a, na, b, nb, out, e.records);
+        return;
+    }
+    operational_transform::core::settle(out, stage, slots, e.records, e.text);
+    operational_transform::core::header(out, e);
+}
+
+// Of two records whose lengths agree: written to a stage, judged, and moved to the output.
+fn staged(
+    a: &[u8],
+    na: usize,
+    b: &[u8],
+    nb: usize,
+    stage: &mut [u8],
+    slots: usize,
+    out: &mut [u8],
+) -> Written
+    requires { ⌜ (na ≡ recordsOf (now a)) × (na ≤ 1024) × (nb ≡ recordsOf (now b)) × (nb ≤ 1024) × (recordFault (now a) ≡ 0) × (recordFault (now b) ≡ 0) × (slots ≤ 2048) × (targetOf (now a) ≡ baseOf (now b)) ⌝ }
+    ensures { λ r. ⌜ Gives (composeCall (now (a .entry)) (now (b .entry)) (now (out .entry))) r (now (out .exit)) ⌝ }
+{
+    let e = run(a, na, b, nb, stage, slots);
+    match operational_transform::core::judge(e, out.len()) {
+        Written::Refused(x) => Written::Refused(x),
+        Written::Bytes(k) => {
+            place(a, na, b, nb, stage, slots, e, out);
+            Written::Bytes(k)
+        }
+    }
+}
+
+// With stages of several lengths: what is cleared is paid for. (The answer is taken apart because one that is handed on whole is
+// copied, and the copy waits for the bytes.)
+fn small(a: &[u8], na: usize, b: &[u8], nb: usize, out: &mut [u8]) -> Written
+    requires { ⌜ (na ≡ recordsOf (now a)) × (na ≤ 1024) × (nb ≡ recordsOf (now b)) × (nb ≤ 1024) × (recordFault (now a) ≡ 0) × (recordFault (now b) ≡ 0) × (targetOf (now a) ≡ baseOf (now b)) ⌝ }
+    ensures { λ r. ⌜ Gives (composeCall (now (a .entry)) (now (b .entry)) (now (out .entry))) r (now (out .exit)) ⌝ }
+{
+    let mut stage = [0u8; 128];
+    match staged(a, na, b, nb, &mut stage, na + nb, out) {
+        Written::Bytes(k) => Written::Bytes(k),
+        Written::Refused(x) => Written::Refused(x),
+    }
+}
+
+fn medium(a: &[u8], na: usize, b: &[u8], nb: usize, out: &mut [u8]) -> Written
+    requires { ⌜ (na ≡ recordsOf (now a)) × (na ≤ 1024) × (nb ≡ recordsOf (now b)) × (nb ≤ 1024) × (recordFault (now a) ≡ 0) × (recordFault (now b) ≡ 0) × (targetOf (now a) ≡ baseOf (now b)) ⌝ }
+    ensures { λ r. ⌜ Gives (composeCall (now (a .entry)) (now (b .entry)) (now (out .entry))) r (now (out .exit)) ⌝ }
+{
+    let mut stage = [0u8; 1024];
+    match staged(a, na, b, nb, &mut stage, na + nb, out) {
+        Written::Bytes(k) => Written::Bytes(k),
+        Written::Refused(x) => Written::Refused(x),
+    }
+}
+
+fn large(a: &[u8], na: usize, b: &[u8], nb: usize, slots: usize, out: &mut [u8]) -> Written
+    requires { ⌜ (na ≡ recordsOf (now a)) × (na ≤ 1024) × (nb ≡ recordsOf (now b)) × (nb ≤ 1024) × (recordFault (now a) ≡ 0) × (recordFault (now b) ≡ 0) × (slots ≤ 2048) × (targetOf (now a) ≡ baseOf (now b)) ⌝ }
+    ensures { λ r. ⌜ Gives (composeCall (now (a .entry)) (now (b .entry)) (now (out .entry))) r (now (out .exit)) ⌝ }
+{
+    let mut stage = [0u8; 16384];
+    staged(a, na, b, nb, &mut stage, slots, out)
+}
+
 // Of two records that were checked.
 pub fn composed(a: &[u8], b: &[u8], out: &mut [u8]) -> Written
     requires { ⌜ (recordFault (now a) ≡ 0) × (recordFault (now b) ≡ 0) ⌝ }
@@ -135,14 +212,18 @@ pub fn composed(a: &[u8], b: &[u8], out: &mut [u8]) -> Written
     }
     let na = operation::core::records(a);
     let nb = operation::core::records(b);
-    let mut none = [0u8; 0];
-    let e = run(a, na, b, nb, &mut none, 0);
-    let n = e.records;
-    match operational_transform::core::judge(e, out.len()) {
-        Written::Refused(x) => Written::Refused(x),
-        Written::Bytes(k) => {
-            write(a, na, b, nb, out, n);
-            Written::Bytes(k)
-        }
+    // a result of more than 1,024 is refused
+    if 1024 < na + nb {
+        return large(a, na, b, nb, 1024, out);
     }
+    let most = operation::core::text_start(na + nb)
+        + operation::core::text_bytes(a)
+        + operation::core::text_bytes(b);
+    if 1024 < most {
+        return large(a, na, b, nb, na + nb, out);
+    }
+    if 128 < most {
+        return medium(a, na, b, nb, out);
+    }
+    small(a, na, b, nb, out)
 }

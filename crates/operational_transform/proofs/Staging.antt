@@ -10,7 +10,7 @@ use borrow.Author.Tests.{le-leb, lt-leb}
 use Rattle.operation.specs.Layout.{kindsStart, countsStart, textStart}
 use Rattle.operation.specs.Record.{Seq, inBytes, text}
 use Rattle.operational_transform.specs.declared.core.Emitter.{Emitter}
-use Rattle.operational_transform.specs.Emit.{over, kindsOf, countsOf, textsOf, laid, Done, Writes, headed, settled}
+use Rattle.operational_transform.specs.Emit.{over, kindsOf, countsOf, textsOf, laid, Writes, Staged, headed, settled}
 use Rattle.operational_transform.proofs.Over.{length-over, over-swap}
 use Rattle.operational_transform.proofs.Emitting.{length-kinds, length-counts}
 use Rattle.operational_transform.proofs.Delivering.{text-ahead}
@@ -60,10 +60,13 @@ module _ (slots : ℕ) (w : Seq) (t o : List ℕ) (few : length w ≤ slots) (ro
       (omega (arith, length-over kindsStart kinds x, length-over (countsStart slots) counts o))
 
 -- `settle` gives what a run of as many places as there are operations writes
-pub staged-writes : (slots : ℕ) (s : Seq) (o : List ℕ) (e : Emitter) (stage out out′ : List ℕ) → Done slots s o e stage → length stage ≡ length o → e .records ≤ slots → textStart slots + e .text ≤ length stage
+pub staged-writes : (slots : ℕ) (s : Seq) (e : Emitter) (stage out out′ : List ℕ) → Staged slots s e stage → e .records ≤ slots → textStart slots + e .text ≤ length stage
     → out′ ≡ headed e (settled slots (e .records) (e .text) stage out) → Writes (e .records) s out out′
 unfolding settled laid
-staged-writes slots s o e stage out out′ d l few room p =
+staged-writes slots s e stage out out′ g few room p =
+    let d = g .done in
+    let o = g .before in
+    let l = g .as-long in
     let w = reverse s in
     let n : e .records ≡ length w = d .sizes .records ∙ sym (length-reverse s) in
     let t : e .text ≡ length (textsOf w) = d .sizes .text-bytes ∙ ap length (text-of s) in

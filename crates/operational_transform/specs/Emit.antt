@@ -171,6 +171,12 @@ pub record Writes (n : ℕ) (s : Seq) (out0 out : List ℕ) : Type 0 where
   pub done : Done n s out0 emitter before
   pub is : out ≡ headed emitter before
 
+-- all but the sizes was written to a stage with places for `slots` operations
+pub record Staged (slots : ℕ) (s : Seq) (e : Emitter) (stage : List ℕ) : Type 0 where
+  pub before : List ℕ
+  pub done : Done slots s before e stage
+  pub as-long : length stage ≡ length before
+
 -- a record of n operations and t bytes of text that was written to a stage with places for `slots` operations: its parts at their
 -- places
 unfoldable pub settled : ℕ → ℕ → ℕ → List ℕ → List ℕ → List ℕ
