@@ -20,10 +20,15 @@ use Rattle.operation.proofs.Answers.{stopped}
 use Rattle.operational_transform.specs.declared.Written.{Written}
 use Rattle.operational_transform.specs.declared.Written.the-variants as written
 use Rattle.operational_transform.specs.declared.core.Emitter.{Emitter}
+use Rattle.operational_transform.specs.Output.{Out}
 use Rattle.operational_transform.specs.Calls.{textFault, deliver}
 use Rattle.operational_transform.specs.Emit.{writtenOf, Done, Writes, judged}
 use Rattle.operational_transform.specs.Given.{Gives}
 use Rattle.operational_transform.proofs.Delivering.{answered, left-alone, delivered, writing-refused, deliver-refused}
+
+-- an answer taken apart and handed on
+pub handed-on : (c : Out) (v w : Written) (o : List ℕ) → Gives c v o → v ≡ w → Gives c w o
+handed-on c v w o g p = record { answer = ap writtenOf (sym p) ∙ g .answer; out = g .out }
 
 module _ (s : Seq) (o : List ℕ) where
   -- a fault in front
@@ -35,8 +40,8 @@ module _ (s : Seq) (o : List ℕ) where
   unfolding deliver
   gives-limit p = rw p (rw (writing-refused 9 (encode s) o (λ z. absurd (omega arith))) (record { answer = refl; out = refl }))
 
-  -- 9 and 10 as judged after a run that finds the sizes, and what a second run writes
-  module _ (e : Emitter) (m q : List ℕ) (d : Done 0 s m e q) (v : Written) (j : v ≡ judged e (length o)) where
+  -- 9 and 10 as judged after a run that finds the sizes, and what is written then
+  module _ (e : Emitter) {n : ℕ} (m q : List ℕ) (d : Done n s m e q) (v : Written) (j : v ≡ judged e (length o)) where
     pub gives-refused : (y : Refusal) → v ≡ written.Refused y → Gives (deliver 0 s o) (written.Refused y) o
     gives-refused y z = record { answer = ap writtenOf (sym z) ∙ answered s e o (d .sizes) v j; out = left-alone s e o (d .sizes) v j y z }
 

@@ -1,12 +1,13 @@
 -- A record that was written to a stage with more places than it has operations, moved to its own places.
-use Prim.Native.Nat.{ℕ, zero, suc, _+_, _-_, _*_, _≤_, _<_}
+use Prim.Native.Nat.{ℕ, zero, suc, _+_, _-_, _*_, _^_, _≤_, _<_}
 use native.Mathlib.Omega.{arith}
 use mathlib.Core.Path.{_≡_, refl, sym, ap, _∙_}
-use mathlib.Core.Bool.{false, _&&_}
+use mathlib.Core.Bool.{Bool, false, not, _&&_}
 use mathlib.Core.List.{List, [], _∷_, map, reverse, reverse-reverse}
-use lib.Dec.{leb}
+use lib.Dec.{T, leb, leb→le}
 use lib.ListN.{length, take, drop, length-reverse}
-use borrow.Author.Tests.{le-leb, lt-leb}
+use borrow.Author.Tests.{le-leb, lt-leb, not-false}
+use Rattle.utf8.proofs.Tests.{known, le-and}
 use Rattle.operation.specs.Layout.{kindsStart, countsStart, textStart}
 use Rattle.operation.specs.Record.{Seq, inBytes, text}
 use Rattle.operational_transform.specs.declared.core.Emitter.{Emitter}
@@ -60,7 +61,7 @@ module _ (slots : ℕ) (w : Seq) (t o : List ℕ) (few : length w ≤ slots) (ro
       (omega (arith, length-over kindsStart kinds x, length-over (countsStart slots) counts o))
 
 -- `settle` gives what a run of as many places as there are operations writes
-pub staged-writes : (slots : ℕ) (s : Seq) (e : Emitter) (stage out out′ : List ℕ) → Staged slots s e stage → e .records ≤ slots → textStart slots + e .text ≤ length stage
+staged-writes : (slots : ℕ) (s : Seq) (e : Emitter) (stage out out′ : List ℕ) → Staged slots s e stage → e .records ≤ slots → textStart slots + e .text ≤ length stage
     → out′ ≡ headed e (settled slots (e .records) (e .text) stage out) → Writes (e .records) s out out′
 unfolding settled laid
 staged-writes slots s e stage out out′ g few room p =
@@ -89,6 +90,20 @@ staged-writes slots s e stage out out′ g few room p =
   where
     text-of : (s : Seq) → text (map inBytes s) ≡ textsOf (reverse s)
     text-of s = ap (λ u. text (map inBytes u)) (sym (reverse-reverse s)) ∙ text-ahead (reverse s)
+
+-- where `has_place` says so
+module _ (slots : ℕ) (e : Emitter) (stage : List ℕ) (v : Bool) (p : v ≡ (leb (e .records) slots && leb (textStart slots + e .text) (length stage))) (h : not v ≡ false) where
+  has : T (leb (e .records) slots && leb (textStart slots + e .text) (length stage))
+  has = known (sym p ∙ not-false v h)
+
+  pub has-records : e .records ≤ slots
+  has-records = le-and (e .records) slots _ .0 has .0
+
+  pub has-text : textStart slots + e .text ≤ length stage
+  has-text = leb→le (textStart slots + e .text) (length stage) (le-and (e .records) slots _ .0 has .1)
+
+  pub settled-writes : (s : Seq) (out out₁ out₂ : List ℕ) → Staged slots s e stage → out₁ ≡ settled slots (e .records) (e .text) stage out → out₂ ≡ headed e out₁ → Writes (e .records) s out out₂
+  settled-writes s out out₁ out₂ g a b = staged-writes slots s e stage out out₂ g has-records has-text (b ∙ ap (headed e) a)
 
 -- ---- `has_place`, `settle`
 
