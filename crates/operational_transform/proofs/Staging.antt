@@ -11,7 +11,7 @@ use Rattle.utf8.proofs.Tests.{known, le-and}
 use Rattle.operation.specs.Layout.{kindsStart, countsStart, textStart}
 use Rattle.operation.specs.Record.{Seq, inBytes, text}
 use Rattle.operational_transform.specs.declared.core.Emitter.{Emitter}
-use Rattle.operational_transform.specs.Emit.{over, kindsOf, countsOf, textsOf, laid, Writes, Staged, headed, settled}
+use Rattle.operational_transform.specs.Emit.{over, kindsOf, countsOf, textsOf, laid, Done, Writes, Staged, headed, settled}
 use Rattle.operational_transform.proofs.Over.{length-over, over-swap}
 use Rattle.operational_transform.proofs.Emitting.{length-kinds, length-counts}
 use Rattle.operational_transform.proofs.Delivering.{text-ahead}
@@ -90,6 +90,9 @@ staged-writes slots s e stage out out′ g few room p =
   where
     text-of : (s : Seq) → text (map inBytes s) ≡ textsOf (reverse s)
     text-of s = ap (λ u. text (map inBytes u)) (sym (reverse-reverse s)) ∙ text-ahead (reverse s)
+
+pub stages : {slots : ℕ} {s : Seq} {o stage : List ℕ} {e : Emitter} → Done slots s o e stage → length stage ≡ length o → Staged slots s e stage
+stages {slots} {s} {o} d l = record { before = o; done = d; as-long = l }
 
 -- where `has_place` says so
 module _ (slots : ℕ) (e : Emitter) (stage : List ℕ) (v : Bool) (p : v ≡ (leb (e .records) slots && leb (textStart slots + e .text) (length stage))) (h : not v ≡ false) where

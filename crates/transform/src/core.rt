@@ -20,7 +20,7 @@ ghost use Rattle.operational_transform.specs.Transform.{past as stays};
 ghost use Rattle.operational_transform.specs.Transform.{transform as transformOf};
 ghost use Rattle.operational_transform.specs.Emit.{Under, Adds, Sizes, Done, Writes, Staged, within};
 ghost use Rattle.turns.specs.Turns.{liveIs, Chooses, Went};
-ghost use Rattle.transform.specs.Pairs.{judgedBoth, SizedBoth, Transforms};
+ghost use Rattle.transform.specs.Pairs.{judgedBoth, SizedBoth, StagedBoth, Transforms};
 ghost use Rattle.transform.specs.Sides.{givesOf, FirstWent, SecondWent, BothWent};
 
 // Of two inserts that meet, the lesser by byte order goes first.
@@ -267,6 +267,45 @@ fn place(
     operational_transform::core::header(out, e);
 }
 
+// Both sides, each written to a stage.
+fn stage_both(
+    a: &[u8],
+    na: usize,
+    b: &[u8],
+    nb: usize,
+    stage_a: &mut [u8],
+    stage_b: &mut [u8],
+    slots: usize,
+) -> Pair
+    requires { ⌜ (na ≡ recordsOf (now a)) × (na ≤ 1024) × (nb ≡ recordsOf (now b)) × (nb ≤ 1024) × (recordFault (now a) ≡ 0) × (recordFault (now b) ≡ 0) × (slots ≤ 2048) ⌝ }
+    ensures { λ r. ⌜ StagedBoth slots (ops (now (a .entry))) (ops (now (b .entry))) r (now («stage_a» .exit)) (now («stage_b» .exit)) ⌝ }
+{
+    let e = run(a, na, b, nb, stage_a, slots);
+    let f = run(b, nb, a, na, stage_b, slots);
+    Pair { e, f }
+}
+
+fn place_both(
+    a: &[u8],
+    na: usize,
+    b: &[u8],
+    nb: usize,
+    stage_a: &[u8],
+    stage_b: &[u8],
+    slots: usize,
+    p: Pair,
+    out_a: &mut [u8],
+    out_b: &mut [u8],
+)
+    requires { ⌜ (na ≡ recordsOf (now a)) × (na ≤ 1024) × (nb ≡ recordsOf (now b)) × (nb ≤ 1024) × (recordFault (now a) ≡ 0) × (recordFault (now b) ≡ 0) × (slots ≤ 2048) × StagedBoth slots (ops (now a)) (ops (now b)) p (now «stage_a») (now «stage_b») ⌝ }
+    ensures { λ _. ⌜ Writes (p .e .records) (transformOf order (ops (now (a .entry))) (ops (now (b .entry))) .left) (now («out_a» .entry)) (now («out_a» .exit)) × Writes (p .f .records) (transformOf order (ops (now (b .entry))) (ops (now (a .entry))) .left) (now («out_b» .entry)) (now («out_b» .exit)) ⌝ }
+{
+    let e = p.e;
+    let f = p.f;
+    place(a, na, b, nb, stage_a, slots, e, out_a);
+    place(b, nb, a, na, stage_b, slots, f, out_b);
+}
+
 // Of two records whose lengths agree: both sides are written to stages, judged, and moved to the outputs.
 fn staged(
     a: &[u8],
@@ -282,13 +321,13 @@ fn staged(
     requires { ⌜ (na ≡ recordsOf (now a)) × (na ≤ 1024) × (nb ≡ recordsOf (now b)) × (nb ≤ 1024) × (recordFault (now a) ≡ 0) × (recordFault (now b) ≡ 0) × (slots ≤ 2048) × (baseOf (now a) ≡ baseOf (now b)) ⌝ }
     ensures { λ r. ⌜ Transforms (now (a .entry)) (now (b .entry)) (now («out_a» .entry)) (now («out_b» .entry)) r (now («out_a» .exit)) (now («out_b» .exit)) ⌝ }
 {
-    let e = run(a, na, b, nb, stage_a, slots);
-    let f = run(b, nb, a, na, stage_b, slots);
+    let p = stage_both(a, na, b, nb, stage_a, stage_b, slots);
+    let e = p.e;
+    let f = p.f;
     match judge(e, f, out_a.len(), out_b.len()) {
         WrittenPair::Refused(x) => WrittenPair::Refused(x),
         WrittenPair::Bytes(k, l) => {
-            place(a, na, b, nb, stage_a, slots, e, out_a);
-            place(b, nb, a, na, stage_b, slots, f, out_b);
+            place_both(a, na, b, nb, stage_a, stage_b, slots, p, out_a, out_b);
             WrittenPair::Bytes(k, l)
         }
     }
@@ -308,7 +347,17 @@ fn small(
 {
     let mut stage_a = [0u8; 128];
     let mut stage_b = [0u8; 128];
-    match staged(a, na, b, nb, &mut stage_a, &mut stage_b, na + nb, out_a, out_b) {
+    match staged(
+        a,
+        na,
+        b,
+        nb,
+        &mut stage_a,
+        &mut stage_b,
+        na + nb,
+        out_a,
+        out_b,
+    ) {
         WrittenPair::Bytes(k, l) => WrittenPair::Bytes(k, l),
         WrittenPair::Refused(x) => WrittenPair::Refused(x),
     }
@@ -327,7 +376,17 @@ fn medium(
 {
     let mut stage_a = [0u8; 1024];
     let mut stage_b = [0u8; 1024];
-    match staged(a, na, b, nb, &mut stage_a, &mut stage_b, na + nb, out_a, out_b) {
+    match staged(
+        a,
+        na,
+        b,
+        nb,
+        &mut stage_a,
+        &mut stage_b,
+        na + nb,
+        out_a,
+        out_b,
+    ) {
         WrittenPair::Bytes(k, l) => WrittenPair::Bytes(k, l),
         WrittenPair::Refused(x) => WrittenPair::Refused(x),
     }
@@ -347,7 +406,17 @@ fn large(
 {
     let mut stage_a = [0u8; 16384];
     let mut stage_b = [0u8; 16384];
-    match staged(a, na, b, nb, &mut stage_a, &mut stage_b, slots, out_a, out_b) {
+    match staged(
+        a,
+        na,
+        b,
+        nb,
+        &mut stage_a,
+        &mut stage_b,
+        slots,
+        out_a,
+        out_b,
+    ) {
         WrittenPair::Bytes(k, l) => WrittenPair::Bytes(k, l),
         WrittenPair::Refused(x) => WrittenPair::Refused(x),
     }
