@@ -1,7 +1,7 @@
 -- The last group of a record, from which the builders go on.
 use Prim.Native.Nat.{ℕ, zero, suc, _+_, _*_, _-_, _≤_, _<_}
 use native.Mathlib.Omega.{arith}
-use mathlib.Core.Path.{_≡_, refl, sym, ap, ap₂, _∙_}
+use mathlib.Core.Path.{_≡_, refl, sym, ap, ap₂, _∙_, subst}
 use mathlib.Core.Bool.{Bool, true, false, cond}
 use mathlib.Core.List.{List, [], _∷_, _++_, reverse}
 use lib.Dec.{eqb, eqb→eq}
@@ -17,9 +17,10 @@ use Rattle.operation.proofs.Sequences.{inBytes-size}
 use Rattle.operation.proofs.Faults.{limits, faultless}
 use Rattle.operation.proofs.Records.{Bytes, ops-base, ops-target}
 use Rattle.operational_transform.specs.declared.core.Emitter.{Emitter}
-use Rattle.operational_transform.specs.Emit.{over, one, textsOf, laid, group, Fresh, first, later-insert, later-delete}
+use Rattle.operational_transform.specs.Emit.{over, one, textsOf, laid, group, Fresh, first, later-insert, later-delete, Rep}
 use Rattle.operational_transform.proofs.Building.{Prev, Back}
 use Rattle.operational_transform.proofs.Growing.{total-reverse}
+use Rattle.operational_transform.proofs.Over.{over-none}
 use Rattle.operational_transform.proofs.Emitting.{some-is, group-text}
 use Rattle.operational_transform.proofs.Parts.{At, at-before, at-end, text-at, text-long, kinds-at, counts-at, kind-last, count-last}
 use Rattle.builders.specs.Extending.{lastCount, begun, Pends, Repeats}
@@ -196,3 +197,8 @@ pends r b z k ret x del y ins j s t g h kp rp rl xp dp dl yp ip il jp sp tp gp h
 
 pub repeats : (n : ℕ) (r o : List ℕ) (e : Emitter) (o′ : List ℕ) → Pends r e → o′ ≡ begun n r (e .records) o → Repeats n r o e o′
 repeats n r o e o′ h p = record { rep = rw p (h .rep n o); under = h .under }
+
+-- on a buffer of no bytes
+pub repeats-none : (r : List ℕ) (e : Emitter) → Pends r e → Repeats 0 r [] e []
+unfolding begun
+repeats-none r e h = record { rep = subst (λ o. Rep 0 [] (reverse (ops r)) e o) (simp over-none) (h .rep 0 []); under = h .under }

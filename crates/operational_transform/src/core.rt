@@ -272,6 +272,43 @@ pub fn tally(src: &[u8], e: Emitter, f: Front, k: usize, mid: usize) -> Emitter
     deleted(e, k)
 }
 
+// The numbers after the text is inserted, after k characters are deleted, and once no group is pending; nothing is written.
+pub fn count_insert(text: &[u8], e: Emitter, num: usize) -> Emitter
+    requires { ⌜ (length (now text) ≤ 2 ^ 18) × T (wellFormed (now text)) × (num ≡ numChars (now text)) × Under (2 ^ 40) e ⌝ }
+    ensures { λ r. ⌜ Adds 0 (insert (chars (now (text .entry))) ∷ []) e [] r [] ⌝ }
+{
+    let len = text.len();
+    if len == 0 {
+        return e;
+    }
+    inserted(e, len, num)
+}
+
+pub fn count_delete(e: Emitter, k: usize) -> Emitter
+    requires { ⌜ (k ≤ 65536) × Under (2 ^ 40) e ⌝ }
+    ensures { λ r. ⌜ Adds 0 (delete k ∷ []) e [] r [] ⌝ }
+{
+    if k == 0 {
+        return e;
+    }
+    deleted(e, k)
+}
+
+pub fn close(e: Emitter) -> Emitter
+    requires { ⌜ Under (2 ^ 39) e ⌝ }
+    ensures { λ r. ⌜ Finishes 0 e [] r [] ⌝ }
+{
+    Emitter {
+        ins: 0,
+        del: 0,
+        ret: 0,
+        records: e.records + some(e.ins) + some(e.del) + some(e.ret),
+        text: e.text,
+        base: e.base,
+        target: e.target,
+    }
+}
+
 // The pending group is written, too.
 pub fn finish(out: &mut [u8], n: usize, e: Emitter) -> Emitter
     requires { ⌜ (n ≤ 2 ^ 40) × Under (2 ^ 39) e ⌝ }

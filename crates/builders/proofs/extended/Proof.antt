@@ -19,6 +19,9 @@ well-formed-requires c κs = search needs
 returns : tie.Need-returns
 returns c = search (passed, text-ill)
 
+num-chars-requires : tie.Need-num-chars-requires
+num-chars-requires c κs = search needs
+
 delivered-requires : tie.Need-delivered-requires
 delivered-requires c κs = search (passed, text-well, needs)
 
@@ -40,6 +43,7 @@ extended-spec =
     enum-told
     well-formed-requires
     returns
+    num-chars-requires
     delivered-requires
     returns-2
     same-length
