@@ -15,7 +15,7 @@ ghost use Rattle.operational_transform.specs.Build.{extend};
 ghost use Rattle.operational_transform.specs.Calls.{textFault, deliver, retainCall, deleteCall, insertCall};
 ghost use Rattle.operational_transform.specs.Emit.{writtenOf, one, Under, Adds, Done, Writes};
 ghost use Rattle.operational_transform.specs.Given.{Gives};
-ghost use Rattle.builders.specs.Extending.{opOf, countOf, lastCount, begun, Pends};
+ghost use Rattle.builders.specs.Extending.{opOf, countOf, lastCount, Pends};
 
 // The operation that is added: an insert's text goes with it.
 enum Added {
@@ -79,25 +79,6 @@ fn pending(rec: &[u8], records: usize) -> Emitter
     }
 }
 
-// The first k kinds and counts and all text of the record, at their places in one of n.
-fn lay(out: &mut [u8], n: usize, rec: &[u8], records: usize, k: usize)
-    requires { ⌜ (recordFault (now rec) ≡ 0) × (records ≡ recordsOf (now rec)) × (records ≤ 1024) × (k ≤ records) × (n ≤ 2 ^ 40) ⌝ }
-    ensures { λ _. ⌜ now (out .exit) ≡ begun n (now (rec .entry)) k (now (out .entry)) ⌝ }
-{
-    let end = operation::core::size(rec);
-    let text = operation::core::text_start(records);
-    let counts = operation::core::count_place(records, 0);
-    operational_transform::core::copy(out, operation::core::text_start(n), rec, text, end);
-    operational_transform::core::copy(
-        out,
-        operation::core::count_place(n, 0),
-        rec,
-        counts,
-        counts + 2 * k,
-    );
-    operational_transform::core::copy(out, 8, rec, 8, 8 + k);
-}
-
 fn add(out: &mut [u8], n: usize, e: Emitter, text: &[u8], chars: usize, x: Added) -> Emitter
     requires { ⌜ (n ≤ 2 ^ 40) × Under (2 ^ 38) e × T (wellFormed (now text)) × (chars ≡ numChars (now text)) × (countOf x (now text) ≤ 32768) ⌝ }
     ensures { λ r. ⌜ Adds n (opOf x (now (text .entry)) ∷ []) e (now (out .entry)) r (now (out .exit)) ⌝ }
@@ -146,7 +127,8 @@ fn run(
     requires { ⌜ (recordFault (now rec) ≡ 0) × (records ≡ recordsOf (now rec)) × (records ≤ 1024) × Pends (now rec) e × T (wellFormed (now text)) × (chars ≡ numChars (now text)) × (countOf x (now text) ≤ 32768) × (n ≤ 2 ^ 40) ⌝ }
     ensures { λ r. ⌜ Done n (extend (ops (now (rec .entry))) (opOf x (now (text .entry)))) (now (out .entry)) r (now (out .exit)) ⌝ }
 {
-    lay(out, n, rec, records, e.records);
+    let bytes = operation::core::text_bytes(rec);
+    operational_transform::core::settle(out, n, rec, records, e.records, bytes);
     let f = add(out, n, e, text, chars, x);
     operational_transform::core::finish(out, n, f)
 }

@@ -62,7 +62,7 @@ module _ (slots : ℕ) (w : Seq) (t o : List ℕ) (few : length w ≤ slots) (ro
 
 -- `settle` gives what a run of as many places as there are operations writes
 staged-writes : (slots : ℕ) (s : Seq) (e : Emitter) (stage out out′ : List ℕ) → Staged slots s e stage → e .records ≤ slots → textStart slots + e .text ≤ length stage
-    → out′ ≡ headed e (settled slots (e .records) (e .text) stage out) → Writes (e .records) s out out′
+    → out′ ≡ headed e (settled slots (e .records) (e .records) (e .text) stage out) → Writes (e .records) s out out′
 unfolding settled laid
 staged-writes slots s e stage out out′ g few room p =
     let d = g .done in
@@ -79,7 +79,7 @@ staged-writes slots s e stage out out′ g few room p =
     let tr = (λ i. take (t i) (drop (textStart slots) (q i))) ∙ text-read slots w (textsOf w) o fw rt in
     record {
       emitter = e;
-      before = settled slots (e .records) (e .text) stage out;
+      before = settled slots (e .records) (e .records) (e .text) stage out;
       done = record {
         small = d .small;
         sizes = d .sizes;
@@ -105,7 +105,7 @@ module _ (slots : ℕ) (e : Emitter) (stage : List ℕ) (v : Bool) (p : v ≡ (l
   pub has-text : textStart slots + e .text ≤ length stage
   has-text = leb→le (textStart slots + e .text) (length stage) (le-and (e .records) slots _ .0 has .1)
 
-  pub settled-writes : (s : Seq) (out out₁ out₂ : List ℕ) → Staged slots s e stage → out₁ ≡ settled slots (e .records) (e .text) stage out → out₂ ≡ headed e out₁ → Writes (e .records) s out out₂
+  pub settled-writes : (s : Seq) (out out₁ out₂ : List ℕ) → Staged slots s e stage → out₁ ≡ settled slots (e .records) (e .records) (e .text) stage out → out₂ ≡ headed e out₁ → Writes (e .records) s out out₂
   settled-writes s out out₁ out₂ g a b = staged-writes slots s e stage out out₂ g has-records has-text (b ∙ ap (headed e) a)
 
 -- ---- `has_place`, `settle`
@@ -120,14 +120,14 @@ module _ (e : Emitter) (slots room : ℕ) where
 part-is : (p q a b m : ℕ) (s o : List ℕ) → p ≡ q → a ≡ b → over p (take (a + m - a) (drop a s)) o ≡ over q (take m (drop b s)) o
 part-is p q a b m s o x y = let z : a + m - a ≡ m = omega arith in λ i. over (x i) (take (z i) (drop (y i) s)) o
 
-pub settles : (slots n t : ℕ) (stage o : List ℕ) {k c f x d : ℕ} {o₁ o₂ o₃ : List ℕ} → k ≡ kindsStart + 0 → c ≡ countsStart slots + 2 * 0 → f ≡ textStart slots → x ≡ textStart n → d ≡ countsStart n + 2 * 0
-    → o₁ ≡ over x (take (f + t - f) (drop f stage)) o → o₂ ≡ over d (take (c + 2 * n - c) (drop c stage)) o₁ → o₃ ≡ over k (take (k + n - k) (drop k stage)) o₂ → o₃ ≡ settled slots n t stage o
+pub settles : (slots n k t : ℕ) (stage o : List ℕ) {a c f x d : ℕ} {o₁ o₂ o₃ : List ℕ} → a ≡ kindsStart + 0 → c ≡ countsStart slots + 2 * 0 → f ≡ textStart slots → x ≡ textStart n → d ≡ countsStart n + 2 * 0
+    → o₁ ≡ over x (take (f + t - f) (drop f stage)) o → o₂ ≡ over d (take (c + 2 * k - c) (drop c stage)) o₁ → o₃ ≡ over a (take (a + k - a) (drop a stage)) o₂ → o₃ ≡ settled slots n k t stage o
 unfolding settled
-settles slots n t stage o {k} {c} {f} {x} {d} pk pc pf px pd p q r =
-    let k8 : k ≡ kindsStart = omega arith in
+settles slots n k t stage o {a} {c} {f} {x} {d} pa pc pf px pd p q r =
+    let a8 : a ≡ kindsStart = omega arith in
     let cs : c ≡ countsStart slots = omega arith in
     let dn : d ≡ countsStart n = omega arith in
     r
-    ∙ part-is k kindsStart k kindsStart n stage _ k8 k8
-    ∙ ap (over kindsStart (take n (drop kindsStart stage)))
-    (q ∙ part-is d (countsStart n) c (countsStart slots) (2 * n) stage _ dn cs ∙ ap (over (countsStart n) (take (2 * n) (drop (countsStart slots) stage))) (p ∙ part-is x (textStart n) f (textStart slots) t stage o px pf))
+    ∙ part-is a kindsStart a kindsStart k stage _ a8 a8
+    ∙ ap (over kindsStart (take k (drop kindsStart stage)))
+    (q ∙ part-is d (countsStart n) c (countsStart slots) (2 * k) stage _ dn cs ∙ ap (over (countsStart n) (take (2 * k) (drop (countsStart slots) stage))) (p ∙ part-is x (textStart n) f (textStart slots) t stage o px pf))

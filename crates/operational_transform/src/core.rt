@@ -388,10 +388,10 @@ pub fn has_place(e: Emitter, slots: usize, room: usize) -> bool
     operation::core::text_start(slots) + e.text <= room
 }
 
-// The text, the counts and the kinds go from the stage to their places in a record of n.
-pub fn settle(out: &mut [u8], stage: &[u8], slots: usize, n: usize, text: usize)
-    requires { ⌜ (slots ≤ 2 ^ 40) × (n ≤ slots) × (textStart slots + text ≤ length (now stage)) ⌝ }
-    ensures { λ _. ⌜ now (out .exit) ≡ settled slots n text (now (stage .entry)) (now (out .entry)) ⌝ }
+// From a record with places for `slots` records the text and the first k counts and kinds go to their places in one of n.
+pub fn settle(out: &mut [u8], n: usize, stage: &[u8], slots: usize, k: usize, text: usize)
+    requires { ⌜ (n ≤ 2 ^ 40) × (slots ≤ 2 ^ 40) × (k ≤ slots) × (textStart slots + text ≤ length (now stage)) ⌝ }
+    ensures { λ _. ⌜ now (out .exit) ≡ settled slots n k text (now (stage .entry)) (now (out .entry)) ⌝ }
 {
     let kinds = operation::core::kind_place(0);
     let counts = operation::core::count_place(slots, 0);
@@ -408,7 +408,7 @@ pub fn settle(out: &mut [u8], stage: &[u8], slots: usize, n: usize, text: usize)
         operation::core::count_place(n, 0),
         stage,
         counts,
-        counts + 2 * n,
+        counts + 2 * k,
     );
-    copy(out, kinds, stage, kinds, kinds + n);
+    copy(out, kinds, stage, kinds, kinds + k);
 }

@@ -17,7 +17,7 @@ returns : tie.Need-returns
 returns c = search needs
 
 settle-requires : tie.Need-settle-requires
-settle-requires c κs = (omega arith, search has-records, search has-text)
+settle-requires c κs = (search needs, omega arith, search has-records, search has-text)
 
 header-requires : tie.Need-header-requires
 header-requires c κs = search needs
