@@ -8,7 +8,7 @@ use lib.Dec.{T}
 use lib.ListN.{length}
 use borrow.Author.Tests.{not-true, not-false}
 use Rattle.utf8.specs.Form.{wellFormed}
-use Rattle.utf8.proofs.Tests.{known}
+use Rattle.utf8.proofs.Tests.{known, holds}
 use Rattle.operation.specs.declared.Refusal.{Refusal}
 use Rattle.operation.specs.declared.Refusal.the-variants.{Utf8, Limit}
 use Rattle.operation.specs.declared.Fact.{Fact}
@@ -57,12 +57,12 @@ module _ (s : Seq) (o : List ℕ) where
     pub text-refused : (f : Fact) → factOf f ≡ checkCall r → (x : Refusal) → f ≡ fact.Refused x → Gives (deliver (textFault r t) s o) (written.Refused x) o
     text-refused f p x q = let v = stopped r f p x q in rw (v .fault) (refuses (v .less) x (v .number-is))
 
-    module _ (z : recordFault r ≡ 0) (b : Bool) (p : b ≡ wellFormed t) where
-      pub text-ill : not b ≡ true → Gives (deliver (textFault r t) s o) (written.Refused Utf8) o
-      text-ill h = rw (z, sym p ∙ not-true b h) (refuses 2 Utf8 refl)
+    module _ (z : recordFault r ≡ 0) where
+      pub text-ill : false ≡ wellFormed t → Gives (deliver (textFault r t) s o) (written.Refused Utf8) o
+      text-ill h = rw (z, sym h) (refuses 2 Utf8 refl)
 
-      pub text-passed : not b ≡ false → (w : Written) (o′ : List ℕ) → Gives (deliver 0 s o) w o′ → Gives (deliver (textFault r t) s o) w o′
-      text-passed h w o′ g = rw (z, sym p ∙ not-false b h) g
+      pub text-passed : T (wellFormed t) → (w : Written) (o′ : List ℕ) → Gives (deliver 0 s o) w o′ → Gives (deliver (textFault r t) s o) w o′
+      text-passed h w o′ g = rw (z, holds (wellFormed t) h) g
 
   -- a call that takes a record alone takes no text
   pub no-text : (r : List ℕ) (w : Written) (o′ : List ℕ) → Gives (deliver (textFault r []) s o) w o′ → Gives (deliver (recordFault r) s o) w o′
@@ -71,6 +71,10 @@ module _ (s : Seq) (o : List ℕ) where
       first-none : (k : ℕ) → first k 0 ≡ k
       first-none zero = refl
       first-none (suc k) = refl
+
+-- a test tells it
+pub text-not : (t : List ℕ) (b : Bool) → b ≡ wellFormed t → not b ≡ true → false ≡ wellFormed t
+text-not t b p h = sym (not-true b h) ∙ p
 
 pub text-well : (t : List ℕ) (b : Bool) → b ≡ wellFormed t → not b ≡ false → T (wellFormed t)
 text-well t b p h = known (sym p ∙ not-false b h)
