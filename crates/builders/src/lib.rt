@@ -3,6 +3,7 @@ use operation::Fact;
 use operation::Refusal;
 use operational_transform::Written;
 use operational_transform::core::Emitter;
+use utf8::core::Form;
 ghost use mathlib.Core.Path.{_≡_};
 ghost use mathlib.Core.List.{[], _∷_};
 ghost use Prim.Native.Nat.{_+_, _^_, _≤_, _<_};
@@ -179,10 +180,9 @@ fn extended(rec: &[u8], text: &[u8], x: Added, out: &mut [u8]) -> Written
     match operation::check(rec) {
         Fact::Refused(y) => Written::Refused(y),
         Fact::Is(_) => {
-            if !utf8::well_formed(text) {
+            let Form::Chars(chars) = utf8::core::form_of(text) else {
                 return Written::Refused(Refusal::Utf8);
-            }
-            let chars = utf8::num_chars(text);
+            };
             delivered(rec, text, chars, x, out)
         }
     }

@@ -18,7 +18,7 @@ ghost use Rattle.operation.specs.Layout.{recordsOf};
 ghost use Rattle.operation.specs.Record.{ops, recordFault};
 ghost use Rattle.operational_transform.specs.Invert.{invert as invertOf};
 ghost use Rattle.operational_transform.specs.Calls.{deliver, invertCall};
-ghost use Rattle.operational_transform.specs.Emit.{writtenOf, Under, Adds, Done, Writes};
+ghost use Rattle.operational_transform.specs.Emit.{writtenOf, Under, Adds, Done, Writes, Staged};
 ghost use Rattle.operational_transform.specs.Given.{Gives};
 ghost use Rattle.invert.specs.Inverting.{taken, undone};
 
@@ -98,22 +98,98 @@ fn write(rec: &[u8], records: usize, text: &[u8], chars: usize, out: &mut [u8], 
     operational_transform::core::header(out, e);
 }
 
+// From a stage, if all of the result has a place there; else by a run of its own.
+fn place(
+    rec: &[u8],
+    records: usize,
+    text: &[u8],
+    chars: usize,
+    stage: &[u8],
+    e: Emitter,
+    out: &mut [u8],
+)
+    requires { ⌜ (recordFault (now rec) ≡ 0) × (records ≡ recordsOf (now rec)) × (records ≤ 1024) × T (wellFormed (now text)) × (chars ≡ numChars (now text)) × Under (2 ^ 40) e × Staged records (invertOf (ops (now rec)) (charsOf (now text))) e (now stage) ⌝ }
+    ensures { λ _. ⌜ Writes (e .records) (invertOf (ops (now (rec .entry))) (charsOf (now (text .entry)))) (now (out .entry)) (now (out .exit)) ⌝ }
+{
+    if !operational_transform::core::has_place(e, records, stage.len()) {
+        write(rec, records, text, chars, out, e.records);
+        return;
+    }
+    operational_transform::core::settle(out, e.records, stage, records, e.records, e.text);
+    operational_transform::core::header(out, e);
+}
+
+// Written to a stage, judged, and moved to the output. The result has no more records than the record.
+fn staged(
+    rec: &[u8],
+    records: usize,
+    text: &[u8],
+    chars: usize,
+    stage: &mut [u8],
+    out: &mut [u8],
+) -> Written
+    requires { ⌜ (recordFault (now rec) ≡ 0) × (records ≡ recordsOf (now rec)) × (records ≤ 1024) × T (wellFormed (now text)) × (chars ≡ numChars (now text)) ⌝ }
+    ensures { λ r. ⌜ Gives (deliver 0 (invertOf (ops (now (rec .entry))) (charsOf (now (text .entry)))) (now (out .entry))) r (now (out .exit)) ⌝ }
+{
+    let e = run(rec, records, text, chars, stage, records);
+    match operational_transform::core::judge(e, out.len()) {
+        Written::Refused(x) => Written::Refused(x),
+        Written::Bytes(k) => {
+            place(rec, records, text, chars, stage, e, out);
+            Written::Bytes(k)
+        }
+    }
+}
+
+// With stages of several lengths: what is cleared is paid for.
+fn small(rec: &[u8], records: usize, text: &[u8], chars: usize, out: &mut [u8]) -> Written
+    requires { ⌜ (recordFault (now rec) ≡ 0) × (records ≡ recordsOf (now rec)) × (records ≤ 1024) × T (wellFormed (now text)) × (chars ≡ numChars (now text)) ⌝ }
+    ensures { λ r. ⌜ Gives (deliver 0 (invertOf (ops (now (rec .entry))) (charsOf (now (text .entry)))) (now (out .entry))) r (now (out .exit)) ⌝ }
+{
+    let mut stage = [0u8; 128];
+    match staged(rec, records, text, chars, &mut stage, out) {
+        Written::Bytes(k) => Written::Bytes(k),
+        Written::Refused(x) => Written::Refused(x),
+    }
+}
+
+fn medium(rec: &[u8], records: usize, text: &[u8], chars: usize, out: &mut [u8]) -> Written
+    requires { ⌜ (recordFault (now rec) ≡ 0) × (records ≡ recordsOf (now rec)) × (records ≤ 1024) × T (wellFormed (now text)) × (chars ≡ numChars (now text)) ⌝ }
+    ensures { λ r. ⌜ Gives (deliver 0 (invertOf (ops (now (rec .entry))) (charsOf (now (text .entry)))) (now (out .entry))) r (now (out .exit)) ⌝ }
+{
+    let mut stage = [0u8; 1024];
+    match staged(rec, records, text, chars, &mut stage, out) {
+        Written::Bytes(k) => Written::Bytes(k),
+        Written::Refused(x) => Written::Refused(x),
+    }
+}
+
+fn large(rec: &[u8], records: usize, text: &[u8], chars: usize, out: &mut [u8]) -> Written
+    requires { ⌜ (recordFault (now rec) ≡ 0) × (records ≡ recordsOf (now rec)) × (records ≤ 1024) × T (wellFormed (now text)) × (chars ≡ numChars (now text)) ⌝ }
+    ensures { λ r. ⌜ Gives (deliver 0 (invertOf (ops (now (rec .entry))) (charsOf (now (text .entry)))) (now (out .entry))) r (now (out .exit)) ⌝ }
+{
+    let mut stage = [0u8; 16384];
+    match staged(rec, records, text, chars, &mut stage, out) {
+        Written::Bytes(k) => Written::Bytes(k),
+        Written::Refused(x) => Written::Refused(x),
+    }
+}
+
 // Of a record and a text that were checked.
 fn inverted(rec: &[u8], text: &[u8], chars: usize, out: &mut [u8]) -> Written
     requires { ⌜ (recordFault (now rec) ≡ 0) × T (wellFormed (now text)) × (chars ≡ numChars (now text)) ⌝ }
     ensures { λ r. ⌜ Gives (deliver 0 (invertOf (ops (now (rec .entry))) (charsOf (now (text .entry)))) (now (out .entry))) r (now (out .exit)) ⌝ }
 {
     let records = operation::core::records(rec);
-    let mut none = [0u8; 0];
-    let e = run(rec, records, text, chars, &mut none, 0);
-    let n = e.records;
-    match operational_transform::core::judge(e, out.len()) {
-        Written::Refused(x) => Written::Refused(x),
-        Written::Bytes(k) => {
-            write(rec, records, text, chars, out, n);
-            Written::Bytes(k)
-        }
+    // what lies behind the counts is for text
+    let least = operation::core::text_start(records);
+    if 512 < least {
+        return large(rec, records, text, chars, out);
     }
+    if 64 < least {
+        return medium(rec, records, text, chars, out);
+    }
+    small(rec, records, text, chars, out)
 }
 
 // The sequence that undoes the record's on the text that it was applied to.

@@ -1,5 +1,6 @@
+use Rattle.utf8.proofs.Passed.{form-ill, form-holds, form-num}
 use Rattle.operation.proofs.Answers.{passed}
-use Rattle.operational_transform.proofs.Giving.{text-refused, text-ill, text-passed, text-not, text-well}
+use Rattle.operational_transform.proofs.Giving.{text-refused, text-ill, text-passed}
 use borrow.Author.Needs.{needs}
 use Rattle.builders.proofs.extended.Statement.{statement}
 use Rattle.builders.proofs.extended.Tie as tie
@@ -13,17 +14,20 @@ enum-known-y c = search needs
 enum-told : tie.Need-enum-told
 enum-told c = search needs
 
-well-formed-requires : tie.Need-well-formed-requires
-well-formed-requires c κs = search needs
+form-of-requires : tie.Need-form-of-requires
+form-of-requires c κs = search needs
+
+enum-known-chars : tie.Need-enum-known-chars
+enum-known-chars c = search needs
+
+enum-told-2 : tie.Need-enum-told-2
+enum-told-2 c = search needs
 
 returns : tie.Need-returns
-returns c = search (passed, text-ill, text-not)
-
-num-chars-requires : tie.Need-num-chars-requires
-num-chars-requires c κs = search needs
+returns c = search (passed, text-ill, form-ill)
 
 delivered-requires : tie.Need-delivered-requires
-delivered-requires c κs = search (passed, text-well, needs)
+delivered-requires c κs = search (passed, form-holds, form-num, needs)
 
 returns-2 : tie.Need-returns-2
 returns-2 c = search text-refused
@@ -32,7 +36,7 @@ same-length : tie.Need-same-length
 same-length c = search needs
 
 returns-3 : tie.Need-returns-3
-returns-3 c = search (passed, text-passed, text-well)
+returns-3 c = search (passed, text-passed, form-holds)
 
 pub extended-spec : {M : Type 1} → statement M
 extended-spec =
@@ -41,9 +45,10 @@ extended-spec =
     check-requires
     enum-known-y
     enum-told
-    well-formed-requires
+    form-of-requires
+    enum-known-chars
+    enum-told-2
     returns
-    num-chars-requires
     delivered-requires
     returns-2
     same-length

@@ -1,13 +1,7 @@
 use Rattle.operational_transform.proofs.Giving.{gives-refused, gives-written}
 use borrow.Author.Needs.{needs}
-use Rattle.invert.proofs.inverted.Statement.{statement}
-use Rattle.invert.proofs.inverted.Tie as tie
-
-records-requires : tie.Need-records-requires
-records-requires c κs = search needs
-
-slice-aggregate-run : tie.Need-slice-aggregate-run
-slice-aggregate-run c = search needs
+use Rattle.invert.proofs.staged.Statement.{statement}
+use Rattle.invert.proofs.staged.Tie as tie
 
 run-requires : tie.Need-run-requires
 run-requires c κs = search needs
@@ -21,29 +15,35 @@ enum-known-x c = search needs
 enum-known-k : tie.Need-enum-known-k
 enum-known-k c = search needs
 
-write-requires : tie.Need-write-requires
-write-requires c κs = search needs
-
-returns : tie.Need-returns
-returns c = search gives-refused
+place-requires : tie.Need-place-requires
+place-requires c κs = search needs
 
 same-length : tie.Need-same-length
 same-length c = search needs
 
+returns : tie.Need-returns
+returns c = search gives-refused
+
+same-length-2 : tie.Need-same-length-2
+same-length-2 c = search needs
+
+same-length-3 : tie.Need-same-length-3
+same-length-3 c = search needs
+
 returns-2 : tie.Need-returns-2
 returns-2 c = search gives-written
 
-pub inverted-spec : {M : Type 1} → statement M
-inverted-spec =
+pub staged-spec : {M : Type 1} → statement M
+staged-spec =
     tie.close
     (tie.spec
-    records-requires
-    slice-aggregate-run
     run-requires
     judge-requires
     enum-known-x
     enum-known-k
-    write-requires
-    returns
+    place-requires
     same-length
+    returns
+    same-length-2
+    same-length-3
     returns-2)
