@@ -9,7 +9,8 @@ use Rattle.utf8.specs.Form.{wellFormed}
 use Rattle.utf8.specs.Chars.{numChars, takeChars}
 use Rattle.utf8.specs.Places.{Passes}
 use Rattle.utf8.proofs.Chars.{num-le}
-use Rattle.utf8.proofs.Places.{skips, skips-plain}
+use Rattle.playing.specs.Steps.{TakesRest}
+use Rattle.utf8.proofs.Places.{passes-rest, skips, skips-plain}
 
 module _ (t : List ℕ) (at k : ℕ) (h : at ≤ length t) (w : T (wellFormed (drop at t))) where
   pub passes-plain : (n : ℕ) → n ≡ numChars t → n ≡ length t → k ≤ numChars (drop at t) → Passes t at k (at + k)
@@ -17,3 +18,6 @@ module _ (t : List ℕ) (at k : ℕ) (h : at ≤ length t) (w : T (wellFormed (d
 
   pub passes-skip : (to : ℕ) → to ≡ at + length (takeChars k (drop at t)) → Passes t at k to
   passes-skip = skips t at k h w
+
+  pub ends-text : (left : ℕ) → TakesRest t at k left → left ≡ 1 → Passes t at k (length t)
+  ends-text left r e = passes-rest t at k h w (r .rest e)

@@ -28,7 +28,7 @@ use Rattle.operational_transform.proofs.Theorems.{apply-length}
 use Rattle.operational_transform.proofs.Over.{over-nil}
 use Rattle.operational_transform.proofs.Widths.{bytes-most}
 use Rattle.playing.specs.declared.steps.State.{State}
-use Rattle.playing.specs.Steps.{played, Stage, Steps}
+use Rattle.playing.specs.Steps.{played, Stage, TakesRest, Steps}
 
 -- ---- one step
 
@@ -97,6 +97,15 @@ module _ (r t : List ℕ) (n : ℕ) (s : State) (kind count : ℕ) (g : Stage r 
       go : (b : Bool) → eqb kind 1 ≡ b → count ≤ numChars (drop (s .at) t)
       go true y = omega (arith, chars-length (drop (s .at) t) (g .well), g .takes-all, ap base (retain-begins (eqb-true kind 1 y) .has))
       go false y = omega (arith, chars-length (drop (s .at) t) (g .well), g .takes-all, ap base (delete-begins (eqb-false kind 1 y) z .has))
+
+  pub takes-rest : (kind ≡ 2 → ⊥) → TakesRest t (s .at) count (n - s .k)
+  takes-rest z = record { rest = λ e. go (eqb kind 1) refl e }
+    where
+      go : (b : Bool) → eqb kind 1 ≡ b → n - s .k ≡ 1 → count ≡ numChars (drop (s .at) t)
+      go true y e =
+          omega (arith, chars-length (drop (s .at) t) (g .well), g .takes-all, ap base (retain-begins (eqb-true kind 1 y) .has), ap base (begins-none r n (s .k + 1) (s .from) p (omega arith)))
+      go false y e =
+          omega (arith, chars-length (drop (s .at) t) (g .well), g .takes-all, ap base (delete-begins (eqb-false kind 1 y) z .has), ap base (begins-none r n (s .k + 1) (s .from) p (omega arith)))
 
   module _ (end : ℕ) (v : Passes t (s .at) count end) where
     pub step-retain : (b d : List ℕ) → kind ≡ 1 → d ≡ over (s .len) (take (end - s .at) (drop (s .at) t)) b

@@ -5,6 +5,7 @@ use mathlib.Core.List.{List}
 use lib.Dec.{T}
 use lib.ListN.{length, take, drop}
 use Rattle.utf8.specs.Form.{wellFormed}
+use Rattle.utf8.specs.Chars.{numChars}
 use Rattle.utf8.specs.Text.{chars, bytes}
 use Rattle.operation.specs.Op.{base}
 use Rattle.operation.specs.Record.{ops}
@@ -27,6 +28,10 @@ pub record Stage (r t : List ℕ) (s : State) : Type 0 where
   pub small : length (played r t) ≤ 131072
   pub given : s .len ≤ length (played r t)
   pub left : drop (s .len) (played r t) ≡ bytes (apply (opsLeft r (s .k) (s .from)) (chars (drop (s .at) t)))
+
+-- the last of the operations that are left takes all that is left of the text
+pub record TakesRest (t : List ℕ) (at count left : ℕ) : Type 0 where
+  pub rest : left ≡ 1 → count ≡ numChars (drop at t)
 
 -- one step from `s` to `u`: the bytes between are laid over the output
 pub record Steps (r t : List ℕ) (s : State) (o : List ℕ) (u : State) (o′ : List ℕ) : Type 0 where

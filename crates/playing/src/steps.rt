@@ -10,7 +10,7 @@ ghost use Rattle.utf8.specs.Places.{Passes};
 ghost use Rattle.operation.specs.Layout.{recordsOf, baseOf};
 ghost use Rattle.operation.specs.Record.{recordFault};
 ghost use Rattle.operational_transform.specs.Emit.{over};
-ghost use Rattle.playing.specs.Steps.{played, Stage, Steps};
+ghost use Rattle.playing.specs.Steps.{played, Stage, TakesRest, Steps};
 
 // How far the record and the text were gone through: the next record, the places of the next insert's text and of the next
 // character, and how many bytes were given.
@@ -30,6 +30,17 @@ fn behind(text: &[u8], chars: usize, at: usize, count: usize) -> usize
         return at + count;
     }
     utf8::core::skip(text, at, count)
+}
+
+// The same for the first of `left` operations.
+fn end_of(text: &[u8], chars: usize, at: usize, count: usize, left: usize) -> usize
+    requires { ⌜ (chars ≡ numChars (now text)) × (at ≤ length (now text)) × T (wellFormed (drop at (now text))) × (count < 65536) × (count ≤ numChars (drop at (now text))) × TakesRest (now text) at count left ⌝ }
+    ensures { λ end. ⌜ Passes (now (text .entry)) at count end ⌝ }
+{
+    if left == 1 {
+        return text.len();
+    }
+    behind(text, chars, at, count)
 }
 
 // One operation: retain copies, delete skips, insert writes.
@@ -53,7 +64,7 @@ fn step(out: &mut [u8], rec: &[u8], n: usize, text: &[u8], chars: usize, s: Stat
             len: len + count,
         };
     }
-    let end = behind(text, chars, at, count);
+    let end = end_of(text, chars, at, count, n - k);
     if kind == 1 {
         operational_transform::core::copy(out, len, text, at, end);
         return State {

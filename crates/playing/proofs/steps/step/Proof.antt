@@ -1,4 +1,4 @@
-use Rattle.playing.proofs.Playing.{insert-room, step-insert, chars-room, step-retain, step-delete}
+use Rattle.playing.proofs.Playing.{insert-room, step-insert, chars-room, takes-rest, step-retain, step-delete}
 use borrow.Author.Needs.{needs}
 use Rattle.playing.proofs.steps.step.Statement.{statement}
 use Rattle.playing.proofs.steps.step.Tie as tie
@@ -27,20 +27,23 @@ same-length c = search needs
 returns : tie.Need-returns
 returns c = search step-insert
 
-behind-requires : tie.Need-behind-requires
-behind-requires c κs = (search needs, search needs, search needs, search needs, search chars-room)
+sub-end-of : tie.Need-sub-end-of
+sub-end-of c = search needs
+
+end-of-requires : tie.Need-end-of-requires
+end-of-requires c κs = (search needs, search needs, search needs, search needs, search chars-room, search takes-rest)
 
 copy-requires-2 : tie.Need-copy-requires-2
 copy-requires-2 c κs = search needs
 
-add-t24 : tie.Need-add-t24
-add-t24 c = search needs
+add-t25 : tie.Need-add-t25
+add-t25 c = search needs
 
-sub-t25 : tie.Need-sub-t25
-sub-t25 c = search needs
+sub-t26 : tie.Need-sub-t26
+sub-t26 c = search needs
 
-add-t26 : tie.Need-add-t26
-add-t26 c = search needs
+add-t27 : tie.Need-add-t27
+add-t27 c = search needs
 
 same-length-2 : tie.Need-same-length-2
 same-length-2 c = search needs
@@ -48,8 +51,8 @@ same-length-2 c = search needs
 returns-2 : tie.Need-returns-2
 returns-2 c = search step-retain
 
-add-t27 : tie.Need-add-t27
-add-t27 c = search needs
+add-t21 : tie.Need-add-t21
+add-t21 c = search needs
 
 returns-3 : tie.Need-returns-3
 returns-3 c = search step-delete
@@ -66,12 +69,13 @@ step-spec =
     add-t20
     same-length
     returns
-    behind-requires
+    sub-end-of
+    end-of-requires
     copy-requires-2
-    add-t24
-    sub-t25
-    add-t26
+    add-t25
+    sub-t26
+    add-t27
     same-length-2
     returns-2
-    add-t27
+    add-t21
     returns-3)
