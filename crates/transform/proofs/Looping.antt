@@ -28,7 +28,7 @@ pub sized-side : (n : ℕ) (s : Seq) (x : List ℕ) (r : Emitter) (x′ : List �
 sized-side n s x r x′ d = (d .sizes, d .small)
 
 -- the right side is the left of the two exchanged
-right-is : (a b : Seq) → transform order b a .left ≡ transform order a b .right
+pub right-is : (a b : Seq) → transform order b a .left ≡ transform order a b .right
 right-is a b = ap (λ s. s .left) (transform-swaps a b)
 
 pub sized-both : (a b : Seq) (e f : Emitter) → Sizes (transform order a b .left) e × Under (2 ^ 40) e → Sizes (transform order b a .left) f × Under (2 ^ 40) f
