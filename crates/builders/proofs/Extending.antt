@@ -29,7 +29,7 @@ use Rattle.operational_transform.specs.Given.{Gives}
 use Rattle.operational_transform.proofs.Giving.{gives-limit}
 use Rattle.builders.specs.declared.Added.{Added}
 use Rattle.builders.specs.declared.Added.the-variants.{Retain, Insert, Delete}
-use Rattle.builders.specs.Extending.{opOf, countOf, Repeats}
+use Rattle.builders.specs.Extending.{opOf, countOf, Pends, Repeats}
 
 -- ---- the operation added
 
@@ -46,12 +46,18 @@ module _ (x : Added) (t : List ℕ) where
   pub few-inserted : countOf x t ≤ 32768 → x ≡ Insert → length t - 0 ≤ 2 ^ 18
   few-inserted h e = let l : length t ≤ 32768 = rw e at h in omega arith
 
+  pub few-whole : countOf x t ≤ 32768 → x ≡ Insert → length t ≤ 2 ^ 18
+  few-whole h e = let l : length t ≤ 32768 = rw e at h in omega arith
+
   pub count-inserted : x ≡ Insert → length t ≡ countOf x t
   count-inserted e = rw e
 
   module _ (n : ℕ) (e : Emitter) (o : List ℕ) (r : Emitter) where
     pub added-retain : (k : ℕ) → x ≡ Retain k → Retains k e r → Adds n (opOf x t ∷ []) e o r o
     added-retain k p a = rw p (a .adds n o)
+
+    pub added-whole : (o′ : List ℕ) → x ≡ Insert → Adds n (insert (chars t) ∷ []) e o r o′ → Adds n (opOf x t ∷ []) e o r o′
+    added-whole o′ p a = rw p a
 
     pub added-delete : (k : ℕ) (o′ : List ℕ) → x ≡ Delete k → Adds n (delete k ∷ []) e o r o′ → Adds n (opOf x t ∷ []) e o r o′
     added-delete k o′ p a = rw p a
@@ -72,10 +78,10 @@ added-insert x t n e o r o′ p a = rw p (rw (whole-text t) at a)
 
 -- ---- the record and the operation
 
-module _ (n : ℕ) (r : List ℕ) (p : Op Char) (o o₁ o₂ : List ℕ) (e e₁ : Emitter) (a : Repeats n r o e o₁) (b : Adds n (p ∷ []) e o₁ e₁ o₂) where
-  pub added-under : Under (2 ^ 39) e₁
-  added-under = under-more (2 ^ 38 + 270000 * 1) (2 ^ 39) e₁ (omega arith) (b .under (2 ^ 38) (a .under))
+pub pends-under : (n : ℕ) (r : List ℕ) (p : Op Char) (o o₁ : List ℕ) (e e₁ : Emitter) → Pends r e → Adds n (p ∷ []) e o e₁ o₁ → Under (2 ^ 39) e₁
+pends-under n r p o o₁ e e₁ a b = under-more (2 ^ 38 + 270000 * 1) (2 ^ 39) e₁ (omega arith) (b .under (2 ^ 38) (a .under))
 
+module _ (n : ℕ) (r : List ℕ) (p : Op Char) (o o₁ o₂ : List ℕ) (e e₁ : Emitter) (a : Repeats n r o e o₁) (b : Adds n (p ∷ []) e o₁ e₁ o₂) where
   pub added-done : (e₂ : Emitter) (o₃ : List ℕ) → Finishes n e₁ o₂ e₂ o₃ → Done n (extend (ops r) p) o e₂ o₃
   unfolding extend addAll
   added-done e₂ o₃ f = f .done o (add (reverse (ops r)) p) (b .keeps o (reverse (ops r)) (a .rep))

@@ -1,7 +1,7 @@
 -- The last group of a record, from which the builders go on.
 use Prim.Native.Nat.{ℕ, zero, suc, _+_, _*_, _-_, _≤_, _<_}
 use native.Mathlib.Omega.{arith}
-use mathlib.Core.Path.{_≡_, refl, sym, ap, ap₂, _∙_}
+use mathlib.Core.Path.{_≡_, refl, sym, ap, ap₂, _∙_, subst}
 use mathlib.Core.Bool.{Bool, true, false, cond}
 use mathlib.Core.List.{List, [], _∷_, _++_, reverse}
 use lib.Dec.{eqb, eqb→eq}
@@ -17,12 +17,13 @@ use Rattle.operation.proofs.Sequences.{inBytes-size}
 use Rattle.operation.proofs.Faults.{limits, faultless}
 use Rattle.operation.proofs.Records.{Bytes, ops-base, ops-target}
 use Rattle.operational_transform.specs.declared.core.Emitter.{Emitter}
-use Rattle.operational_transform.specs.Emit.{over, one, textsOf, laid, group, Fresh, first, later-insert, later-delete}
+use Rattle.operational_transform.specs.Emit.{over, one, textsOf, laid, group, Fresh, first, later-insert, later-delete, Rep, settled}
 use Rattle.operational_transform.proofs.Building.{Prev, Back}
 use Rattle.operational_transform.proofs.Growing.{total-reverse}
+use Rattle.operational_transform.proofs.Over.{over-none}
 use Rattle.operational_transform.proofs.Emitting.{some-is, group-text}
 use Rattle.operational_transform.proofs.Parts.{At, at-before, at-end, text-at, text-long, kinds-at, counts-at, kind-last, count-last}
-use Rattle.builders.specs.Extending.{lastCount, begun, Pends, Repeats}
+use Rattle.builders.specs.Extending.{lastCount, Pends, Repeats}
 
 -- ---- a last operation of a kind, taken off
 
@@ -136,25 +137,7 @@ module _ (k c : ℕ) where
     pub before-some : k - 1 + one c ≡ k
     before-some = omega (arith, some-is c h)
 
-pub lays : (n : ℕ) (r : List ℕ) (k : ℕ) (o o₁ o₂ o₃ : List ℕ) (records end t c tn cn : ℕ) → records ≡ recordsOf r → end ≡ sizeOf r → t ≡ textStart records → c ≡ countsStart records + 2 * 0
-    → tn ≡ textStart n → o₁ ≡ over tn (take (end - t) (drop t r)) o
-    → cn ≡ countsStart n + 2 * 0 → o₂ ≡ over cn (take (c + 2 * k - c) (drop c r)) o₁
-    → o₃ ≡ over 8 (take (8 + k - 8) (drop 8 r)) o₂ → o₃ ≡ begun n r k o
-unfolding begun textOf
-lays n r k o o₁ o₂ o₃ records end t c tn cn rp ep tp cp np q₁ mp q₂ q₃ =
-    let R = recordsOf r in
-    let a : end - t ≡ textBytesOf r = omega arith in
-    let b : t ≡ textStart R = omega arith in
-    let d : c + 2 * k - c ≡ 2 * k = omega arith in
-    let e : c ≡ countsStart R = omega arith in
-    let f : cn ≡ countsStart n = omega arith in
-    let g : 8 + k - 8 ≡ k = omega arith in
-    q₃
-    ∙ ap₂ (λ i l. over 8 (take i (drop 8 r)) l) g
-    (q₂ ∙ ap₂ (λ i l. over i l o₁) f (ap₂ (λ i j. take i (drop j r)) d e)
-    ∙ ap (over (countsStart n) (take (2 * k) (drop (countsStart R) r))) (q₁ ∙ ap₂ (λ i l. over i l o) np (ap₂ (λ i j. take i (drop j r)) a b)))
-
--- ---- `pending`, `repeat`
+-- ---- `pending`, `run`
 
 pub pends : (r : List ℕ) → Bytes r → recordFault r ≡ 0 → (k ret x del y ins j s t g h : ℕ)
     → k ≡ recordsOf r
@@ -163,7 +146,7 @@ pub pends : (r : List ℕ) → Bytes r → recordFault r ≡ 0 → (k ret x del 
     → ins ≡ lastCount r y 2 → ins < 65536 → j + one ins ≡ y
     → s ≡ sizeOf r → t ≡ textStart k → g ≡ baseOf r → h ≡ targetOf r
     → Pends r (record { ins = ins; del = del; ret = ret; records = j; text = s - t; base = g; target = h })
-unfolding begun laid
+unfolding settled laid textOf
 pends r b z k ret x del y ins j s t g h kp rp rl xp dp dl yp ip il jp sp tp gp hp =
     let l = limits r .0 (faultless r .0 z .in-limits) in
     let w = reverse (ops r) in
@@ -194,5 +177,14 @@ pends r b z k ret x del y ins j s t g h kp rp rl xp dp dl yp ip il jp sp tp gp h
       };
     }
 
-pub repeats : (n : ℕ) (r o : List ℕ) (e : Emitter) (o′ : List ℕ) → Pends r e → o′ ≡ begun n r (e .records) o → Repeats n r o e o′
-repeats n r o e o′ h p = record { rep = rw p (h .rep n o); under = h .under }
+pub repeats : (n : ℕ) (r o : List ℕ) (e : Emitter) (k t : ℕ) (o′ : List ℕ) → Pends r e → k ≡ recordsOf r → t ≡ textBytesOf r → o′ ≡ settled k n (e .records) t r o → Repeats n r o e o′
+repeats n r o e k t o′ h p q w = record { rep = rw (w ∙ ap₂ (λ k t. settled k n (e .records) t r o) p q) (h .rep n o); under = h .under }
+
+-- a checked record has all its text
+pub text-room : (r : List ℕ) (k t : ℕ) → recordFault r ≡ 0 → k ≡ recordsOf r → t ≡ textBytesOf r → textStart k + t ≤ length r
+text-room r k t z p q = omega (arith, limits r .0 (faultless r .0 z .in-limits))
+
+-- on a buffer of no bytes
+pub repeats-none : (r : List ℕ) (e : Emitter) → Pends r e → Repeats 0 r [] e []
+unfolding settled
+repeats-none r e h = record { rep = subst (λ o. Rep 0 [] (reverse (ops r)) e o) (simp over-none) (h .rep 0 []); under = h .under }

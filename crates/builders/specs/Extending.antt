@@ -1,15 +1,15 @@
 -- What the functions below the builders promise each other. No entry's contract cites this.
-use Prim.Native.Nat.{ℕ, zero, suc, _*_, _^_, _≤_}
+use Prim.Native.Nat.{ℕ, zero, suc, _^_, _≤_}
 use mathlib.Core.Bool.{cond}
 use mathlib.Core.List.{List, reverse}
 use lib.Dec.{eqb}
-use lib.ListN.{length, take, drop}
+use lib.ListN.{length}
 use Rattle.utf8.specs.Text.{Char, chars}
 use Rattle.operation.specs.Op.{Op, retain, insert, delete}
-use Rattle.operation.specs.Layout.{recordsOf, kindsStart, countsStart, textStart, kindAt, countAt}
-use Rattle.operation.specs.Record.{textOf, ops}
+use Rattle.operation.specs.Layout.{recordsOf, textBytesOf, kindAt, countAt}
+use Rattle.operation.specs.Record.{ops}
 use Rattle.operational_transform.specs.declared.core.Emitter.{Emitter}
-use Rattle.operational_transform.specs.Emit.{over, Under, Rep}
+use Rattle.operational_transform.specs.Emit.{Under, Rep, settled}
 use Rattle.builders.specs.declared.Added.{Added}
 use Rattle.builders.specs.declared.Added.the-variants.{Retain, Insert, Delete}
 
@@ -30,16 +30,11 @@ unfoldable pub lastCount : List ℕ → ℕ → ℕ → ℕ
 lastCount r zero kind = 0
 lastCount r (suc k) kind = cond (eqb (kindAt r k) kind) (countAt r k) 0
 
--- the first k kinds and counts and all text of the record, at their places in one of n operations
-unfoldable pub begun : ℕ → List ℕ → ℕ → List ℕ → List ℕ
-unfolding over textOf
-begun n r k o = over kindsStart (take k (drop kindsStart r)) (over (countsStart n) (take (2 * k) (drop (countsStart (recordsOf r)) r)) (over (textStart n) (textOf r) o))
-
--- the emitter has the record's last group pending, and stands for the record's operations once all before the group is laid
+-- the emitter has the record's last group pending, and stands for the record's operations once all before the group is in its place
 pub record Pends (r : List ℕ) (e : Emitter) : Type 0 where
   pub few : e .records ≤ recordsOf r
   pub under : Under (2 ^ 38) e
-  pub rep : (n : ℕ) (o : List ℕ) → Rep n o (reverse (ops r)) e (begun n r (e .records) o)
+  pub rep : (n : ℕ) (o : List ℕ) → Rep n o (reverse (ops r)) e (settled (recordsOf r) n (e .records) (textBytesOf r) r o)
 
 -- the record's operations were emitted
 pub record Repeats (n : ℕ) (r o : List ℕ) (e : Emitter) (o′ : List ℕ) : Type 0 where

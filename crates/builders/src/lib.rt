@@ -8,13 +8,14 @@ ghost use mathlib.Core.List.{[], _∷_};
 ghost use Prim.Native.Nat.{_+_, _^_, _≤_, _<_};
 ghost use lib.Dec.{T};
 ghost use Rattle.utf8.specs.Form.{wellFormed};
+ghost use Rattle.utf8.specs.Chars.{numChars};
 ghost use Rattle.operation.specs.Layout.{recordsOf};
 ghost use Rattle.operation.specs.Record.{ops, recordFault};
 ghost use Rattle.operational_transform.specs.Build.{extend};
 ghost use Rattle.operational_transform.specs.Calls.{textFault, deliver, retainCall, deleteCall, insertCall};
 ghost use Rattle.operational_transform.specs.Emit.{writtenOf, one, Under, Adds, Done, Writes};
 ghost use Rattle.operational_transform.specs.Given.{Gives};
-ghost use Rattle.builders.specs.Extending.{opOf, countOf, lastCount, begun, Pends, Repeats};
+ghost use Rattle.builders.specs.Extending.{opOf, countOf, lastCount, Pends};
 
 // The operation that is added: an insert's text goes with it.
 enum Added {
@@ -78,71 +79,81 @@ fn pending(rec: &[u8], records: usize) -> Emitter
     }
 }
 
-// The first k kinds and counts and all text of the record, at their places in one of n.
-fn lay(out: &mut [u8], n: usize, rec: &[u8], records: usize, k: usize)
-    requires { ⌜ (recordFault (now rec) ≡ 0) × (records ≡ recordsOf (now rec)) × (records ≤ 1024) × (k ≤ records) × (n ≤ 2 ^ 40) ⌝ }
-    ensures { λ _. ⌜ now (out .exit) ≡ begun n (now (rec .entry)) k (now (out .entry)) ⌝ }
-{
-    let end = operation::core::size(rec);
-    let text = operation::core::text_start(records);
-    let counts = operation::core::count_place(records, 0);
-    operational_transform::core::copy(out, operation::core::text_start(n), rec, text, end);
-    operational_transform::core::copy(
-        out,
-        operation::core::count_place(n, 0),
-        rec,
-        counts,
-        counts + 2 * k,
-    );
-    operational_transform::core::copy(out, 8, rec, 8, 8 + k);
-}
-
-// The operations that the record has already.
-fn repeat(rec: &[u8], records: usize, out: &mut [u8], n: usize) -> Emitter
-    requires { ⌜ (recordFault (now rec) ≡ 0) × (records ≡ recordsOf (now rec)) × (records ≤ 1024) × (n ≤ 2 ^ 40) ⌝ }
-    ensures { λ r. ⌜ Repeats n (now (rec .entry)) (now (out .entry)) r (now (out .exit)) ⌝ }
-{
-    let e = pending(rec, records);
-    lay(out, n, rec, records, e.records);
-    e
-}
-
-fn add(out: &mut [u8], n: usize, e: Emitter, text: &[u8], x: Added) -> Emitter
-    requires { ⌜ (n ≤ 2 ^ 40) × Under (2 ^ 38) e × T (wellFormed (now text)) × (countOf x (now text) ≤ 32768) ⌝ }
+fn add(out: &mut [u8], n: usize, e: Emitter, text: &[u8], chars: usize, x: Added) -> Emitter
+    requires { ⌜ (n ≤ 2 ^ 40) × Under (2 ^ 38) e × T (wellFormed (now text)) × (chars ≡ numChars (now text)) × (countOf x (now text) ≤ 32768) ⌝ }
     ensures { λ r. ⌜ Adds n (opOf x (now (text .entry)) ∷ []) e (now (out .entry)) r (now (out .exit)) ⌝ }
 {
     match x {
         Added::Retain(k) => operational_transform::core::retain(e, k as usize),
         Added::Insert => {
-            let chars = utf8::num_chars(text);
             operational_transform::core::insert(out, n, e, text, 0, text.len(), chars)
         }
         Added::Delete(k) => operational_transform::core::delete(out, n, e, k as usize),
     }
 }
 
+// The numbers after the same; nothing is written.
+fn count_added(e: Emitter, text: &[u8], chars: usize, x: Added) -> Emitter
+    requires { ⌜ Under (2 ^ 38) e × T (wellFormed (now text)) × (chars ≡ numChars (now text)) × (countOf x (now text) ≤ 32768) ⌝ }
+    ensures { λ r. ⌜ Adds 0 (opOf x (now (text .entry)) ∷ []) e [] r [] ⌝ }
+{
+    match x {
+        Added::Retain(k) => operational_transform::core::retain(e, k as usize),
+        Added::Insert => operational_transform::core::count_insert(text, e, chars),
+        Added::Delete(k) => operational_transform::core::count_delete(e, k as usize),
+    }
+}
+
+// The sizes of the result, `e` being the record's last group. (`rec` is what the contract speaks of.)
+fn sized(rec: &[u8], e: Emitter, text: &[u8], chars: usize, x: Added) -> Emitter
+    requires { ⌜ Pends (now rec) e × T (wellFormed (now text)) × (chars ≡ numChars (now text)) × (countOf x (now text) ≤ 32768) ⌝ }
+    ensures { λ r. ⌜ Done 0 (extend (ops (now (rec .entry))) (opOf x (now (text .entry)))) [] r [] ⌝ }
+{
+    let f = count_added(e, text, chars, x);
+    operational_transform::core::close(f)
+}
+
 // The record and the operation, for a result of n records.
-fn run(rec: &[u8], records: usize, text: &[u8], x: Added, out: &mut [u8], n: usize) -> Emitter
-    requires { ⌜ (recordFault (now rec) ≡ 0) × (records ≡ recordsOf (now rec)) × (records ≤ 1024) × T (wellFormed (now text)) × (countOf x (now text) ≤ 32768) × (n ≤ 2 ^ 40) ⌝ }
+fn run(
+    rec: &[u8],
+    records: usize,
+    e: Emitter,
+    text: &[u8],
+    chars: usize,
+    x: Added,
+    out: &mut [u8],
+    n: usize,
+) -> Emitter
+    requires { ⌜ (recordFault (now rec) ≡ 0) × (records ≡ recordsOf (now rec)) × (records ≤ 1024) × Pends (now rec) e × T (wellFormed (now text)) × (chars ≡ numChars (now text)) × (countOf x (now text) ≤ 32768) × (n ≤ 2 ^ 40) ⌝ }
     ensures { λ r. ⌜ Done n (extend (ops (now (rec .entry))) (opOf x (now (text .entry)))) (now (out .entry)) r (now (out .exit)) ⌝ }
 {
-    let e = repeat(rec, records, out, n);
-    let f = add(out, n, e, text, x);
+    let bytes = operation::core::text_bytes(rec);
+    operational_transform::core::settle(out, n, rec, records, e.records, bytes);
+    let f = add(out, n, e, text, chars, x);
     operational_transform::core::finish(out, n, f)
 }
 
 // The record of a result of n records.
-fn write(rec: &[u8], records: usize, text: &[u8], x: Added, out: &mut [u8], n: usize)
-    requires { ⌜ (recordFault (now rec) ≡ 0) × (records ≡ recordsOf (now rec)) × (records ≤ 1024) × T (wellFormed (now text)) × (countOf x (now text) ≤ 32768) × (n ≤ 2 ^ 40) ⌝ }
+fn write(
+    rec: &[u8],
+    records: usize,
+    e: Emitter,
+    text: &[u8],
+    chars: usize,
+    x: Added,
+    out: &mut [u8],
+    n: usize,
+)
+    requires { ⌜ (recordFault (now rec) ≡ 0) × (records ≡ recordsOf (now rec)) × (records ≤ 1024) × Pends (now rec) e × T (wellFormed (now text)) × (chars ≡ numChars (now text)) × (countOf x (now text) ≤ 32768) × (n ≤ 2 ^ 40) ⌝ }
     ensures { λ _. ⌜ Writes n (extend (ops (now (rec .entry))) (opOf x (now (text .entry)))) (now (out .entry)) (now (out .exit)) ⌝ }
 {
-    let e = run(rec, records, text, x, out, n);
-    operational_transform::core::header(out, e);
+    let g = run(rec, records, e, text, chars, x, out, n);
+    operational_transform::core::header(out, g);
 }
 
 // Of a record and a text that were checked. What counts more than a limit lets no result within the limits.
-fn delivered(rec: &[u8], text: &[u8], x: Added, out: &mut [u8]) -> Written
-    requires { ⌜ (recordFault (now rec) ≡ 0) × T (wellFormed (now text)) ⌝ }
+fn delivered(rec: &[u8], text: &[u8], chars: usize, x: Added, out: &mut [u8]) -> Written
+    requires { ⌜ (recordFault (now rec) ≡ 0) × T (wellFormed (now text)) × (chars ≡ numChars (now text)) ⌝ }
     ensures { λ r. ⌜ Gives (deliver 0 (extend (ops (now (rec .entry))) (opOf x (now (text .entry)))) (now (out .entry))) r (now (out .exit)) ⌝ }
 {
     let size = count(x, text);
@@ -150,13 +161,12 @@ fn delivered(rec: &[u8], text: &[u8], x: Added, out: &mut [u8]) -> Written
         return Written::Refused(Refusal::Limit);
     }
     let records = operation::core::records(rec);
-    let mut none = [0u8; 0];
-    let e = run(rec, records, text, x, &mut none, 0);
-    let n = e.records;
-    match operational_transform::core::judge(e, out.len()) {
+    let e = pending(rec, records);
+    let g = sized(rec, e, text, chars, x);
+    match operational_transform::core::judge(g, out.len()) {
         Written::Refused(y) => Written::Refused(y),
         Written::Bytes(k) => {
-            write(rec, records, text, x, out, n);
+            write(rec, records, e, text, chars, x, out, g.records);
             Written::Bytes(k)
         }
     }
@@ -172,7 +182,8 @@ fn extended(rec: &[u8], text: &[u8], x: Added, out: &mut [u8]) -> Written
             if !utf8::well_formed(text) {
                 return Written::Refused(Refusal::Utf8);
             }
-            delivered(rec, text, x, out)
+            let chars = utf8::num_chars(text);
+            delivered(rec, text, chars, x, out)
         }
     }
 }

@@ -48,16 +48,16 @@ module _ (a b o : List ℕ) (za : recordFault a ≡ 0) (zb : recordFault b ≡ 0
   pub composes-lengths : (t ≡ s → ⊥) → Gives (composeCall a b o) (written.Refused IncompatibleLengths) o
   composes-lengths h = fault-is a b o IncompatibleLengths 7 refl (rw (za, zb, ne-eqb (targetOf a) (baseOf b) (λ z. h (pt ∙ z ∙ sym ps))))
 
-  module _ (h : t ≡ s) (e : Emitter) (m q : List ℕ) (d : Done 0 (compose (ops a) (ops b)) m e q) (v : Written) (j : v ≡ judged e (length o)) where
-    passes : (w : Written) (o′ : List ℕ) → Gives (deliver 0 (compose (ops a) (ops b)) o) w o′ → Gives (composeCall a b o) w o′
-    unfolding composeCall
-    passes w o′ g = rw (za, zb, eq-eqb (targetOf a) (baseOf b) (sym pt ∙ h ∙ ps)) g
+module _ (a b o : List ℕ) (za : recordFault a ≡ 0) (zb : recordFault b ≡ 0) (h : targetOf a ≡ baseOf b) (e : Emitter) {n : ℕ} (m q : List ℕ) (d : Done n (compose (ops a) (ops b)) m e q) (v : Written) (j : v ≡ judged e (length o)) where
+  passes : (w : Written) (o′ : List ℕ) → Gives (deliver 0 (compose (ops a) (ops b)) o) w o′ → Gives (composeCall a b o) w o′
+  unfolding composeCall
+  passes w o′ g = rw (za, zb, eq-eqb (targetOf a) (baseOf b) h) g
 
-    pub composes-refused : (x : Refusal) → v ≡ written.Refused x → Gives (composeCall a b o) (written.Refused x) o
-    composes-refused x z = passes (written.Refused x) o (gives-refused (compose (ops a) (ops b)) o e m q d v j x z)
+  pub composes-refused : (x : Refusal) → v ≡ written.Refused x → Gives (composeCall a b o) (written.Refused x) o
+  composes-refused x z = passes (written.Refused x) o (gives-refused (compose (ops a) (ops b)) o e m q d v j x z)
 
-    pub composes-written : (k : ℕ) (o′ : List ℕ) → v ≡ written.Bytes k → Writes (e .records) (compose (ops a) (ops b)) o o′ → Gives (composeCall a b o) (written.Bytes k) o′
-    composes-written k o′ z u = passes (written.Bytes k) o′ (gives-written (compose (ops a) (ops b)) o e m q d v j k o′ z u)
+  pub composes-written : (k : ℕ) (o′ : List ℕ) → v ≡ written.Bytes k → Writes (e .records) (compose (ops a) (ops b)) o o′ → Gives (composeCall a b o) (written.Bytes k) o′
+  composes-written k o′ z u = passes (written.Bytes k) o′ (gives-written (compose (ops a) (ops b)) o e m q d v j k o′ z u)
 
 module _ (a b o : List ℕ) (f : Fact) where
   pub composes-second : recordFault a ≡ 0 → factOf f ≡ checkCall b → (x : Refusal) → f ≡ fact.Refused x → Gives (composeCall a b o) (written.Refused x) o

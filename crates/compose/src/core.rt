@@ -141,7 +141,7 @@ fn place(
         write(a, na, b, nb, out, e.records);
         return;
     }
-    operational_transform::core::settle(out, stage, slots, e.records, e.text);
+    operational_transform::core::settle(out, e.records, stage, slots, e.records, e.text);
     operational_transform::core::header(out, e);
 }
 

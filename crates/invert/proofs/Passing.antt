@@ -11,7 +11,6 @@ use Rattle.utf8.specs.Form.{wellFormed}
 use Rattle.utf8.specs.Chars.{numChars, takeChars}
 use Rattle.utf8.specs.Text.{Char, chars}
 use Rattle.utf8.specs.Places.{Passes}
-use Rattle.utf8.proofs.Chars.{num-le}
 use Rattle.utf8.proofs.Texts.{chars-bytes, bytes-well}
 use Rattle.utf8.proofs.Places.{skips, skips-plain, stays-there}
 use Rattle.operation.specs.declared.core.Front.{Front}
@@ -31,8 +30,8 @@ module _ (t : List ℕ) (at : ℕ) (h : at ≤ length t) (w : T (wellFormed (dro
   pub stays : (f : Front) → f .kind ≡ 2 → Passes t at (taken f) at
   stays f e = rw (eq-eqb (f .kind) 2 e) (stays-there t at h w)
 
-  pub moves-plain : (f : Front) (n l : ℕ) → (f .kind ≡ 2 → ⊥) → n ≤ numChars t → n ≡ length t → l ≡ min (f .left) (length t - at) → Passes t at (taken f) (at + l)
-  moves-plain f n l e p q m = rw (ne-eqb (f .kind) 2 e) (skips-plain t at (f .left) h w (omega (arith, num-le t)) (at + l) (ap (λ i. at + i) m))
+  pub moves-plain : (f : Front) (n l : ℕ) → (f .kind ≡ 2 → ⊥) → n ≡ numChars t → n ≡ length t → l ≡ min (f .left) (length t - at) → Passes t at (taken f) (at + l)
+  moves-plain f n l e p q m = rw (ne-eqb (f .kind) 2 e) (skips-plain t at (f .left) h w (sym p ∙ q) (at + l) (ap (λ i. at + i) m))
 
   pub moves : (f : Front) (to : ℕ) → (f .kind ≡ 2 → ⊥) → to ≡ at + length (takeChars (f .left) (drop at t)) → Passes t at (taken f) to
   moves f to e p = rw (ne-eqb (f .kind) 2 e) (skips t at (f .left) h w to p)

@@ -4,6 +4,7 @@ use operation::Refusal;
 use operation::core::Front;
 use operational_transform::Written;
 use operational_transform::core::Emitter;
+use utf8::core::Form;
 ghost use mathlib.Core.Path.{_≡_};
 ghost use mathlib.Core.List.{[], _∷_};
 ghost use Prim.Native.Nat.{_-_, _^_, _≤_, _<_};
@@ -21,21 +22,10 @@ ghost use Rattle.operational_transform.specs.Emit.{writtenOf, Under, Adds, Done
 ghost use Rattle.operational_transform.specs.Given.{Gives};
 ghost use Rattle.invert.specs.Inverting.{taken, undone};
 
-// The number of the text's characters, or 0: a text that is not base bytes long is not counted.
-fn counted(rec: &[u8], text: &[u8]) -> usize
-    requires { ⌜ recordFault (now rec) ≡ 0 ⌝ }
-    ensures { λ r. ⌜ r ≤ numChars (now (text .entry)) ⌝ }
-{
-    if operation::core::base(rec) != text.len() {
-        return 0;
-    }
-    utf8::num_chars(text)
-}
-
-// The place in the text behind what the operation takes from it, or the end where the characters run out. The text has at
-// least `chars` characters: where that is its length in bytes each is one byte.
+// The place in the text behind what the operation takes from it, or the end where the characters run out. The text has
+// `chars` characters: where that is its length in bytes each is one byte.
 fn past(text: &[u8], chars: usize, at: usize, f: Front) -> usize
-    requires { ⌜ (chars ≤ numChars (now text)) × (at ≤ length (now text)) × T (wellFormed (drop at (now text))) ⌝ }
+    requires { ⌜ (chars ≡ numChars (now text)) × (at ≤ length (now text)) × T (wellFormed (drop at (now text))) ⌝ }
     ensures { λ to. ⌜ Passes (now (text .entry)) at (taken f) to ⌝ }
 {
     if f.kind == 2 {
@@ -84,7 +74,7 @@ fn give(
 
 // All of invert, for a result of n records.
 fn run(rec: &[u8], records: usize, text: &[u8], chars: usize, out: &mut [u8], n: usize) -> Emitter
-    requires { ⌜ (recordFault (now rec) ≡ 0) × (records ≡ recordsOf (now rec)) × (records ≤ 1024) × T (wellFormed (now text)) × (chars ≤ numChars (now text)) × (n ≤ 2 ^ 40) ⌝ }
+    requires { ⌜ (recordFault (now rec) ≡ 0) × (records ≡ recordsOf (now rec)) × (records ≤ 1024) × T (wellFormed (now text)) × (chars ≡ numChars (now text)) × (n ≤ 2 ^ 40) ⌝ }
     ensures { λ r. ⌜ Done n (invertOf (ops (now (rec .entry))) (charsOf (now (text .entry)))) (now (out .entry)) r (now (out .exit)) ⌝ }
 {
     let mut e = operational_transform::core::start();
@@ -101,7 +91,7 @@ fn run(rec: &[u8], records: usize, text: &[u8], chars: usize, out: &mut [u8], n:
 
 // The record of a result of n records.
 fn write(rec: &[u8], records: usize, text: &[u8], chars: usize, out: &mut [u8], n: usize)
-    requires { ⌜ (recordFault (now rec) ≡ 0) × (records ≡ recordsOf (now rec)) × (records ≤ 1024) × T (wellFormed (now text)) × (chars ≤ numChars (now text)) × (n ≤ 2 ^ 40) ⌝ }
+    requires { ⌜ (recordFault (now rec) ≡ 0) × (records ≡ recordsOf (now rec)) × (records ≤ 1024) × T (wellFormed (now text)) × (chars ≡ numChars (now text)) × (n ≤ 2 ^ 40) ⌝ }
     ensures { λ _. ⌜ Writes n (invertOf (ops (now (rec .entry))) (charsOf (now (text .entry)))) (now (out .entry)) (now (out .exit)) ⌝ }
 {
     let e = run(rec, records, text, chars, out, n);
@@ -109,12 +99,11 @@ fn write(rec: &[u8], records: usize, text: &[u8], chars: usize, out: &mut [u8], 
 }
 
 // Of a record and a text that were checked.
-fn inverted(rec: &[u8], text: &[u8], out: &mut [u8]) -> Written
-    requires { ⌜ (recordFault (now rec) ≡ 0) × T (wellFormed (now text)) ⌝ }
+fn inverted(rec: &[u8], text: &[u8], chars: usize, out: &mut [u8]) -> Written
+    requires { ⌜ (recordFault (now rec) ≡ 0) × T (wellFormed (now text)) × (chars ≡ numChars (now text)) ⌝ }
     ensures { λ r. ⌜ Gives (deliver 0 (invertOf (ops (now (rec .entry))) (charsOf (now (text .entry)))) (now (out .entry))) r (now (out .exit)) ⌝ }
 {
     let records = operation::core::records(rec);
-    let chars = counted(rec, text);
     let mut none = [0u8; 0];
     let e = run(rec, records, text, chars, &mut none, 0);
     let n = e.records;
@@ -134,10 +123,10 @@ pub fn invert(rec: &[u8], text: &[u8], out: &mut [u8]) -> Written
     match operation::check(rec) {
         Fact::Refused(x) => Written::Refused(x),
         Fact::Is(_) => {
-            if !utf8::well_formed(text) {
+            let Form::Chars(chars) = utf8::core::form_of(text) else {
                 return Written::Refused(Refusal::Utf8);
-            }
-            inverted(rec, text, out)
+            };
+            inverted(rec, text, chars, out)
         }
     }
 }

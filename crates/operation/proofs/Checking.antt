@@ -11,11 +11,15 @@ use lib.Dec.{T, leb, eqb, leb→le}
 use lib.ListN.{length, getD, take, drop, length-append, length-take, length-drop}
 use lib.Seq.{drop-drop, take-add, getD-drop, length-take-le, take-take}
 use borrow.Author.Tests.{le-leb, lt-leb, eq-eqb, ne-eqb, eqb-true, eqb-false, not-true, not-false}
+use Rattle.utf8.specs.declared.core.Form.{Form}
+use Rattle.utf8.specs.declared.core.Form.the-variants as form
 use Rattle.utf8.specs.Form.{within, wellFormed}
+use Rattle.utf8.specs.Passed.{formOf}
 use Rattle.utf8.specs.Chars.{isCont, numChars, loose, allOf}
 use Rattle.utf8.proofs.Tests.{both, holds, known}
 use Rattle.utf8.proofs.Leads.{inside, under, over}
 use Rattle.utf8.proofs.Chars.{split, num-le, num-append}
+use Rattle.utf8.proofs.Passed.{form-ill, form-well, form-num}
 use Rattle.utf8.proofs.Cuts.{well-join, loose-first, well-first, plain-first}
 use Rattle.operation.specs.declared.checks.Sums.{Sums}
 use Rattle.operation.specs.declared.checks.Entries.{Entries}
@@ -383,18 +387,24 @@ module _ (r : List ℕ) (n t from : ℕ) (s : Sound r) (e : n ≡ recordsOf r) (
       ∙ starts-well es u (s .entries-sound) (simp length-drop (omega (arith, s .room, s .adds-up)))
       ∙ ap₂ (λ m i. wellFormed (take m u) && startWell es (drop (textStart i) r)) (s .adds-up) (sym e)
 
-  module _ (w : Bool) (p : w ≡ wellFormed (take (from + t - from) (drop from r))) where
-    pub text-ill : not w ≡ true → IllFormed ≡ insertedOf r
-    unfolding insertedOf
-    text-ill x = rw (each, sym (ap wellFormed part) ∙ sym p ∙ not-true w x)
+  module _ (x : Form) (p : x ≡ formOf (take (from + t - from) (drop from r))) where
+    of-text : x ≡ formOf (textOf r)
+    of-text = p ∙ ap formOf part
 
-    module _ (x : not w ≡ false) (chars : ℕ) (q : chars ≡ numChars (take (from + t - from) (drop from r))) where
+    pub text-ill : x ≡ form.IllFormed → IllFormed ≡ insertedOf r
+    unfolding insertedOf
+    text-ill y = rw (each, sym (form-ill (textOf r) x of-text y))
+
+    module _ {chars : ℕ} (y : x ≡ form.Chars chars) where
       well : wellFormed (textOf r) ≡ true
-      well = sym (ap wellFormed part) ∙ sym p ∙ not-false w x
+      well = sym (form-well (textOf r) x of-text y)
+
+      num : chars ≡ numChars (textOf r)
+      num = form-num (textOf r) x of-text y
 
       settled : (b : Bool) → b ≡ true → b ≡ startWell (entries r) (drop (textStart n) r) → Chars chars ≡ insertedOf r
       unfolding insertedOf
-      settled b y z = rw (each, well, sym z ∙ y) (ap Chars (q ∙ ap numChars part))
+      settled b y z = rw (each, well, sym z ∙ y) (ap Chars num)
 
       pub text-starts : (b : Bool) → b ≡ startWell (entries r) (drop (textStart n) r) → not b ≡ false → Chars chars ≡ insertedOf r
       text-starts b z y = settled b (not-false b y) z
@@ -407,5 +417,5 @@ module _ (r : List ℕ) (n t from : ℕ) (s : Sound r) (e : n ≡ recordsOf r) (
       unfolding textOf
       text-plain h =
           let u = drop (textStart (recordsOf r)) r in
-          let v : insertBytes (entries r) ≤ numChars (take (insertBytes (entries r)) u) = omega (arith, q ∙ ap numChars part ∙ ap (λ m. numChars (take m u)) (sym (s .adds-up)), s .adds-up) in
+          let v : insertBytes (entries r) ≤ numChars (take (insertBytes (entries r)) u) = omega (arith, num ∙ ap (λ m. numChars (take m u)) (sym (s .adds-up)), s .adds-up) in
           settled true refl (sym (ap (λ i. startWell (entries r) (drop (textStart i) r)) e ∙ plain-starts (entries r) u (s .entries-sound) (simp length-drop (omega (arith, s .room, s .adds-up))) v))

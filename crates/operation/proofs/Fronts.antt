@@ -348,23 +348,26 @@ module _ (r : List ℕ) (f : Front) (s : Stands r f) (k : ℕ) where
       omega (arith, length-append (bytes (take k (chars (frontText r f)))) (bytes (drop k (chars (frontText r f)))), l))
 
   -- `skip` finds the place
-  module _ (d : ℕ) (m : d ≡ 0 + length (takeChars k (drop 0 (frontText r f)))) (ne : f .from ≡ f .to → ⊥) where
-    found : f .kind ≡ 2 → d ≡ length (bytes (take k (chars (frontText r f))))
-    found e =
-        let w = s .text e .0 in
-        m ∙ zero-add _ ∙ ap length (ap (λ l. l ++ concat (take k (charsOf (frontText r f)))) (well-all (frontText r f) (holds (wellFormed (frontText r f)) w) .0) ∙ sym (bytes-take k (frontText r f) w))
-
-    pub skip-room : f .from + d ≤ f .to
-    skip-room = go (eqb (f .kind) 2) refl
+  module _ (ne : f .from ≡ f .to → ⊥) where
+    has-text : f .kind ≡ 2
+    has-text = go (eqb (f .kind) 2) refl
       where
-        go : (t : Bool) → eqb (f .kind) 2 ≡ t → f .from + d ≤ f .to
-        go true t =
-            let e = eqb-true (f .kind) 2 t in
-            omega (arith, found e, ap length (bytes-split k (frontText r f) (s .text e .0)), length-append (bytes (take k (chars (frontText r f)))) (bytes (drop k (chars (frontText r f)))), text-size, s .part)
+        go : (t : Bool) → eqb (f .kind) 2 ≡ t → f .kind ≡ 2
+        go true t = eqb-true (f .kind) 2 t
         go false t = absurd (ne (s .none (eqb-false (f .kind) 2 t)))
 
-    pub cut-skip : Cut r f k (f .from + d)
-    cut-skip = parts (f .from + d) (omega arith) skip-room (λ e. let i : f .from + d - f .from ≡ d = omega arith in i ∙ found e)
+    pub skip-well : T (wellFormed (drop 0 (frontText r f)))
+    skip-well = s .text has-text .0
+
+    module _ (d : ℕ) (m : d ≡ 0 + length (takeChars k (drop 0 (frontText r f)))) where
+      found : d ≡ length (bytes (take k (chars (frontText r f))))
+      found = m ∙ zero-add _ ∙ ap length (ap (λ l. l ++ concat (take k (charsOf (frontText r f)))) (well-all (frontText r f) (holds (wellFormed (frontText r f)) skip-well) .0) ∙ sym (bytes-take k (frontText r f) skip-well))
+
+      pub skip-room : f .from + d ≤ f .to
+      skip-room = omega (arith, found, ap length (bytes-split k (frontText r f) skip-well), length-append (bytes (take k (chars (frontText r f)))) (bytes (drop k (chars (frontText r f)))), text-size, s .part)
+
+      pub cut-skip : Cut r f k (f .from + d)
+      cut-skip = parts (f .from + d) (omega arith) skip-room (λ e. let i : f .from + d - f .from ≡ d = omega arith in i ∙ found)
 
 -- ---- what stays in front
 

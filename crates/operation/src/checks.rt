@@ -1,4 +1,5 @@
 // The parts of a record's check.
+use utf8::core::Form;
 ghost use mathlib.Core.Path.{_≡_};
 ghost use mathlib.Core.Bool.{_&&_};
 ghost use Prim.Native.Nat.{_+_, _^_, _≤_, _<_};
@@ -168,10 +169,9 @@ pub(crate) fn inserted_chars(rec: &[u8], n: usize, text: usize) -> Inserted
     let from = crate::layout::text_start(n);
     let to = from + text;
     let all = &rec[from..to];
-    if !utf8::well_formed(all) {
+    let Form::Chars(chars) = utf8::core::form_of(all) else {
         return Inserted::IllFormed;
-    }
-    let chars = utf8::num_chars(all);
+    };
     if chars < text {
         if !start_well(rec, n) {
             return Inserted::IllFormed;

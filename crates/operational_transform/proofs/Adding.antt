@@ -418,3 +418,20 @@ whole-op r f s = go (kinds r f)
     go (retains e p) = rw p
     go (inserts e p) = let (w, l) = s .text e in rw p (ap insert (take-all (f .left) (chars (frontText r f)) (omega (arith, chars-length (frontText r f) w))))
     go (deletes d e p) = rw p
+
+-- ---- `count_insert`, `count_delete`: on a buffer of no bytes nothing is written
+
+pub few-counted : (t : List ℕ) (num : ℕ) → T (wellFormed t) → num ≡ numChars t → length t ≤ 2 ^ 18 → num ≤ 2 ^ 18
+few-counted t num well ch h = omega (arith, chars-length t well, ap length (bytes-chars t well), bytes-length (chars t))
+
+module _ (t : List ℕ) (e : Emitter) (num len : ℕ) (well : T (wellFormed t)) (ch : num ≡ numChars t) (p : len ≡ length t) where
+  pub counts-none : len ≡ 0 → Adds 0 (insert (chars t) ∷ []) e [] e []
+  counts-none z = adds-none 0 (insert (chars t)) e [] (omega (arith, ap length (bytes-chars t well), bytes-length (chars t)))
+
+  pub counts-insert : length t ≤ 2 ^ 18 → (len ≡ 0 → ⊥) → {r : Emitter} → r ≡ insertedBy len num e → Adds 0 (insert (chars t) ∷ []) e [] r []
+  counts-insert h z q =
+      rw q
+      (insert-all 0 (chars t) e [] len num (omega arith) (ap length (bytes-chars t well) ∙ sym p) (chars-length t well ∙ sym ch) z [] (sym (over-none _ _) ∙ ap (over (textStart 0 + e .text) (bytes (chars t))) (sym (spilled-none 0 e))))
+
+pub counts-delete : (k : ℕ) (e : Emitter) {r : Emitter} → k ≤ 65536 → (k ≡ 0 → ⊥) → r ≡ deletedBy k e → Adds 0 (delete k ∷ []) e [] r []
+counts-delete k e l z q = adds-deletes 0 k e [] l z q (sym (spilled-none 0 e))

@@ -24,10 +24,10 @@ use Rattle.operational_transform.specs.declared.core.Emitter.{Emitter}
 use Rattle.operational_transform.specs.Build.{addAll, build}
 use Rattle.operational_transform.specs.Output.{atFront, writing}
 use Rattle.operational_transform.specs.Calls.{deliver}
-use Rattle.operational_transform.specs.Emit.{writtenOf, over, bytes16, flushedRecords, flushed, Under, nothing, kindsOf, countsOf, textsOf, laid, Adds, Sizes, Done, Finishes, within, sizeIn, judged, headed}
+use Rattle.operational_transform.specs.Emit.{writtenOf, over, bytes16, one, flushedRecords, flushed, Under, nothing, kindsOf, countsOf, textsOf, laid, Adds, Sizes, Done, Finishes, within, sizeIn, judged, headed}
 use Rattle.operational_transform.proofs.Growing.{total-reverse}
 use Rattle.operational_transform.proofs.Over.{over-join, over-swap, over-front}
-use Rattle.operational_transform.proofs.Emitting.{length-kinds, length-counts}
+use Rattle.operational_transform.proofs.Emitting.{flushed-few, flushed-none, length-kinds, length-counts}
 use Rattle.operational_transform.proofs.Adding.{rep-start, full, full-length, full-text, full-wrote}
 
 -- ---- the parts of a sequence, from its last operation on and from its first
@@ -77,6 +77,13 @@ finishes n e o u {r} {o′} re rl oe = record {
         wrote = λ w. oe ∙ full-wrote h (omega arith) ∙ ap (λ s. laid n s (textsOf s) out) twice;
       };
 }
+
+-- on a buffer of no bytes
+pub closes : (e : Emitter) → Under (2 ^ 39) e → {a b c : ℕ} → a ≡ one (e .ins) → b ≡ one (e .del) → c ≡ one (e .ret)
+    → Finishes 0 e [] (record { ins = 0; del = 0; ret = 0; records = e .records + a + b + c; text = e .text; base = e .base; target = e .target }) []
+closes e u {a} {b} {c} pa pb pc =
+    let r : e .records + a + b + c ≡ flushedRecords e = omega arith in
+    finishes 0 e [] u r (omega (arith, flushed-few e)) (sym (flushed-none 0 e))
 
 -- a whole run: what was added is built
 pub builds : (n : ℕ) (out : List ℕ) (xs : Seq) {e e₁ e₂ : Emitter} {o₁ o₂ : List ℕ} → e ≡ nothing → Adds n xs e out e₁ o₁ → Finishes n e₁ o₁ e₂ o₂ → Done n (build xs) out e₂ o₂

@@ -113,6 +113,10 @@ pub spilled-none : (n : ℕ) (e : Emitter) → spilled n e [] ≡ []
 unfolding spilled flushed
 spilled-none n e = ifZero-elim (λ q. q ≡ []) (e .ret) (λ _. refl) (λ _. simp emitted-over)
 
+pub flushed-none : (n : ℕ) (e : Emitter) → flushed n e [] ≡ []
+unfolding flushed
+flushed-none n e = simp emitted-over
+
 -- ---- the parts of a record
 
 pub length-kinds : (r : Seq) → length (kindsOf r) ≡ length r

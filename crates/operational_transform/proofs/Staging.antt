@@ -1,16 +1,17 @@
 -- A record that was written to a stage with more places than it has operations, moved to its own places.
-use Prim.Native.Nat.{ℕ, zero, suc, _+_, _-_, _*_, _≤_, _<_}
+use Prim.Native.Nat.{ℕ, zero, suc, _+_, _-_, _*_, _^_, _≤_, _<_}
 use native.Mathlib.Omega.{arith}
 use mathlib.Core.Path.{_≡_, refl, sym, ap, _∙_}
-use mathlib.Core.Bool.{false, _&&_}
+use mathlib.Core.Bool.{Bool, false, not, _&&_}
 use mathlib.Core.List.{List, [], _∷_, map, reverse, reverse-reverse}
-use lib.Dec.{leb}
+use lib.Dec.{T, leb, leb→le}
 use lib.ListN.{length, take, drop, length-reverse}
-use borrow.Author.Tests.{le-leb, lt-leb}
+use borrow.Author.Tests.{le-leb, lt-leb, not-false}
+use Rattle.utf8.proofs.Tests.{known, le-and}
 use Rattle.operation.specs.Layout.{kindsStart, countsStart, textStart}
 use Rattle.operation.specs.Record.{Seq, inBytes, text}
 use Rattle.operational_transform.specs.declared.core.Emitter.{Emitter}
-use Rattle.operational_transform.specs.Emit.{over, kindsOf, countsOf, textsOf, laid, Writes, Staged, headed, settled}
+use Rattle.operational_transform.specs.Emit.{over, kindsOf, countsOf, textsOf, laid, Done, Writes, Staged, headed, settled}
 use Rattle.operational_transform.proofs.Over.{length-over, over-swap}
 use Rattle.operational_transform.proofs.Emitting.{length-kinds, length-counts}
 use Rattle.operational_transform.proofs.Delivering.{text-ahead}
@@ -60,8 +61,8 @@ module _ (slots : ℕ) (w : Seq) (t o : List ℕ) (few : length w ≤ slots) (ro
       (omega (arith, length-over kindsStart kinds x, length-over (countsStart slots) counts o))
 
 -- `settle` gives what a run of as many places as there are operations writes
-pub staged-writes : (slots : ℕ) (s : Seq) (e : Emitter) (stage out out′ : List ℕ) → Staged slots s e stage → e .records ≤ slots → textStart slots + e .text ≤ length stage
-    → out′ ≡ headed e (settled slots (e .records) (e .text) stage out) → Writes (e .records) s out out′
+staged-writes : (slots : ℕ) (s : Seq) (e : Emitter) (stage out out′ : List ℕ) → Staged slots s e stage → e .records ≤ slots → textStart slots + e .text ≤ length stage
+    → out′ ≡ headed e (settled slots (e .records) (e .records) (e .text) stage out) → Writes (e .records) s out out′
 unfolding settled laid
 staged-writes slots s e stage out out′ g few room p =
     let d = g .done in
@@ -78,7 +79,7 @@ staged-writes slots s e stage out out′ g few room p =
     let tr = (λ i. take (t i) (drop (textStart slots) (q i))) ∙ text-read slots w (textsOf w) o fw rt in
     record {
       emitter = e;
-      before = settled slots (e .records) (e .text) stage out;
+      before = settled slots (e .records) (e .records) (e .text) stage out;
       done = record {
         small = d .small;
         sizes = d .sizes;
@@ -89,6 +90,23 @@ staged-writes slots s e stage out out′ g few room p =
   where
     text-of : (s : Seq) → text (map inBytes s) ≡ textsOf (reverse s)
     text-of s = ap (λ u. text (map inBytes u)) (sym (reverse-reverse s)) ∙ text-ahead (reverse s)
+
+pub stages : {slots : ℕ} {s : Seq} {o stage : List ℕ} {e : Emitter} → Done slots s o e stage → length stage ≡ length o → Staged slots s e stage
+stages {slots} {s} {o} d l = record { before = o; done = d; as-long = l }
+
+-- where `has_place` says so
+module _ (slots : ℕ) (e : Emitter) (stage : List ℕ) (v : Bool) (p : v ≡ (leb (e .records) slots && leb (textStart slots + e .text) (length stage))) (h : not v ≡ false) where
+  has : T (leb (e .records) slots && leb (textStart slots + e .text) (length stage))
+  has = known (sym p ∙ not-false v h)
+
+  pub has-records : e .records ≤ slots
+  has-records = le-and (e .records) slots _ .0 has .0
+
+  pub has-text : textStart slots + e .text ≤ length stage
+  has-text = leb→le (textStart slots + e .text) (length stage) (le-and (e .records) slots _ .0 has .1)
+
+  pub settled-writes : (s : Seq) (out out₁ out₂ : List ℕ) → Staged slots s e stage → out₁ ≡ settled slots (e .records) (e .records) (e .text) stage out → out₂ ≡ headed e out₁ → Writes (e .records) s out out₂
+  settled-writes s out out₁ out₂ g a b = staged-writes slots s e stage out out₂ g has-records has-text (b ∙ ap (headed e) a)
 
 -- ---- `has_place`, `settle`
 
@@ -102,14 +120,14 @@ module _ (e : Emitter) (slots room : ℕ) where
 part-is : (p q a b m : ℕ) (s o : List ℕ) → p ≡ q → a ≡ b → over p (take (a + m - a) (drop a s)) o ≡ over q (take m (drop b s)) o
 part-is p q a b m s o x y = let z : a + m - a ≡ m = omega arith in λ i. over (x i) (take (z i) (drop (y i) s)) o
 
-pub settles : (slots n t : ℕ) (stage o : List ℕ) {k c f x d : ℕ} {o₁ o₂ o₃ : List ℕ} → k ≡ kindsStart + 0 → c ≡ countsStart slots + 2 * 0 → f ≡ textStart slots → x ≡ textStart n → d ≡ countsStart n + 2 * 0
-    → o₁ ≡ over x (take (f + t - f) (drop f stage)) o → o₂ ≡ over d (take (c + 2 * n - c) (drop c stage)) o₁ → o₃ ≡ over k (take (k + n - k) (drop k stage)) o₂ → o₃ ≡ settled slots n t stage o
+pub settles : (slots n k t : ℕ) (stage o : List ℕ) {a c f x d : ℕ} {o₁ o₂ o₃ : List ℕ} → a ≡ kindsStart + 0 → c ≡ countsStart slots + 2 * 0 → f ≡ textStart slots → x ≡ textStart n → d ≡ countsStart n + 2 * 0
+    → o₁ ≡ over x (take (f + t - f) (drop f stage)) o → o₂ ≡ over d (take (c + 2 * k - c) (drop c stage)) o₁ → o₃ ≡ over a (take (a + k - a) (drop a stage)) o₂ → o₃ ≡ settled slots n k t stage o
 unfolding settled
-settles slots n t stage o {k} {c} {f} {x} {d} pk pc pf px pd p q r =
-    let k8 : k ≡ kindsStart = omega arith in
+settles slots n k t stage o {a} {c} {f} {x} {d} pa pc pf px pd p q r =
+    let a8 : a ≡ kindsStart = omega arith in
     let cs : c ≡ countsStart slots = omega arith in
     let dn : d ≡ countsStart n = omega arith in
     r
-    ∙ part-is k kindsStart k kindsStart n stage _ k8 k8
-    ∙ ap (over kindsStart (take n (drop kindsStart stage)))
-    (q ∙ part-is d (countsStart n) c (countsStart slots) (2 * n) stage _ dn cs ∙ ap (over (countsStart n) (take (2 * n) (drop (countsStart slots) stage))) (p ∙ part-is x (textStart n) f (textStart slots) t stage o px pf))
+    ∙ part-is a kindsStart a kindsStart k stage _ a8 a8
+    ∙ ap (over kindsStart (take k (drop kindsStart stage)))
+    (q ∙ part-is d (countsStart n) c (countsStart slots) (2 * k) stage _ dn cs ∙ ap (over (countsStart n) (take (2 * k) (drop (countsStart slots) stage))) (p ∙ part-is x (textStart n) f (textStart slots) t stage o px pf))

@@ -177,13 +177,12 @@ pub record Staged (slots : ℕ) (s : Seq) (e : Emitter) (stage : List ℕ) : Typ
   pub done : Done slots s before e stage
   pub as-long : length stage ≡ length before
 
--- a record of n operations and t bytes of text that was written to a stage with places for `slots` operations: its parts at their
--- places
-unfoldable pub settled : ℕ → ℕ → ℕ → List ℕ → List ℕ → List ℕ
+-- the first k kinds and counts and t bytes of text of a record with places for `slots` operations, at their places in one of n
+unfoldable pub settled : ℕ → ℕ → ℕ → ℕ → List ℕ → List ℕ → List ℕ
 unfolding over
-settled slots n t stage o =
-    over kindsStart (take n (drop kindsStart stage))
-    (over (countsStart n) (take (2 * n) (drop (countsStart slots) stage)) (over (textStart n) (take t (drop (textStart slots) stage)) o))
+settled slots n k t stage o =
+    over kindsStart (take k (drop kindsStart stage))
+    (over (countsStart n) (take (2 * k) (drop (countsStart slots) stage)) (over (textStart n) (take t (drop (textStart slots) stage)) o))
 
 -- ---- the answer of a call that would write a record of these sizes: 9, then 10
 

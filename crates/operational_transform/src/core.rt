@@ -272,6 +272,43 @@ pub fn tally(src: &[u8], e: Emitter, f: Front, k: usize, mid: usize) -> Emitter
     deleted(e, k)
 }
 
+// The numbers after the text is inserted, after k characters are deleted, and once no group is pending; nothing is written.
+pub fn count_insert(text: &[u8], e: Emitter, num: usize) -> Emitter
+    requires { ⌜ (length (now text) ≤ 2 ^ 18) × T (wellFormed (now text)) × (num ≡ numChars (now text)) × Under (2 ^ 40) e ⌝ }
+    ensures { λ r. ⌜ Adds 0 (insert (chars (now (text .entry))) ∷ []) e [] r [] ⌝ }
+{
+    let len = text.len();
+    if len == 0 {
+        return e;
+    }
+    inserted(e, len, num)
+}
+
+pub fn count_delete(e: Emitter, k: usize) -> Emitter
+    requires { ⌜ (k ≤ 65536) × Under (2 ^ 40) e ⌝ }
+    ensures { λ r. ⌜ Adds 0 (delete k ∷ []) e [] r [] ⌝ }
+{
+    if k == 0 {
+        return e;
+    }
+    deleted(e, k)
+}
+
+pub fn close(e: Emitter) -> Emitter
+    requires { ⌜ Under (2 ^ 39) e ⌝ }
+    ensures { λ r. ⌜ Finishes 0 e [] r [] ⌝ }
+{
+    Emitter {
+        ins: 0,
+        del: 0,
+        ret: 0,
+        records: e.records + some(e.ins) + some(e.del) + some(e.ret),
+        text: e.text,
+        base: e.base,
+        target: e.target,
+    }
+}
+
 // The pending group is written, too.
 pub fn finish(out: &mut [u8], n: usize, e: Emitter) -> Emitter
     requires { ⌜ (n ≤ 2 ^ 40) × Under (2 ^ 39) e ⌝ }
@@ -351,10 +388,10 @@ pub fn has_place(e: Emitter, slots: usize, room: usize) -> bool
     operation::core::text_start(slots) + e.text <= room
 }
 
-// The text, the counts and the kinds go from the stage to their places in a record of n.
-pub fn settle(out: &mut [u8], stage: &[u8], slots: usize, n: usize, text: usize)
-    requires { ⌜ (slots ≤ 2 ^ 40) × (n ≤ slots) × (textStart slots + text ≤ length (now stage)) ⌝ }
-    ensures { λ _. ⌜ now (out .exit) ≡ settled slots n text (now (stage .entry)) (now (out .entry)) ⌝ }
+// From a record with places for `slots` records the text and the first k counts and kinds go to their places in one of n.
+pub fn settle(out: &mut [u8], n: usize, stage: &[u8], slots: usize, k: usize, text: usize)
+    requires { ⌜ (n ≤ 2 ^ 40) × (slots ≤ 2 ^ 40) × (k ≤ slots) × (textStart slots + text ≤ length (now stage)) ⌝ }
+    ensures { λ _. ⌜ now (out .exit) ≡ settled slots n k text (now (stage .entry)) (now (out .entry)) ⌝ }
 {
     let kinds = operation::core::kind_place(0);
     let counts = operation::core::count_place(slots, 0);
@@ -371,7 +408,7 @@ pub fn settle(out: &mut [u8], stage: &[u8], slots: usize, n: usize, text: usize)
         operation::core::count_place(n, 0),
         stage,
         counts,
-        counts + 2 * n,
+        counts + 2 * k,
     );
-    copy(out, kinds, stage, kinds, kinds + n);
+    copy(out, kinds, stage, kinds, kinds + k);
 }

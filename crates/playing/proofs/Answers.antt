@@ -2,14 +2,17 @@
 use Prim.Native.Nat.{ℕ, zero, suc, _+_, _≤_, _<_}
 use native.Mathlib.Omega.{arith}
 use mathlib.Core.Path.{_≡_, refl, sym, ap, _∙_}
-use mathlib.Core.Bool.{Bool, true, false, not}
 use mathlib.Core.List.{List, [], _∷_, _++_}
 use lib.Dec.{T, eqb}
 use lib.ListN.{length}
-use borrow.Author.Tests.{eq-eqb, ne-eqb, not-true, not-false}
+use borrow.Author.Tests.{eq-eqb, ne-eqb}
+use Rattle.utf8.specs.declared.core.Form.{Form}
+use Rattle.utf8.specs.declared.core.Form.the-variants as form
 use Rattle.utf8.specs.Form.{wellFormed}
+use Rattle.utf8.specs.Passed.{formOf}
 use Rattle.utf8.specs.Chars.{numChars}
-use Rattle.utf8.proofs.Tests.{known, holds}
+use Rattle.utf8.proofs.Tests.{holds}
+use Rattle.utf8.proofs.Passed.{form-ill, form-well, form-num}
 use Rattle.operation.specs.declared.Refusal.{Refusal}
 use Rattle.operation.specs.declared.Fact.{Fact}
 use Rattle.operation.specs.declared.Fact.the-variants as fact
@@ -97,18 +100,15 @@ module _ (r t o : List ℕ) (f : Fact) (p : factOf f ≡ checkCall r) where
       go zero z e = absurd (let y : _≡_ {A = ℕ} 0 1 = cc e in omega arith)
       go (suc k) z e = e ∙ writing-stops (faultOf r t) (played r t) o k (rw z)
 
-  module _ (s : ℕ) (q : f ≡ fact.Is s) (v : Bool) (pv : v ≡ wellFormed t) where
-    pub apply-3 : not v ≡ true → refused 3 ≡ applyCall r t o .answer
+  module _ (s : ℕ) (q : f ≡ fact.Is s) (v : Form) (pv : v ≡ formOf t) where
+    pub apply-3 : v ≡ form.IllFormed → refused 3 ≡ applyCall r t o .answer
     unfolding applyCall played
-    apply-3 h = writing-stops (faultOf r t) (played r t) o 2 (rw (passed r f p s q, sym pv ∙ not-true v h))
+    apply-3 h = writing-stops (faultOf r t) (played r t) o 2 (rw (passed r f p s q, sym (form-ill t v pv h)))
 
-    pub apply-8 : (n b : ℕ) → not v ≡ false → n ≡ numChars t → b ≡ baseOf r → (n ≡ b → ⊥) → refused 8 ≡ applyCall r t o .answer
+    pub apply-8 : (n b : ℕ) → v ≡ form.Chars n → b ≡ baseOf r → (n ≡ b → ⊥) → refused 8 ≡ applyCall r t o .answer
     unfolding applyCall played
-    apply-8 n b h pn pb d =
-        writing-stops (faultOf r t) (played r t) o 7 (rw (passed r f p s q, sym pv ∙ not-false v h, ne-eqb (numChars t) (baseOf r) (λ z. d (pn ∙ z ∙ sym pb))))
+    apply-8 n b h pb d =
+        writing-stops (faultOf r t) (played r t) o 7 (rw (passed r f p s q, sym (form-well t v pv h), ne-eqb (numChars t) (baseOf r) (λ z. d (form-num t v pv h ∙ z ∙ sym pb))))
 
-pub well : (t : List ℕ) (v : Bool) → v ≡ wellFormed t → not v ≡ false → T (wellFormed t)
-well t v e h = known (sym e ∙ not-false v h)
-
-pub agree : (r t : List ℕ) (n b : ℕ) → n ≡ numChars t → b ≡ baseOf r → n ≡ b → numChars t ≡ baseOf r
-agree r t n b pn pb m = sym pn ∙ m ∙ pb
+pub agree : (r t : List ℕ) (v : Form) (n b : ℕ) → v ≡ formOf t → v ≡ form.Chars n → b ≡ baseOf r → n ≡ b → numChars t ≡ baseOf r
+agree r t v n b pv h pb m = sym (form-num t v pv h) ∙ m ∙ pb

@@ -2,6 +2,7 @@
 use operation::Fact;
 use operation::Refusal;
 use operational_transform::Written;
+use utf8::core::Form;
 ghost use mathlib.Core.Path.{_≡_};
 ghost use lib.Dec.{T};
 ghost use Rattle.utf8.specs.Form.{wellFormed};
@@ -21,11 +22,10 @@ pub fn apply(rec: &[u8], text: &[u8], out: &mut [u8]) -> Written
     match operation::check(rec) {
         Fact::Refused(x) => Written::Refused(x),
         Fact::Is(_) => {
-            if !utf8::well_formed(text) {
+            let Form::Chars(chars) = utf8::core::form_of(text) else {
                 return Written::Refused(Refusal::Utf8);
-            }
+            };
             let base = operation::core::base(rec);
-            let chars = utf8::num_chars(text);
             if chars != base {
                 return Written::Refused(Refusal::IncompatibleLengths);
             }

@@ -1,7 +1,7 @@
 -- The answers of transform.
 use Prim.Native.Nat.{ℕ, suc, _≤_, _<_}
 use native.Mathlib.Omega.{arith}
-use mathlib.Core.Path.{_≡_, refl, sym, ap, ap₂, _∙_}
+use mathlib.Core.Path.{_≡_, refl, sym, ap, ap₂, _∙_, subst}
 use mathlib.Core.Bool.{Bool, true, false, cond, not, _&&_, and-false, and-eq-true-iff}
 use mathlib.Core.List.{List, [], _∷_, reverse}
 use lib.Dec.{leb, eqb}
@@ -28,8 +28,9 @@ use Rattle.operational_transform.specs.Emit.{Sizes, Done, Writes, within, sizeI
 use Rattle.operational_transform.proofs.Delivering.{sized-fits, sized-length, written-front}
 use Rattle.transform.specs.declared.WrittenPair.{WrittenPair}
 use Rattle.transform.specs.declared.WrittenPair.the-variants as written
+use Rattle.transform.specs.Pairs.{pairOf, judgedBoth, StagedBoth, Transforms}
 use Rattle.transform.specs.declared.core.Pair.{Pair}
-use Rattle.transform.specs.Pairs.{pairOf, judgedBoth, SizedBoth, Transforms}
+use Rattle.transform.proofs.Looping.{right-is, write-right}
 
 -- ---- `judge`
 
@@ -71,62 +72,73 @@ module _ (a b x y : List ℕ) (za : recordFault a ≡ 0) (zb : recordFault b ≡
   pub transforms-lengths : (t ≡ s → ⊥) → Transforms a b x y (written.Refused IncompatibleLengths) x y
   transforms-lengths h = refuses a b x y IncompatibleLengths 7 refl (fault-is a b x y 7 (rw (za, zb, ne-eqb (baseOf a) (baseOf b) (λ z. h (pt ∙ z ∙ sym ps)))))
 
-  module _ (h : t ≡ s) (r : Pair) (d : SizedBoth (transform order (ops a) (ops b)) r) (v : WrittenPair) (w : v ≡ judgedBoth (r .e) (r .f) (length x) (length y)) where
-    abbrev sides : Sides Char
-    sides = transform order (ops a) (ops b)
+module _ (a b x y : List ℕ) (za : recordFault a ≡ 0) (zb : recordFault b ≡ 0) (h : baseOf a ≡ baseOf b) (r : Pair) {n : ℕ} {q₁ q₂ : List ℕ} (d : StagedBoth n (ops a) (ops b) r q₁ q₂) (v : WrittenPair) (w : v ≡ judgedBoth (r .e) (r .f) (length x) (length y)) where
+  abbrev z₁ : Sizes (transform order (ops a) (ops b) .left) (r .e)
+  z₁ = d .left .done .sizes
 
-    abbrev keep : Bool
-    keep = fits (sides .left) && fits (sides .right)
+  z₂ : Sizes (transform order (ops a) (ops b) .right) (r .f)
+  z₂ = subst (λ s. Sizes s (r .f)) (right-is (ops a) (ops b)) (d .right .done .sizes)
 
-    abbrev room : Bool
-    room = leb (length (encode (sides .left))) (length x) && leb (length (encode (sides .right))) (length y)
+  abbrev sides : Sides Char
+  sides = transform order (ops a) (ops b)
 
-    is : transformCall a b x y ≡ writingBoth (needs keep 9 0) (encode (sides .left)) (encode (sides .right)) x y
-    unfolding transformCall
-    is = rw (za, zb, eq-eqb (baseOf a) (baseOf b) (sym pt ∙ h ∙ ps))
+  abbrev keep : Bool
+  keep = fits (sides .left) && fits (sides .right)
 
-    judged-is : v ≡ cond keep (cond room (written.Bytes (length (encode (sides .left))) (length (encode (sides .right)))) (written.Refused Room)) (written.Refused Limit)
-    unfolding judgedBoth
-    judged-is =
-        w
-        ∙ rw (sized-fits (sides .left) (r .e) (d .left), sized-fits (sides .right) (r .f) (d .right), sized-length (sides .left) (r .e) (d .left), sized-length (sides .right) (r .f) (d .right))
+  abbrev room : Bool
+  room = leb (length (encode (sides .left))) (length x) && leb (length (encode (sides .right))) (length y)
 
-    -- a call is refused, or both records are written
-    data Outcome : Type 0 where
-      stops : (z : Refusal) → v ≡ written.Refused z → transformCall a b x y ≡ record { answer = refused (number z); outA = x; outB = y } → Outcome
-      writes : keep ≡ true → room ≡ true → v ≡ written.Bytes (length (encode (sides .left))) (length (encode (sides .right)))
-          → transformCall a b x y ≡ record { answer = gives (length (encode (sides .left)) ∷ length (encode (sides .right)) ∷ []); outA = atFront (encode (sides .left)) x; outB = atFront (encode (sides .right)) y } → Outcome
+  is : transformCall a b x y ≡ writingBoth (needs keep 9 0) (encode (sides .left)) (encode (sides .right)) x y
+  unfolding transformCall
+  is = rw (za, zb, eq-eqb (baseOf a) (baseOf b) h)
 
-    outcome : Outcome
-    unfolding writingBoth
-    outcome = go keep room refl refl
-      where
-        go : (p q : Bool) → keep ≡ p → room ≡ q → Outcome
-        go true true e f = writes e f (judged-is ∙ rw (e, f)) (is ∙ rw (e, f))
-        go true false e f = stops Room (judged-is ∙ rw (e, f)) (is ∙ rw (e, f))
-        go false q e f = stops Limit (judged-is ∙ rw e) (is ∙ rw e)
+  judged-is : v ≡ cond keep (cond room (written.Bytes (length (encode (sides .left))) (length (encode (sides .right)))) (written.Refused Room)) (written.Refused Limit)
+  unfolding judgedBoth
+  judged-is =
+      w
+      ∙ rw (sized-fits (sides .left) (r .e) z₁, sized-fits (sides .right) (r .f) z₂, sized-length (sides .left) (r .e) z₁, sized-length (sides .right) (r .f) z₂)
 
-    pub transforms-refused : (z : Refusal) → v ≡ written.Refused z → Transforms a b x y (written.Refused z) x y
-    transforms-refused z e = go outcome
-      where
-        go : Outcome → Transforms a b x y (written.Refused z) x y
-        go (stops u p q) = let k : u ≡ z = cc (p, e) in record { answer = ap (λ k. refused (number k)) (sym k) ∙ sym (ap (λ c. c .answer) q); out-a = sym (ap (λ c. c .outA) q); out-b = sym (ap (λ c. c .outB) q) }
-        go (writes f g p q) = absurd (let k : _≡_ {A = ℕ} 0 1 = cc (p, e) in omega arith)
+  -- a call is refused, or both records are written
+  data Outcome : Type 0 where
+    stops : (z : Refusal) → v ≡ written.Refused z → transformCall a b x y ≡ record { answer = refused (number z); outA = x; outB = y } → Outcome
+    writes : keep ≡ true → room ≡ true → v ≡ written.Bytes (length (encode (sides .left))) (length (encode (sides .right)))
+        → transformCall a b x y ≡ record { answer = gives (length (encode (sides .left)) ∷ length (encode (sides .right)) ∷ []); outA = atFront (encode (sides .left)) x; outB = atFront (encode (sides .right)) y } → Outcome
 
-    pub transforms-written : (k l : ℕ) (x′ y′ : List ℕ) → v ≡ written.Bytes k l → Writes (r .e .records) (transform order (ops a) (ops b) .left) x x′ → Writes (r .f .records) (transform order (ops a) (ops b) .right) y y′
-        → Transforms a b x y (written.Bytes k l) x′ y′
-    transforms-written k l x′ y′ e f g = go outcome
-      where
-        go : Outcome → Transforms a b x y (written.Bytes k l) x′ y′
-        go (stops u p q) = absurd (let z : _≡_ {A = ℕ} 0 1 = cc (p, e) in omega arith)
-        go (writes m n p q) =
-            let (fa, fb) = and-eq-true-iff (fits (sides .left)) (fits (sides .right)) .0 m in
-            let (ra, rb) = and-eq-true-iff (leb (length (encode (sides .left))) (length x)) (leb (length (encode (sides .right))) (length y)) .0 n in
-            record {
-              answer = ap pairOf (sym e ∙ p) ∙ sym (ap (λ c. c .answer) q);
-              out-a = written-front (sides .left) _ x (f .emitter) (f .before) x′ (fits-limits (sides .left) .0 (known fa)) (leb-true (length (encode (sides .left))) (length x) ra) (f .done) (d .left .records) (f .is) ∙ sym (ap (λ c. c .outA) q);
-              out-b = written-front (sides .right) _ y (g .emitter) (g .before) y′ (fits-limits (sides .right) .0 (known fb)) (leb-true (length (encode (sides .right))) (length y) rb) (g .done) (d .right .records) (g .is) ∙ sym (ap (λ c. c .outB) q);
-            }
+  outcome : Outcome
+  unfolding writingBoth
+  outcome = go keep room refl refl
+    where
+      go : (p q : Bool) → keep ≡ p → room ≡ q → Outcome
+      go true true e f = writes e f (judged-is ∙ rw (e, f)) (is ∙ rw (e, f))
+      go true false e f = stops Room (judged-is ∙ rw (e, f)) (is ∙ rw (e, f))
+      go false q e f = stops Limit (judged-is ∙ rw e) (is ∙ rw e)
+
+  pub transforms-refused : (z : Refusal) → v ≡ written.Refused z → Transforms a b x y (written.Refused z) x y
+  transforms-refused z e = go outcome
+    where
+      go : Outcome → Transforms a b x y (written.Refused z) x y
+      go (stops u p q) = let k : u ≡ z = cc (p, e) in record { answer = ap (λ k. refused (number k)) (sym k) ∙ sym (ap (λ c. c .answer) q); out-a = sym (ap (λ c. c .outA) q); out-b = sym (ap (λ c. c .outB) q) }
+      go (writes f g p q) = absurd (let k : _≡_ {A = ℕ} 0 1 = cc (p, e) in omega arith)
+
+  pub transforms-written : (k l : ℕ) (x′ y′ : List ℕ) → v ≡ written.Bytes k l → Writes (r .e .records) (transform order (ops a) (ops b) .left) x x′ → Writes (r .f .records) (transform order (ops b) (ops a) .left) y y′
+      → Transforms a b x y (written.Bytes k l) x′ y′
+  transforms-written k l x′ y′ e f u = go outcome
+    where
+      go : Outcome → Transforms a b x y (written.Bytes k l) x′ y′
+      go (stops s p q) = absurd (let z : _≡_ {A = ℕ} 0 1 = cc (p, e) in omega arith)
+      go (writes m n p q) =
+          let g = write-right (r .f .records) (ops a) (ops b) y y′ u in
+          let (fa, fb) = and-eq-true-iff (fits (sides .left)) (fits (sides .right)) .0 m in
+          let (ra, rb) = and-eq-true-iff (leb (length (encode (sides .left))) (length x)) (leb (length (encode (sides .right))) (length y)) .0 n in
+          record {
+            answer = ap pairOf (sym e ∙ p) ∙ sym (ap (λ c. c .answer) q);
+            out-a = written-front (sides .left) _ x (f .emitter) (f .before) x′ (fits-limits (sides .left) .0 (known fa)) (leb-true (length (encode (sides .left))) (length x) ra) (f .done) (z₁ .records) (f .is) ∙ sym (ap (λ c. c .outA) q);
+            out-b = written-front (sides .right) _ y (g .emitter) (g .before) y′ (fits-limits (sides .right) .0 (known fb)) (leb-true (length (encode (sides .right))) (length y) rb) (g .done) (z₂ .records) (g .is) ∙ sym (ap (λ c. c .outB) q);
+          }
+
+-- an answer taken apart and handed on
+pub handed-on : (a b x y : List ℕ) (v w : WrittenPair) (x′ y′ : List ℕ) → Transforms a b x y v x′ y′ → v ≡ w → Transforms a b x y w x′ y′
+handed-on a b x y v w x′ y′ t p = record { answer = ap pairOf (sym p) ∙ t .answer; out-a = t .out-a; out-b = t .out-b }
 
 module _ (a b x y : List ℕ) (f : Fact) where
   pub transforms-second : recordFault a ≡ 0 → factOf f ≡ checkCall b → (z : Refusal) → f ≡ fact.Refused z → Transforms a b x y (written.Refused z) x y

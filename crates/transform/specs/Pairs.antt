@@ -8,9 +8,11 @@ use Rattle.utf8.specs.Text.{Char}
 use Rattle.operation.specs.declared.Refusal.the-variants.{Limit, Room}
 use Rattle.operation.specs.Answer.{Answer, gives, refused, number}
 use Rattle.operational_transform.specs.declared.core.Emitter.{Emitter}
-use Rattle.operational_transform.specs.Transform.{Sides}
+use Rattle.utf8.specs.Order.{order}
+use Rattle.operation.specs.Record.{Seq}
+use Rattle.operational_transform.specs.Transform.{Sides, transform}
 use Rattle.operational_transform.specs.Calls.{transformCall}
-use Rattle.operational_transform.specs.Emit.{Under, Sizes, within, sizeIn}
+use Rattle.operational_transform.specs.Emit.{Under, Sizes, Staged, within, sizeIn}
 use Rattle.transform.specs.declared.WrittenPair.{WrittenPair}
 use Rattle.transform.specs.declared.WrittenPair.the-variants as written
 use Rattle.transform.specs.declared.core.Pair.{Pair}
@@ -29,6 +31,13 @@ judgedBoth e f x y =
 pub record SizedBoth (s : Sides Char) (r : Pair) : Type 0 where
   pub left : Sizes (s .left) (r .e)
   pub right : Sizes (s .right) (r .f)
+  pub under-left : Under (2 ^ 40) (r .e)
+  pub under-right : Under (2 ^ 40) (r .f)
+
+-- each side of a and b written to a stage
+pub record StagedBoth (slots : ℕ) (a b : Seq) (r : Pair) (x y : List ℕ) : Type 0 where
+  pub left : Staged slots (transform order a b .left) (r .e) x
+  pub right : Staged slots (transform order b a .left) (r .f) y
   pub under-left : Under (2 ^ 40) (r .e)
   pub under-right : Under (2 ^ 40) (r .f)
 

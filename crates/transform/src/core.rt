@@ -11,16 +11,16 @@ ghost use mathlib.Core.Path.{_≡_};
 ghost use mathlib.Core.Bool.{true, _&&_};
 ghost use Prim.Native.Nat.{_^_, _≤_, _<_};
 ghost use Rattle.utf8.specs.Order.{byteOrder, order};
-ghost use Rattle.operation.specs.Layout.{recordsOf};
+ghost use Rattle.operation.specs.Layout.{recordsOf, baseOf};
 ghost use Rattle.operation.specs.Op.{cut};
 ghost use Rattle.operation.specs.Record.{ops, recordFault};
 ghost use Rattle.operation.specs.Front.{frontText, frontOp, Stands, Cut};
 ghost use Rattle.operational_transform.specs.Transform.{transformTurn, keepBoth, lefts};
 ghost use Rattle.operational_transform.specs.Transform.{past as stays};
 ghost use Rattle.operational_transform.specs.Transform.{transform as transformOf};
-ghost use Rattle.operational_transform.specs.Emit.{Under, Adds, Sizes, Done, Writes, within};
+ghost use Rattle.operational_transform.specs.Emit.{Under, Adds, Sizes, Done, Writes, Staged, within};
 ghost use Rattle.turns.specs.Turns.{liveIs, Chooses, Went};
-ghost use Rattle.transform.specs.Pairs.{judgedBoth, SizedBoth, Transforms};
+ghost use Rattle.transform.specs.Pairs.{judgedBoth, SizedBoth, StagedBoth, Transforms};
 ghost use Rattle.transform.specs.Sides.{givesOf, FirstWent, SecondWent, BothWent};
 
 // Of two inserts that meet, the lesser by byte order goes first.
@@ -160,7 +160,7 @@ fn turn(a: &[u8], na: usize, b: &[u8], nb: usize, out: &mut [u8], n: usize, s: S
 }
 
 // All of one side, for a result of n records.
-fn run(a: &[u8], na: usize, b: &[u8], nb: usize, out: &mut [u8], n: usize) -> Emitter
+pub fn run(a: &[u8], na: usize, b: &[u8], nb: usize, out: &mut [u8], n: usize) -> Emitter
     requires { ⌜ (na ≡ recordsOf (now a)) × (na ≤ 1024) × (nb ≡ recordsOf (now b)) × (nb ≤ 1024) × (n ≤ 2 ^ 40) × (recordFault (now a) ≡ 0) × (recordFault (now b) ≡ 0) ⌝ }
     ensures { λ r. ⌜ Done n (transformOf order (ops (now (a .entry))) (ops (now (b .entry))) .left) (now (out .entry)) r (now (out .exit)) ⌝ }
 {
@@ -245,6 +245,183 @@ fn judge(e: Emitter, f: Emitter, room_a: usize, room_b: usize) -> WrittenPair
     WrittenPair::Bytes(p, q)
 }
 
+// One side from a stage, if all of it has a place there; else by a run of its own.
+fn place(
+    a: &[u8],
+    na: usize,
+    b: &[u8],
+    nb: usize,
+    stage: &[u8],
+    slots: usize,
+    e: Emitter,
+    out: &mut [u8],
+)
+    requires { ⌜ (na ≡ recordsOf (now a)) × (na ≤ 1024) × (nb ≡ recordsOf (now b)) × (nb ≤ 1024) × (recordFault (now a) ≡ 0) × (recordFault (now b) ≡ 0) × (slots ≤ 2048) × Under (2 ^ 40) e × Staged slots (transformOf order (ops (now a)) (ops (now b)) .left) e (now stage) ⌝ }
+    ensures { λ _. ⌜ Writes (e .records) (transformOf order (ops (now (a .entry))) (ops (now (b .entry))) .left) (now (out .entry)) (now (out .exit)) ⌝ }
+{
+    if !operational_transform::core::has_place(e, slots, stage.len()) {
+        write_side(a, na, b, nb, out, e.records);
+        return;
+    }
+    operational_transform::core::settle(out, e.records, stage, slots, e.records, e.text);
+    operational_transform::core::header(out, e);
+}
+
+// Both sides, each written to a stage.
+fn stage_both(
+    a: &[u8],
+    na: usize,
+    b: &[u8],
+    nb: usize,
+    stage_a: &mut [u8],
+    stage_b: &mut [u8],
+    slots: usize,
+) -> Pair
+    requires { ⌜ (na ≡ recordsOf (now a)) × (na ≤ 1024) × (nb ≡ recordsOf (now b)) × (nb ≤ 1024) × (recordFault (now a) ≡ 0) × (recordFault (now b) ≡ 0) × (slots ≤ 2048) ⌝ }
+    ensures { λ r. ⌜ StagedBoth slots (ops (now (a .entry))) (ops (now (b .entry))) r (now («stage_a» .exit)) (now («stage_b» .exit)) ⌝ }
+{
+    let e = run(a, na, b, nb, stage_a, slots);
+    let f = run(b, nb, a, na, stage_b, slots);
+    Pair { e, f }
+}
+
+fn place_both(
+    a: &[u8],
+    na: usize,
+    b: &[u8],
+    nb: usize,
+    stage_a: &[u8],
+    stage_b: &[u8],
+    slots: usize,
+    p: Pair,
+    out_a: &mut [u8],
+    out_b: &mut [u8],
+)
+    requires { ⌜ (na ≡ recordsOf (now a)) × (na ≤ 1024) × (nb ≡ recordsOf (now b)) × (nb ≤ 1024) × (recordFault (now a) ≡ 0) × (recordFault (now b) ≡ 0) × (slots ≤ 2048) × StagedBoth slots (ops (now a)) (ops (now b)) p (now «stage_a») (now «stage_b») ⌝ }
+    ensures { λ _. ⌜ Writes (p .e .records) (transformOf order (ops (now (a .entry))) (ops (now (b .entry))) .left) (now («out_a» .entry)) (now («out_a» .exit)) × Writes (p .f .records) (transformOf order (ops (now (b .entry))) (ops (now (a .entry))) .left) (now («out_b» .entry)) (now («out_b» .exit)) ⌝ }
+{
+    let e = p.e;
+    let f = p.f;
+    place(a, na, b, nb, stage_a, slots, e, out_a);
+    place(b, nb, a, na, stage_b, slots, f, out_b);
+}
+
+// Of two records whose lengths agree: both sides are written to stages, judged, and moved to the outputs.
+fn staged(
+    a: &[u8],
+    na: usize,
+    b: &[u8],
+    nb: usize,
+    stage_a: &mut [u8],
+    stage_b: &mut [u8],
+    slots: usize,
+    out_a: &mut [u8],
+    out_b: &mut [u8],
+) -> WrittenPair
+    requires { ⌜ (na ≡ recordsOf (now a)) × (na ≤ 1024) × (nb ≡ recordsOf (now b)) × (nb ≤ 1024) × (recordFault (now a) ≡ 0) × (recordFault (now b) ≡ 0) × (slots ≤ 2048) × (baseOf (now a) ≡ baseOf (now b)) ⌝ }
+    ensures { λ r. ⌜ Transforms (now (a .entry)) (now (b .entry)) (now («out_a» .entry)) (now («out_b» .entry)) r (now («out_a» .exit)) (now («out_b» .exit)) ⌝ }
+{
+    let p = stage_both(a, na, b, nb, stage_a, stage_b, slots);
+    let e = p.e;
+    let f = p.f;
+    match judge(e, f, out_a.len(), out_b.len()) {
+        WrittenPair::Refused(x) => WrittenPair::Refused(x),
+        WrittenPair::Bytes(k, l) => {
+            place_both(a, na, b, nb, stage_a, stage_b, slots, p, out_a, out_b);
+            WrittenPair::Bytes(k, l)
+        }
+    }
+}
+
+// With stages of several lengths: what is cleared is paid for.
+fn small(
+    a: &[u8],
+    na: usize,
+    b: &[u8],
+    nb: usize,
+    out_a: &mut [u8],
+    out_b: &mut [u8],
+) -> WrittenPair
+    requires { ⌜ (na ≡ recordsOf (now a)) × (na ≤ 1024) × (nb ≡ recordsOf (now b)) × (nb ≤ 1024) × (recordFault (now a) ≡ 0) × (recordFault (now b) ≡ 0) × (baseOf (now a) ≡ baseOf (now b)) ⌝ }
+    ensures { λ r. ⌜ Transforms (now (a .entry)) (now (b .entry)) (now («out_a» .entry)) (now («out_b» .entry)) r (now («out_a» .exit)) (now («out_b» .exit)) ⌝ }
+{
+    let mut stage_a = [0u8; 128];
+    let mut stage_b = [0u8; 128];
+    match staged(
+        a,
+        na,
+        b,
+        nb,
+        &mut stage_a,
+        &mut stage_b,
+        na + nb,
+        out_a,
+        out_b,
+    ) {
+        WrittenPair::Bytes(k, l) => WrittenPair::Bytes(k, l),
+        WrittenPair::Refused(x) => WrittenPair::Refused(x),
+    }
+}
+
+fn medium(
+    a: &[u8],
+    na: usize,
+    b: &[u8],
+    nb: usize,
+    out_a: &mut [u8],
+    out_b: &mut [u8],
+) -> WrittenPair
+    requires { ⌜ (na ≡ recordsOf (now a)) × (na ≤ 1024) × (nb ≡ recordsOf (now b)) × (nb ≤ 1024) × (recordFault (now a) ≡ 0) × (recordFault (now b) ≡ 0) × (baseOf (now a) ≡ baseOf (now b)) ⌝ }
+    ensures { λ r. ⌜ Transforms (now (a .entry)) (now (b .entry)) (now («out_a» .entry)) (now («out_b» .entry)) r (now («out_a» .exit)) (now («out_b» .exit)) ⌝ }
+{
+    let mut stage_a = [0u8; 1024];
+    let mut stage_b = [0u8; 1024];
+    match staged(
+        a,
+        na,
+        b,
+        nb,
+        &mut stage_a,
+        &mut stage_b,
+        na + nb,
+        out_a,
+        out_b,
+    ) {
+        WrittenPair::Bytes(k, l) => WrittenPair::Bytes(k, l),
+        WrittenPair::Refused(x) => WrittenPair::Refused(x),
+    }
+}
+
+fn large(
+    a: &[u8],
+    na: usize,
+    b: &[u8],
+    nb: usize,
+    slots: usize,
+    out_a: &mut [u8],
+    out_b: &mut [u8],
+) -> WrittenPair
+    requires { ⌜ (na ≡ recordsOf (now a)) × (na ≤ 1024) × (nb ≡ recordsOf (now b)) × (nb ≤ 1024) × (recordFault (now a) ≡ 0) × (recordFault (now b) ≡ 0) × (slots ≤ 2048) × (baseOf (now a) ≡ baseOf (now b)) ⌝ }
+    ensures { λ r. ⌜ Transforms (now (a .entry)) (now (b .entry)) (now («out_a» .entry)) (now («out_b» .entry)) r (now («out_a» .exit)) (now («out_b» .exit)) ⌝ }
+{
+    let mut stage_a = [0u8; 16384];
+    let mut stage_b = [0u8; 16384];
+    match staged(
+        a,
+        na,
+        b,
+        nb,
+        &mut stage_a,
+        &mut stage_b,
+        slots,
+        out_a,
+        out_b,
+    ) {
+        WrittenPair::Bytes(k, l) => WrittenPair::Bytes(k, l),
+        WrittenPair::Refused(x) => WrittenPair::Refused(x),
+    }
+}
+
 // Of two records that were checked.
 pub fn transformed(a: &[u8], b: &[u8], out_a: &mut [u8], out_b: &mut [u8]) -> WrittenPair
     requires { ⌜ (recordFault (now a) ≡ 0) × (recordFault (now b) ≡ 0) ⌝ }
@@ -257,14 +434,18 @@ pub fn transformed(a: &[u8], b: &[u8], out_a: &mut [u8], out_b: &mut [u8]) -> Wr
     }
     let na = operation::core::records(a);
     let nb = operation::core::records(b);
-    let p = sized(a, na, b, nb);
-    let e = p.e;
-    let f = p.f;
-    match judge(e, f, out_a.len(), out_b.len()) {
-        WrittenPair::Refused(x) => WrittenPair::Refused(x),
-        WrittenPair::Bytes(k, l) => {
-            write(a, na, b, nb, out_a, e.records, out_b, f.records);
-            WrittenPair::Bytes(k, l)
-        }
+    // a result of more than 1,024 is refused
+    if 1024 < na + nb {
+        return large(a, na, b, nb, 1024, out_a, out_b);
     }
+    let most = operation::core::text_start(na + nb)
+        + operation::core::text_bytes(a)
+        + operation::core::text_bytes(b);
+    if 1024 < most {
+        return large(a, na, b, nb, na + nb, out_a, out_b);
+    }
+    if 128 < most {
+        return medium(a, na, b, nb, out_a, out_b);
+    }
+    small(a, na, b, nb, out_a, out_b)
 }

@@ -2,8 +2,8 @@
 use Prim.Native.Nat.{ℕ, zero, suc, _≤_, _<_}
 use native.Mathlib.Omega.{arith}
 use mathlib.Core.Path.{_≡_, refl, sym, _∙_}
-use mathlib.Core.Logic.{_⊎_, inl, inr, ⊎-elim}
-use mathlib.Core.Bool.{Bool, true, false, cond, _&&_, _||_, and-false}
+use mathlib.Core.Logic.{_⊎_, inl, inr}
+use mathlib.Core.Bool.{Bool, true, false, cond, _&&_, _||_, and-false, false≢true}
 use mathlib.Core.List.{List, [], _∷_}
 use lib.Dec.{T, leb, ltb, leb→le}
 use lib.ListN.{getD}
@@ -12,7 +12,8 @@ use Rattle.utf8.specs.declared.Lead.{Lead}
 use Rattle.utf8.specs.declared.Lead.the-variants.{Bad, Of}
 use Rattle.utf8.specs.Form.{within, Row, rows, leadIn, leadOf}
 use Rattle.utf8.specs.Chars.{isCont, allOf}
-use Rattle.utf8.proofs.Tests.{both, holds, le-and}
+use Rattle.utf8.specs.Passed.{spans}
+use Rattle.utf8.proofs.Tests.{both, holds, known, le-and}
 
 pub le-or-lt : (a b : ℕ) → (a ≤ b) ⊎ (b < a)
 le-or-lt a b = go (leb a b) refl
@@ -68,6 +69,26 @@ hit (r ∷ rs) (suc k) lo hi b t l h =
 pub lead-row : (k lo hi : ℕ) {b : ℕ} → T (inRow k lo hi rows) → lo ≤ b → b ≤ hi → getD rows k none .lead ≡ leadOf b
 unfolding leadOf
 lead-row k lo hi {b} t l h = sym (hit rows k lo hi b t l h)
+
+-- the bytes from lo to hi begin characters of n bytes, or none
+abbrev pub spanned : ℕ → ℕ → ℕ → Row → Bool
+spanned lo hi n r = (ltb hi (r .first) || ltb (r .last) lo) || spans (r .lead) n
+
+spans-in : (rs : List Row) (lo hi n b : ℕ) → T (allOf (spanned lo hi n) rs) → lo ≤ b → b ≤ hi → T (spans (leadIn rs b) n)
+unfolding leadIn
+spans-in [] lo hi n b t l h = tt
+spans-in (r ∷ rs) lo hi n b t l h =
+    let (f, g) = both (spanned lo hi n r) (allOf (spanned lo hi n) rs) .0 t in
+    go (within (r .first) (r .last) b) refl (ltb hi (r .first) || ltb (r .last) lo) refl f (spans-in rs lo hi n b g l h)
+  where
+    go : (v : Bool) → within (r .first) (r .last) b ≡ v → (u : Bool) → (ltb hi (r .first) || ltb (r .last) lo) ≡ u → T (u || spans (r .lead) n) → T (spans (leadIn rs b) n) → T (spans (cond v (r .lead) (leadIn rs b)) n)
+    go true p true q f k = absurd (false≢true (sym (outside (r .first) (r .last) lo hi b (known q) l h) ∙ p))
+    go true p false q f k = f
+    go false p u q f k = k
+
+pub spans-row : (lo hi n : ℕ) {b : ℕ} → T (allOf (spanned lo hi n) rows) → lo ≤ b → b ≤ hi → T (spans (leadOf b) n)
+unfolding leadOf
+spans-row lo hi n {b} t l h = spans-in rows lo hi n b t l h
 
 -- a range of second bytes holds continuations only
 abbrev pub sane : Lead → Bool

@@ -6,5 +6,7 @@ pub mod Chars
 pub mod Cuts
 pub mod Texts
 pub mod Places
+pub mod Bits
 pub mod Runs
 pub mod Steps
+pub mod Passed

@@ -1,12 +1,12 @@
 -- ASCII bytes: eight seen at once, and a run of them passed.
 use Prim.Native.Nat.{ℕ, zero, suc, _+_, _*_, _-_, _/_, _%_, _^_, _≤_, _<_}
-use native.Mathlib.Nat.{zero-add, sub-zero}
+use native.Mathlib.Nat.{zero-add}
 use native.Mathlib.Omega.{arith}
 use mathlib.Core.Path.{_≡_, refl, sym, ap, ap₂, _∙_}
 use mathlib.Core.Logic.{⊎-elim}
 use mathlib.Core.Bool.{Bool, true, false, _&&_}
 use mathlib.Core.List.{List, [], _∷_}
-use lib.Dec.{T, eqb, lit<, lit≤}
+use lib.Dec.{eqb, lit<, lit≤}
 use lib.ListN.{length, getD, take, drop, length-take, length-drop}
 use lib.Seq.{take-all, take-add, drop-drop, getD-drop}
 use lib.Pow as Pow
@@ -15,11 +15,12 @@ use borrow.Author.Tests.{lt-ltb, le-ltb, ltb-true, ne-eqb}
 use Rattle.utf8.specs.declared.Lead.the-variants.{Of}
 use Rattle.utf8.specs.Form.{rows, leadOf, wellFormed}
 use Rattle.utf8.specs.Chars.{isCont, numChars, allOf}
-use Rattle.utf8.specs.Ascii.{isAscii, wordOf, Runs, RunsOut}
+use Rattle.utf8.specs.Ascii.{isAscii, wordOf, Tops, Runs}
 use Rattle.utf8.proofs.Tests.{holds, known}
 use Rattle.utf8.proofs.Leads.{under, le-or-lt, lead-row}
 use Rattle.utf8.proofs.Chars.{split, all-append}
 use Rattle.utf8.proofs.Walk.{next}
+use Rattle.utf8.proofs.Bits.{mask-or}
 
 pub ascii : (b : ℕ) → b < 0x80 → isAscii b ≡ true
 unfolding isAscii
@@ -65,12 +66,12 @@ bytes-take (suc n) [] h k = lit< tt
 bytes-take (suc n) (x ∷ l) h zero = h 0
 bytes-take (suc n) (x ∷ l) h (suc k) = bytes-take n l (λ j. h (suc j)) k
 
-pub eight-ascii : (t : List ℕ) (at x : ℕ) → x ≡ wordOf (take 8 (drop at t)) → at + 8 ≤ length t → Bytes t → eqb (bitAnd x 0x8080_8080_8080_8080) 0 ≡ allOf isAscii (take 8 (drop at t))
+pub word-tops : (t : List ℕ) (at x : ℕ) → x ≡ wordOf (take 8 (drop at t)) → at + 8 ≤ length t → Bytes t → Tops x (take 8 (drop at t))
 unfolding tops
-eight-ascii t at x e l h =
+word-tops t at x e l h =
     let bs = take 8 (drop at t) in
     let n : length bs ≡ 8 = simp (length-take, length-drop) (omega arith) in
-    ap₂ (λ y m. eqb (bitAnd y (tops m)) 0) e (sym n) ∙ no-tops bs (bytes-take 8 (drop at t) (λ k. rw getD-drop (h (at + k))))
+    record { none = ap₂ (λ y m. eqb (bitAnd y (tops m)) 0) e (sym n) ∙ no-tops bs (bytes-take 8 (drop at t) (λ k. rw getD-drop (h (at + k)))) }
 
 -- one more byte on top
 up : (k : ℕ) {y : ℕ} (x b : ℕ) → y ≡ x → x < 2 ^ k → b < 256 → 8 + k ≤ 64 → bitOr y ((b * 2 ^ k) % 2 ^ 64) ≡ b * 2 ^ k + x
@@ -110,12 +111,11 @@ word-eight t at e₀ e₁ e₂ e₃ e₄ e₅ e₆ e₇ h b =
 parts : (t : List ℕ) (at n m : ℕ) → allOf isAscii (take (n + m) (drop at t)) ≡ (allOf isAscii (take n (drop at t)) && allOf isAscii (take m (drop (at + n) t)))
 parts t at n m = ap (allOf isAscii) (take-add n m (drop at t)) ∙ all-append isAscii (take n (drop at t)) (take m (drop n (drop at t))) ∙ ap (λ l. allOf isAscii (take n (drop at t)) && allOf isAscii (take m l)) (drop-drop n at t)
 
-module _ (t : List ℕ) (at n m : ℕ) (a : Bool) (p : a ≡ allOf isAscii (take n (drop at t))) where
-  pub both-parts : (b : Bool) → a ≡ true → b ≡ allOf isAscii (take m (drop (at + n) t)) → b ≡ allOf isAscii (take (n + m) (drop at t))
-  both-parts b e q = q ∙ sym (parts t at n m ∙ ap (λ c. c && allOf isAscii (take m (drop (at + n) t))) (sym p ∙ e))
+pub tops-join : (t : List ℕ) (at n m x y : ℕ) → Tops x (take n (drop at t)) → Tops y (take m (drop (at + n) t)) → Tops (bitOr x y) (take (n + m) (drop at t))
+tops-join t at n m x y p q = record { none = mask-or x y 0x8080_8080_8080_8080 ∙ ap₂ _&&_ (p .none) (q .none) ∙ sym (parts t at n m) }
 
-  pub first-part : a ≡ false → a ≡ allOf isAscii (take (n + m) (drop at t))
-  first-part e = e ∙ sym (parts t at n m ∙ ap (λ c. c && allOf isAscii (take m (drop (at + n) t))) (sym p ∙ e))
+pub words-tops : (t : List ℕ) (at x y : ℕ) → x ≡ wordOf (take 8 (drop at t)) → y ≡ wordOf (take 8 (drop (at + 8) t)) → at + 16 ≤ length t → Bytes t → Tops (bitOr x y) (take 16 (drop at t))
+words-tops t at x y p q l h = tops-join t at 8 8 x y (word-tops t at x p (omega arith) h) (word-tops t (at + 8) y q (omega arith) h)
 
 -- ---- a run
 
@@ -134,15 +134,19 @@ module _ (t : List ℕ) (at : ℕ) where
         plain = known (ap (λ j. allOf isAscii (take j (drop at t))) z ∙ parts t at (i - at) n ∙ ap₂ _&&_ (holds (allOf isAscii (take (i - at) (drop at t))) (r .plain)) (ap (λ j. allOf isAscii (take n (drop j t))) w ∙ sym p ∙ e));
       }
 
-  pub runs-one : (i : ℕ) → Runs t at i → i < length t → getD t i 0 < 0x80 → Runs t at (i + 1)
-  runs-one i r h l = runs-more i 1 r refl (rw (next t i h, ascii (getD t i 0) l)) (omega arith)
-
   pub runs-join : (i j : ℕ) → Runs t at i → Runs t i j → Runs t at j
   runs-join i j r s =
       let a = s .above in
       let z : i + (j - i) ≡ j = omega arith in
       let b = s .below in
       rw z at (runs-more i (j - i) r refl (holds (allOf isAscii (take (j - i) (drop i t))) (s .plain)) (omega arith))
+
+  -- from `at` itself
+  pub runs-eight : (to : ℕ) {b : Bool} → b ≡ allOf isAscii (take 8 (drop at t)) → b ≡ true → at + 8 ≤ length t → Runs t (at + 8) to → Runs t at to
+  runs-eight to p e h r = runs-join (at + 8) to (runs-more at 8 (runs-none (omega arith)) p e h) r
+
+  pub runs-one : at < length t → getD t at 0 < 0x80 → Runs t at (at + 1)
+  runs-one h l = runs-more at 1 (runs-none (omega arith)) refl (rw (next t at h, ascii (getD t at 0) l)) (omega arith)
 
 lead-ascii : (b : ℕ) → isAscii b ≡ true → leadOf b ≡ Of 0 0x80 0xBF
 unfolding isAscii rows
@@ -171,20 +175,12 @@ ascii-num (suc n) (b ∷ l) h e =
     rw (under 0x80 0xBF b (ltb-true b 0x80 p)) (omega arith)
 
 -- each byte of a run is a character
-runs-num : (t : List ℕ) (to : ℕ) → RunsOut t 0 to → to + numChars (drop to t) ≡ numChars t
-runs-num t to r = ascii-num to t (r .runs .below) (rw (sub-zero to) at (holds (allOf isAscii (take (to - 0) t)) (r .runs .plain)))
+pub runs-num : (t : List ℕ) (at to : ℕ) → Runs t at to → to + numChars (drop to t) ≡ at + numChars (drop at t)
+runs-num t at to r =
+    let a = r .above in
+    let b = r .below in
+    let z : at + (to - at) ≡ to = omega arith in
+    omega (arith, ap (λ j. numChars (drop j t)) z, ap numChars (drop-drop (to - at) at t), ascii-num (to - at) (drop at t) (omega (arith, length-drop at t)) (holds (allOf isAscii (take (to - at) (drop at t))) (r .plain)))
 
-pub runs-count : (t : List ℕ) (to n : ℕ) → RunsOut t 0 to → n ≡ numChars (take (length t - to) (drop to t)) → to + n ≡ numChars t
-runs-count t to n r e = ap (λ k. to + k) (e ∙ ap numChars (take-all (length t - to) (drop to t) (omega (arith, length-drop to t)))) ∙ runs-num t to r
-
-pub runs-out : (t : List ℕ) (at i j to : ℕ) → Runs t at i → Runs t i j → RunsOut t j to → RunsOut t at to
-runs-out t at i j to p q r = record { runs = runs-join t at j to (runs-join t at i j p q) (r .runs); out = r .out }
-
--- a run that begins at an ASCII byte goes on
-pub runs-on : (t : List ℕ) (at to : ℕ) → RunsOut t at to → at < length t → getD t at 0 < 0x80 → at < to
-runs-on t at to r h l =
-    let a = r .runs .above in
-    ⊎-elim
-    (λ z. let e : to ≡ at = omega arith in let o : 0x80 ≤ getD t at 0 = rw e at (r .out (omega arith)) in absurd (omega arith))
-    (λ z. z)
-    (le-or-lt to at)
+pub runs-count : (t : List ℕ) (to n : ℕ) → Runs t 0 to → n ≡ numChars (take (length t - to) (drop to t)) → to + n ≡ numChars t
+runs-count t to n r e = omega (arith, ap numChars (take-all (length t - to) (drop to t) (omega (arith, length-drop to t))), runs-num t 0 to r)

@@ -1,9 +1,11 @@
 -- ASCII bytes, and eight bytes as one number. Only contracts of inner functions cite this.
-use Prim.Native.Nat.{ℕ, _+_, _*_, _-_, _≤_, _<_}
+use Prim.Native.Nat.{ℕ, _+_, _*_, _-_, _≤_}
+use mathlib.Core.Path.{_≡_}
 use mathlib.Core.Bool.{Bool}
 use mathlib.Core.List.{List, [], _∷_}
-use lib.Dec.{T, ltb}
-use lib.ListN.{length, getD, take, drop}
+use lib.Dec.{T, ltb, eqb}
+use lib.ListN.{length, take, drop}
+use lib.Bits.{bitAnd}
 use Rattle.utf8.specs.Chars.{allOf}
 
 unfoldable pub isAscii : ℕ → Bool
@@ -14,13 +16,12 @@ abbrev pub wordOf : List ℕ → ℕ
 wordOf [] = 0
 wordOf (b ∷ bs) = wordOf bs * 256 + b
 
+-- no top bit of the eight bytes of x is set exactly where these bytes are ASCII
+pub record Tops (x : ℕ) (l : List ℕ) : Type 0 where
+  pub none : eqb (bitAnd x 0x8080_8080_8080_8080) 0 ≡ allOf isAscii l
+
 -- the bytes from `at` to `to` are ASCII
 pub record Runs (t : List ℕ) (at to : ℕ) : Type 0 where
   pub above : at ≤ to
   pub below : to ≤ length t
   pub plain : T (allOf isAscii (take (to - at) (drop at t)))
-
--- and `to` is the end, or the byte there is not
-pub record RunsOut (t : List ℕ) (at to : ℕ) : Type 0 where
-  pub runs : Runs t at to
-  pub out : to < length t → 0x80 ≤ getD t to 0

@@ -5,3 +5,4 @@ pub mod Text
 pub mod Order
 pub mod Places
 pub mod Ascii
+pub mod Passed

@@ -1,9 +1,9 @@
 // Runs of ASCII bytes, passed many at a time.
 ghost use mathlib.Core.Path.{_≡_};
-ghost use Prim.Native.Nat.{_+_, _≤_};
-ghost use lib.ListN.{length, take, drop};
+ghost use Prim.Native.Nat.{_+_, _≤_, _<_};
+ghost use lib.ListN.{length, getD, take, drop};
 ghost use Rattle.utf8.specs.Chars.{allOf};
-ghost use Rattle.utf8.specs.Ascii.{isAscii, wordOf, Runs, RunsOut};
+ghost use Rattle.utf8.specs.Ascii.{isAscii, wordOf, Tops, Runs};
 
 fn wide(b: u8) -> u64
     ensures { λ r. ⌜ r ≡ b ⌝ }
@@ -27,37 +27,45 @@ fn word(text: &[u8], at: usize) -> u64
 }
 
 // Whether the bytes at `at` are ASCII: no top bit is set.
-pub(crate) fn eight(text: &[u8], at: usize) -> bool
+fn eight(text: &[u8], at: usize) -> bool
     requires { ⌜ at + 8 ≤ length (now text) ⌝ }
     ensures { λ r. ⌜ r ≡ allOf isAscii (take 8 (drop at (now (text .entry)))) ⌝ }
 {
     word(text, at) & 0x8080_8080_8080_8080 == 0
 }
 
-fn sixteen(text: &[u8], at: usize) -> bool
+// The words of the bytes at `at`, one laid over another.
+fn sixteen(text: &[u8], at: usize) -> u64
     requires { ⌜ at + 16 ≤ length (now text) ⌝ }
-    ensures { λ r. ⌜ r ≡ allOf isAscii (take 16 (drop at (now (text .entry)))) ⌝ }
+    ensures { λ r. ⌜ Tops r (take 16 (drop at (now (text .entry)))) ⌝ }
 {
-    eight(text, at) && eight(text, at + 8)
+    word(text, at) | word(text, at + 8)
 }
 
-fn thirty_two(text: &[u8], at: usize) -> bool
+fn thirty_two(text: &[u8], at: usize) -> u64
     requires { ⌜ at + 32 ≤ length (now text) ⌝ }
-    ensures { λ r. ⌜ r ≡ allOf isAscii (take 32 (drop at (now (text .entry)))) ⌝ }
+    ensures { λ r. ⌜ Tops r (take 32 (drop at (now (text .entry)))) ⌝ }
 {
-    sixteen(text, at) && sixteen(text, at + 16)
+    sixteen(text, at) | sixteen(text, at + 16)
 }
 
-fn by_thirty_two(text: &[u8], at: usize) -> usize
+fn sixty_four(text: &[u8], at: usize) -> bool
+    requires { ⌜ at + 64 ≤ length (now text) ⌝ }
+    ensures { λ r. ⌜ r ≡ allOf isAscii (take 64 (drop at (now (text .entry)))) ⌝ }
+{
+    (thirty_two(text, at) | thirty_two(text, at + 32)) & 0x8080_8080_8080_8080 == 0
+}
+
+fn by_sixty_four(text: &[u8], at: usize) -> usize
     requires { ⌜ at ≤ length (now text) ⌝ }
     ensures { λ r. ⌜ Runs (now (text .entry)) at r ⌝ }
 {
     let mut i = at;
-    while 32 <= text.len() - i {
-        if !thirty_two(text, i) {
+    while 64 <= text.len() - i {
+        if !sixty_four(text, i) {
             return i;
         }
-        i += 32;
+        i += 64;
     }
     i
 }
@@ -76,24 +84,21 @@ fn by_eight(text: &[u8], at: usize) -> usize
     i
 }
 
-fn by_one(text: &[u8], at: usize) -> usize
+// As far as ASCII bytes go on from `at`, sixty-four or eight at a time.
+pub(crate) fn bulk(text: &[u8], at: usize) -> usize
     requires { ⌜ at ≤ length (now text) ⌝ }
-    ensures { λ r. ⌜ RunsOut (now (text .entry)) at r ⌝ }
+    ensures { λ r. ⌜ Runs (now (text .entry)) at r ⌝ }
 {
-    let mut i = at;
-    while i < text.len() {
-        if 0x80 <= text[i] {
-            return i;
-        }
-        i += 1;
-    }
-    i
+    by_eight(text, by_sixty_four(text, at))
 }
 
-// The place of the first byte from `at` on that isn't ASCII, or the end.
-pub(crate) fn run(text: &[u8], at: usize) -> usize
-    requires { ⌜ at ≤ length (now text) ⌝ }
-    ensures { λ r. ⌜ RunsOut (now (text .entry)) at r ⌝ }
+// Behind the ASCII byte at `at`, or as far as they go on where the eight bytes there are ASCII.
+pub(crate) fn pass(text: &[u8], at: usize) -> usize
+    requires { ⌜ (at + 8 ≤ length (now text)) × (getD (now text) at 0 < 0x80) ⌝ }
+    ensures { λ r. ⌜ Runs (now (text .entry)) at r × (at < r) ⌝ }
 {
-    by_one(text, by_eight(text, by_thirty_two(text, at)))
+    if eight(text, at) {
+        return bulk(text, at + 8);
+    }
+    at + 1
 }

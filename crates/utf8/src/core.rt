@@ -2,9 +2,12 @@
 ghost use mathlib.Core.Path.{_≡_};
 ghost use mathlib.Core.List.{_++_};
 ghost use Prim.Native.Nat.{_+_, _≤_};
+ghost use lib.Dec.{T};
 ghost use lib.ListN.{length, take, drop};
+ghost use Rattle.utf8.specs.Form.{wellFormed};
 ghost use Rattle.utf8.specs.Chars.{numChars, isCont, takeChars};
 ghost use Rattle.utf8.specs.Order.{byteOrder};
+ghost use Rattle.utf8.specs.Passed.{formOf};
 
 pub fn continues(b: u8) -> bool
     ensures { λ r. ⌜ r ≡ isCont b ⌝ }
@@ -17,6 +20,22 @@ pub enum Ordering {
     Less,
     Equal,
     Greater,
+}
+
+// What a text is found to be: ill-formed, or of so many characters.
+pub enum Form {
+    IllFormed,
+    Chars(usize),
+}
+
+pub fn form_of(text: &[u8]) -> Form
+    ensures { λ r. ⌜ r ≡ formOf (now (text .entry)) ⌝ }
+{
+    let i = crate::ascii::bulk(text, 0);
+    if i == text.len() {
+        return Form::Chars(i);
+    }
+    crate::finish(text, crate::forward(text, i))
 }
 
 // The number of bytes that aren't continuations, byte by byte: for short texts.
@@ -34,21 +53,19 @@ pub fn count(bytes: &[u8]) -> usize
     n
 }
 
-// The place k characters after `at`, or the end where they run out.
+// The place k characters after `at`, or the end where they run out: by the first bytes, as the text is well-formed.
 pub fn skip(bytes: &[u8], at: usize, k: usize) -> usize
-    requires { ⌜ at ≤ length (now bytes) ⌝ }
+    requires { ⌜ (at ≤ length (now bytes)) × T (wellFormed (drop at (now bytes))) ⌝ }
     ensures { λ r. ⌜ r ≡ at + length (takeChars k (drop at (now (bytes .entry)))) ⌝ }
 {
     let mut i = at;
     let mut left = k;
     while i < bytes.len() {
-        if !crate::is_cont(bytes[i]) {
-            if left == 0 {
-                return i;
-            }
-            left -= 1;
+        if left == 0 {
+            return i;
         }
-        i += 1;
+        i += crate::width(bytes[i]);
+        left -= 1;
     }
     i
 }

@@ -1,10 +1,13 @@
 // UTF-8 text in bytes (RFC 3629): is it well-formed, and how many characters has it?
+use crate::core::Form;
 ghost use mathlib.Core.Path.{_≡_};
-ghost use Prim.Native.Nat.{_≤_};
+ghost use Prim.Native.Nat.{_+_, _≤_};
+ghost use lib.Dec.{T};
 ghost use lib.ListN.{length, take, drop};
 ghost use Rattle.utf8.specs.Form.{within, leadOf, whole, wellFormed};
 ghost use Rattle.utf8.specs.declared.Lead.the-variants.{Of};
 ghost use Rattle.utf8.specs.Chars.{isCont, numChars};
+ghost use Rattle.utf8.specs.Passed.{formOf, spans, Passed};
 
 mod ascii;
 pub mod core;
@@ -25,7 +28,7 @@ fn is_cont(b: u8) -> bool
 pub fn num_chars(bytes: &[u8]) -> usize
     ensures { λ r. ⌜ r ≡ numChars (now (bytes .entry)) ⌝ }
 {
-    let i = ascii::run(bytes, 0);
+    let i = ascii::bulk(bytes, 0);
     i + core::count(&bytes[i..])
 }
 
@@ -85,22 +88,16 @@ fn in_range(b: u8, lo: u8, hi: u8) -> bool
 
 // Whether the bytes that are due at `at` stand there: one, two or three, the first of them from lo to hi.
 fn one_due(text: &[u8], at: usize, lo: u8, hi: u8) -> bool
-    requires { ⌜ at ≤ length (now text) ⌝ }
+    requires { ⌜ at + 1 ≤ length (now text) ⌝ }
     ensures { λ r. ⌜ r ≡ whole (take 1 (drop at (now (text .entry)))) (Of 1 lo hi) ⌝ }
 {
-    if text.len() - at < 1 {
-        return false;
-    }
     in_range(text[at], lo, hi)
 }
 
 fn two_due(text: &[u8], at: usize, lo: u8, hi: u8) -> bool
-    requires { ⌜ at ≤ length (now text) ⌝ }
+    requires { ⌜ at + 2 ≤ length (now text) ⌝ }
     ensures { λ r. ⌜ r ≡ whole (take 2 (drop at (now (text .entry)))) (Of 2 lo hi) ⌝ }
 {
-    if text.len() - at < 2 {
-        return false;
-    }
     if !in_range(text[at], lo, hi) {
         return false;
     }
@@ -108,12 +105,9 @@ fn two_due(text: &[u8], at: usize, lo: u8, hi: u8) -> bool
 }
 
 fn three_due(text: &[u8], at: usize, lo: u8, hi: u8) -> bool
-    requires { ⌜ at ≤ length (now text) ⌝ }
+    requires { ⌜ at + 3 ≤ length (now text) ⌝ }
     ensures { λ r. ⌜ r ≡ whole (take 3 (drop at (now (text .entry)))) (Of 3 lo hi) ⌝ }
 {
-    if text.len() - at < 3 {
-        return false;
-    }
     if !in_range(text[at], lo, hi) {
         return false;
     }
@@ -123,8 +117,8 @@ fn three_due(text: &[u8], at: usize, lo: u8, hi: u8) -> bool
     is_cont(text[at + 2])
 }
 
-fn due(text: &[u8], at: usize, more: usize, lo: u8, hi: u8) -> bool
-    requires { ⌜ (at ≤ length (now text)) × (more ≤ 3) ⌝ }
+fn stand(text: &[u8], at: usize, more: usize, lo: u8, hi: u8) -> bool
+    requires { ⌜ (at + more ≤ length (now text)) × (more ≤ 3) ⌝ }
     ensures { λ r. ⌜ r ≡ whole (take more (drop at (now (text .entry)))) (Of more lo hi) ⌝ }
 {
     if more == 1 {
@@ -139,25 +133,97 @@ fn due(text: &[u8], at: usize, more: usize, lo: u8, hi: u8) -> bool
     true
 }
 
-// A run of ASCII bytes at a time, or one other character.
-pub fn well_formed(text: &[u8]) -> bool
-    ensures { λ r. ⌜ r ≡ wellFormed (now (text .entry)) ⌝ }
+// The same where the text may end before them.
+fn due(text: &[u8], at: usize, more: usize, lo: u8, hi: u8) -> bool
+    requires { ⌜ (at ≤ length (now text)) × (more ≤ 3) ⌝ }
+    ensures { λ r. ⌜ r ≡ whole (take more (drop at (now (text .entry)))) (Of more lo hi) ⌝ }
 {
-    let mut i = 0;
+    if text.len() - at < more {
+        return false;
+    }
+    stand(text, at, more, lo, hi)
+}
+
+// How far a text was gone through, and how many continuations were passed.
+struct Spot {
+    at: usize,
+    conts: usize,
+}
+
+// Up to the last seven bytes or to an ill-formed character: many ASCII bytes at a time, or one other character, none of
+// which runs past the end.
+fn forward(text: &[u8], from: usize) -> Spot
+    requires { ⌜ Passed (now text) from 0 ⌝ }
+    ensures { λ s. ⌜ Passed (now (text .entry)) (s .at) (s .conts) ⌝ }
+{
+    let mut i = from;
+    let mut conts = 0;
+    while 8 <= text.len() - i {
+        let b = text[i];
+        if b < 0x80 {
+            i = ascii::pass(text, i);
+        } else {
+            let Lead::Of { more, lo, hi } = lead_of(b) else {
+                return Spot { at: i, conts };
+            };
+            let at = i + 1;
+            if !stand(text, at, more, lo, hi) {
+                return Spot { at: i, conts };
+            }
+            i = at + more;
+            conts += more;
+        }
+    }
+    Spot { at: i, conts }
+}
+
+// The rest, character by character.
+fn finish(text: &[u8], s: Spot) -> Form
+    requires { ⌜ Passed (now text) (s .at) (s .conts) ⌝ }
+    ensures { λ r. ⌜ r ≡ formOf (now (text .entry)) ⌝ }
+{
+    let mut i = s.at;
+    let mut conts = s.conts;
     while i < text.len() {
         let b = text[i];
         if b < 0x80 {
-            i = ascii::run(text, i);
+            i += 1;
         } else {
             let Lead::Of { more, lo, hi } = lead_of(b) else {
-                return false;
+                return Form::IllFormed;
             };
             let at = i + 1;
             if !due(text, at, more, lo, hi) {
-                return false;
+                return Form::IllFormed;
             }
             i = at + more;
+            conts += more;
         }
     }
-    true
+    Form::Chars(text.len() - conts)
+}
+
+pub fn well_formed(text: &[u8]) -> bool
+    ensures { λ r. ⌜ r ≡ wellFormed (now (text .entry)) ⌝ }
+{
+    match core::form_of(text) {
+        Form::IllFormed => false,
+        Form::Chars(_) => true,
+    }
+}
+
+// How many bytes a character has, by the first of them.
+fn width(b: u8) -> usize
+    ensures { λ r. ⌜ T (spans (leadOf b) r) ⌝ }
+{
+    if b < 0x80 {
+        return 1;
+    }
+    if b < 0xE0 {
+        return 2;
+    }
+    if b < 0xF0 {
+        return 3;
+    }
+    4
 }

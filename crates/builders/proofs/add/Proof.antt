@@ -12,9 +12,6 @@ retain-requires c κs = search (few-retained, under-room, needs)
 enum-told : tie.Need-enum-told
 enum-told c = search needs
 
-num-chars-requires : tie.Need-num-chars-requires
-num-chars-requires c κs = search needs
-
 insert-requires : tie.Need-insert-requires
 insert-requires c κs = search (few-inserted, whole-well, whole-chars, under-room, needs)
 
@@ -46,7 +43,6 @@ add-spec =
     enum-known-x
     retain-requires
     enum-told
-    num-chars-requires
     insert-requires
     enum-known-x-2
     delete-requires

@@ -13,11 +13,11 @@ returns c = search over-limit
 records-requires : tie.Need-records-requires
 records-requires c κs = search needs
 
-slice-aggregate-run : tie.Need-slice-aggregate-run
-slice-aggregate-run c = search needs
+pending-requires : tie.Need-pending-requires
+pending-requires c κs = search needs
 
-run-requires : tie.Need-run-requires
-run-requires c κs = search needs
+sized-requires : tie.Need-sized-requires
+sized-requires c κs = search needs
 
 judge-requires : tie.Need-judge-requires
 judge-requires c κs = search needs
@@ -47,8 +47,8 @@ delivered-spec =
     count-requires
     returns
     records-requires
-    slice-aggregate-run
-    run-requires
+    pending-requires
+    sized-requires
     judge-requires
     enum-known-y
     enum-known-k

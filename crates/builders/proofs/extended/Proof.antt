@@ -1,5 +1,5 @@
 use Rattle.operation.proofs.Answers.{passed}
-use Rattle.operational_transform.proofs.Giving.{text-refused, text-ill, text-passed, text-well}
+use Rattle.operational_transform.proofs.Giving.{text-refused, text-ill, text-passed, text-not, text-well}
 use borrow.Author.Needs.{needs}
 use Rattle.builders.proofs.extended.Statement.{statement}
 use Rattle.builders.proofs.extended.Tie as tie
@@ -17,7 +17,10 @@ well-formed-requires : tie.Need-well-formed-requires
 well-formed-requires c κs = search needs
 
 returns : tie.Need-returns
-returns c = search (passed, text-ill)
+returns c = search (passed, text-ill, text-not)
+
+num-chars-requires : tie.Need-num-chars-requires
+num-chars-requires c κs = search needs
 
 delivered-requires : tie.Need-delivered-requires
 delivered-requires c κs = search (passed, text-well, needs)
@@ -29,7 +32,7 @@ same-length : tie.Need-same-length
 same-length c = search needs
 
 returns-3 : tie.Need-returns-3
-returns-3 c = search (passed, text-passed)
+returns-3 c = search (passed, text-passed, text-well)
 
 pub extended-spec : {M : Type 1} → statement M
 extended-spec =
@@ -40,6 +43,7 @@ extended-spec =
     enum-told
     well-formed-requires
     returns
+    num-chars-requires
     delivered-requires
     returns-2
     same-length

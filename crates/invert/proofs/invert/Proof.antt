@@ -1,11 +1,12 @@
 use mathlib.Core.Path.{_≡_}
+use Rattle.utf8.proofs.Passed.{form-ill, form-holds, form-num}
 use Rattle.operation.specs.Record.{recordFault}
 use Rattle.operation.proofs.Answers.{passed}
 use Rattle.operational_transform.specs.declared.Written.the-variants.{Refused}
 use Rattle.operation.specs.declared.Refusal.the-variants.{Utf8}
 use Rattle.operational_transform.specs.Calls.{invertCall}
 use Rattle.operational_transform.specs.Given.{Gives}
-use Rattle.operational_transform.proofs.Giving.{text-refused, text-ill, text-passed, text-well}
+use Rattle.operational_transform.proofs.Giving.{text-refused, text-ill, text-passed}
 use borrow.Author.Needs.{needs}
 use Rattle.invert.proofs.invert.Statement.{statement}
 use Rattle.invert.proofs.invert.Tie as tie
@@ -19,19 +20,25 @@ enum-known-x c = search needs
 enum-told : tie.Need-enum-told
 enum-told c = search needs
 
-well-formed-requires : tie.Need-well-formed-requires
-well-formed-requires c κs = search needs
+form-of-requires : tie.Need-form-of-requires
+form-of-requires c κs = search needs
+
+enum-known-chars : tie.Need-enum-known-chars
+enum-known-chars c = search needs
+
+enum-told-2 : tie.Need-enum-told-2
+enum-told-2 c = search needs
 
 returns : tie.Need-returns
 unfolding invertCall
 returns c =
-    let a = c .before .before .before .before .before .before .before .before .args in
+    let a = c .before .before .before .before .before .before .before .before .before .args in
     let z : recordFault (a .rec .now) ≡ 0 = search passed in
-    let w : Gives (invertCall (a .rec .now) (a .text .now) (a .out .now)) (Refused Utf8) (a .out .now) = search text-ill in
+    let w : Gives (invertCall (a .rec .now) (a .text .now) (a .out .now)) (Refused Utf8) (a .out .now) = search (text-ill, form-ill) in
     (w .answer, w .out)
 
 inverted-requires : tie.Need-inverted-requires
-inverted-requires c κs = search (passed, text-well, needs)
+inverted-requires c κs = search (passed, form-holds, form-num, needs)
 
 returns-2 : tie.Need-returns-2
 unfolding invertCall
@@ -46,10 +53,10 @@ same-length c = search needs
 returns-3 : tie.Need-returns-3
 unfolding invertCall
 returns-3 c =
-    let a = c .before .before .before .before .before .before .before .before .before .before .before .before .args in
+    let a = c .before .before .before .before .before .before .before .before .before .before .before .before .before .before .args in
     let r = c .before .before .inverted in
     let z : recordFault (a .rec .now) ≡ 0 = search passed in
-    let w : Gives (invertCall (a .rec .now) (a .text .now) (a .out .now)) (r .result) (r .last .1 .1 .0) = search text-passed in
+    let w : Gives (invertCall (a .rec .now) (a .text .now) (a .out .now)) (r .result) (r .last .1 .1 .1 .0) = search (text-passed, form-holds) in
     (w .answer, w .out)
 
 pub invert-spec : {M : Type 1} → statement M
@@ -59,7 +66,9 @@ invert-spec =
     check-requires
     enum-known-x
     enum-told
-    well-formed-requires
+    form-of-requires
+    enum-known-chars
+    enum-told-2
     returns
     inverted-requires
     returns-2

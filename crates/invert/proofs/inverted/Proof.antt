@@ -6,9 +6,6 @@ use Rattle.invert.proofs.inverted.Tie as tie
 records-requires : tie.Need-records-requires
 records-requires c κs = search needs
 
-counted-requires : tie.Need-counted-requires
-counted-requires c κs = search needs
-
 slice-aggregate-run : tie.Need-slice-aggregate-run
 slice-aggregate-run c = search needs
 
@@ -41,7 +38,6 @@ inverted-spec =
     tie.close
     (tie.spec
     records-requires
-    counted-requires
     slice-aggregate-run
     run-requires
     judge-requires

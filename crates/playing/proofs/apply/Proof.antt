@@ -1,6 +1,7 @@
 use mathlib.Core.Path.{refl}
+use Rattle.utf8.proofs.Passed.{form-holds}
 use Rattle.operation.proofs.Answers.{passed}
-use Rattle.playing.proofs.Answers.{stopped, apply-refused, apply-3, apply-8, well, agree}
+use Rattle.playing.proofs.Answers.{stopped, apply-refused, apply-3, apply-8, agree}
 use borrow.Author.Needs.{needs}
 use Rattle.playing.proofs.apply.Statement.{statement}
 use Rattle.playing.proofs.apply.Tie as tie
@@ -14,8 +15,14 @@ enum-known-x c = search needs
 enum-told : tie.Need-enum-told
 enum-told c = search needs
 
-well-formed-requires : tie.Need-well-formed-requires
-well-formed-requires c κs = search needs
+form-of-requires : tie.Need-form-of-requires
+form-of-requires c κs = search needs
+
+enum-known-chars : tie.Need-enum-known-chars
+enum-known-chars c = search needs
+
+enum-told-2 : tie.Need-enum-told-2
+enum-told-2 c = search needs
 
 returns : tie.Need-returns
 returns c = stopped _ _ _ _ refl (search apply-3)
@@ -23,14 +30,11 @@ returns c = stopped _ _ _ _ refl (search apply-3)
 base-requires : tie.Need-base-requires
 base-requires c κs = search passed
 
-num-chars-requires : tie.Need-num-chars-requires
-num-chars-requires c κs = search needs
-
 returns-2 : tie.Need-returns-2
 returns-2 c = stopped _ _ _ _ refl (search apply-8)
 
 write-requires : tie.Need-write-requires
-write-requires c κs = (search passed, search well, search agree)
+write-requires c κs = (search passed, search form-holds, search agree)
 
 returns-3 : tie.Need-returns-3
 returns-3 c = stopped _ _ _ _ refl (search apply-refused)
@@ -48,10 +52,11 @@ apply-spec =
     check-requires
     enum-known-x
     enum-told
-    well-formed-requires
+    form-of-requires
+    enum-known-chars
+    enum-told-2
     returns
     base-requires
-    num-chars-requires
     returns-2
     write-requires
     returns-3

@@ -3,8 +3,8 @@ use borrow.Author.Needs.{needs}
 use Rattle.utf8.proofs.num_chars.Statement.{statement}
 use Rattle.utf8.proofs.num_chars.Tie as tie
 
-run-requires : tie.Need-run-requires
-run-requires c κs = search needs
+bulk-requires : tie.Need-bulk-requires
+bulk-requires c κs = search needs
 
 sub-count : tie.Need-sub-count
 sub-count c = search needs
@@ -28,7 +28,7 @@ pub num-chars-spec : {M : Type 1} → statement M
 num-chars-spec =
     tie.close
     (tie.spec
-    run-requires
+    bulk-requires
     sub-count
     part-count-start
     part-count-end

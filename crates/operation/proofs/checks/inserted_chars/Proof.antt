@@ -18,14 +18,17 @@ part-all-start c = search needs
 part-all-end : tie.Need-part-all-end
 part-all-end c = search needs
 
-well-formed-requires : tie.Need-well-formed-requires
-well-formed-requires c κs = search needs
+form-of-requires : tie.Need-form-of-requires
+form-of-requires c κs = search needs
+
+enum-known-chars : tie.Need-enum-known-chars
+enum-known-chars c = search needs
+
+enum-told : tie.Need-enum-told
+enum-told c = search needs
 
 returns : tie.Need-returns
 returns c = search text-ill
-
-num-chars-requires : tie.Need-num-chars-requires
-num-chars-requires c κs = search needs
 
 start-well-requires : tie.Need-start-well-requires
 start-well-requires c κs = search needs
@@ -48,9 +51,10 @@ inserted-chars-spec =
     sub-all
     part-all-start
     part-all-end
-    well-formed-requires
+    form-of-requires
+    enum-known-chars
+    enum-told
     returns
-    num-chars-requires
     start-well-requires
     returns-2
     returns-3

@@ -1,5 +1,5 @@
 use Prim.Native.Nat.{_+_, _≤_}
-use Rattle.operation.proofs.Fronts.{cut-all, cut-none, cut-skip, skip-room}
+use Rattle.operation.proofs.Fronts.{cut-all, cut-none, cut-skip, skip-room, skip-well}
 use borrow.Author.Needs.{needs}
 use Rattle.operation.proofs.core.cut.Statement.{statement}
 use Rattle.operation.proofs.core.cut.Tie as tie
@@ -20,7 +20,7 @@ part-text-end : tie.Need-part-text-end
 part-text-end c = search needs
 
 skip-requires : tie.Need-skip-requires
-skip-requires c κs = search needs
+skip-requires c κs = (search needs, search skip-well)
 
 add-result : tie.Need-add-result
 add-result c =

@@ -1,4 +1,4 @@
-use Rattle.transform.proofs.Answering.{transforms-lengths, transforms-refused, transforms-written}
+use Rattle.transform.proofs.Answering.{transforms-lengths}
 use borrow.Author.Needs.{needs}
 use Rattle.transform.proofs.core.transformed.Statement.{statement}
 use Rattle.transform.proofs.core.transformed.Tie as tie
@@ -18,23 +18,11 @@ records-requires c κs = search needs
 records-requires-2 : tie.Need-records-requires-2
 records-requires-2 c κs = search needs
 
-sized-requires : tie.Need-sized-requires
-sized-requires c κs = search needs
+add-if2 : tie.Need-add-if2
+add-if2 c = search needs
 
-judge-requires : tie.Need-judge-requires
-judge-requires c κs = search needs
-
-enum-known-x : tie.Need-enum-known-x
-enum-known-x c = search needs
-
-enum-known-k : tie.Need-enum-known-k
-enum-known-k c = search needs
-
-write-requires : tie.Need-write-requires
-write-requires c κs = search needs
-
-returns-2 : tie.Need-returns-2
-returns-2 c = search transforms-refused
+large-requires : tie.Need-large-requires
+large-requires c κs = search needs
 
 same-length : tie.Need-same-length
 same-length c = search needs
@@ -42,12 +30,65 @@ same-length c = search needs
 same-length-2 : tie.Need-same-length-2
 same-length-2 c = search needs
 
+returns-2 : tie.Need-returns-2
+returns-2 c = search needs
+
+add-text-start : tie.Need-add-text-start
+add-text-start c = search needs
+
+text-start-requires : tie.Need-text-start-requires
+text-start-requires c κs = search needs
+
+text-bytes-requires : tie.Need-text-bytes-requires
+text-bytes-requires c κs = search needs
+
+add-most : tie.Need-add-most
+add-most c = search needs
+
+text-bytes-requires-2 : tie.Need-text-bytes-requires-2
+text-bytes-requires-2 c κs = search needs
+
+add-most-2 : tie.Need-add-most-2
+add-most-2 c = search needs
+
+add-large : tie.Need-add-large
+add-large c = search needs
+
+large-requires-2 : tie.Need-large-requires-2
+large-requires-2 c κs = search needs
+
+same-length-3 : tie.Need-same-length-3
+same-length-3 c = search needs
+
+same-length-4 : tie.Need-same-length-4
+same-length-4 c = search needs
+
 returns-3 : tie.Need-returns-3
-returns-3 c =
-    let start = c .before .before .before .before .before .before .before .before .before .before .before .before .before .before .before .before .before .before .before .before .before .before .before in
-    let w = c .before .before .before .before .write .ensures in
-    transforms-written _ _ _ _ (start .pre .0) (start .pre .1) _ _ (c .before .before .before .before .before .before .before .before .before .before .before .before .before .before .before .before .before .before .base .ensures) (c .before .before .before .before .before .before .before .before .before .before .before .before .before .before .before .before .before .base2 .ensures) (c .before .before .before .before .before .before .before .before .before .before .before .before .before .before .before .before .if1 .left) (c .before .before .before .before .before .before .before .before .before .before .before .before .before .sized .result) (c .before .before .before .before .before .before .before .before .before .before .before .before .before .sized .ensures) _
-    (c .before .before .before .before .before .before .before .before .before .before .judge .ensures) _ _ _ _ (c .before .before .before .before .before .before .before .before .k .given .1) (w .0) (w .1)
+returns-3 c = search needs
+
+medium-requires : tie.Need-medium-requires
+medium-requires c κs = search needs
+
+same-length-5 : tie.Need-same-length-5
+same-length-5 c = search needs
+
+same-length-6 : tie.Need-same-length-6
+same-length-6 c = search needs
+
+returns-4 : tie.Need-returns-4
+returns-4 c = search needs
+
+small-requires : tie.Need-small-requires
+small-requires c κs = search needs
+
+same-length-7 : tie.Need-same-length-7
+same-length-7 c = search needs
+
+same-length-8 : tie.Need-same-length-8
+same-length-8 c = search needs
+
+returns-5 : tie.Need-returns-5
+returns-5 c = search needs
 
 pub transformed-spec : {M : Type 1} → statement M
 transformed-spec =
@@ -58,12 +99,27 @@ transformed-spec =
     returns
     records-requires
     records-requires-2
-    sized-requires
-    judge-requires
-    enum-known-x
-    enum-known-k
-    write-requires
-    returns-2
+    add-if2
+    large-requires
     same-length
     same-length-2
-    returns-3)
+    returns-2
+    add-text-start
+    text-start-requires
+    text-bytes-requires
+    add-most
+    text-bytes-requires-2
+    add-most-2
+    add-large
+    large-requires-2
+    same-length-3
+    same-length-4
+    returns-3
+    medium-requires
+    same-length-5
+    same-length-6
+    returns-4
+    small-requires
+    same-length-7
+    same-length-8
+    returns-5)

@@ -1,0 +1,23 @@
+use Rattle.utf8.proofs.Passed.{all-ascii, passed-first}
+use borrow.Author.Needs.{needs}
+use Rattle.utf8.proofs.core.form_of.Statement.{statement}
+use Rattle.utf8.proofs.core.form_of.Tie as tie
+
+bulk-requires : tie.Need-bulk-requires
+bulk-requires c κs = search needs
+
+returns : tie.Need-returns
+returns c = search all-ascii
+
+forward-requires : tie.Need-forward-requires
+forward-requires c κs = search passed-first
+
+finish-requires : tie.Need-finish-requires
+finish-requires c κs = search needs
+
+returns-2 : tie.Need-returns-2
+returns-2 c = search needs
+
+pub form-of-spec : {M : Type 1} → statement M
+form-of-spec =
+    tie.close (tie.spec bulk-requires returns forward-requires finish-requires returns-2)
