@@ -2,12 +2,12 @@
 use Prim.Native.Nat.{ℕ, suc, _+_, _-_, _≤_, _<_}
 use native.Mathlib.Omega.{arith}
 use mathlib.Core.Path.{_≡_, refl, sym, ap, ap₂, _∙_, subst}
-use mathlib.Core.Bool.{true, false, _&&_, and-false}
+use mathlib.Core.Bool.{Bool, true, false, not, _&&_, and-eq-true-iff}
 use mathlib.Core.List.{List, [], _∷_}
 use lib.Dec.{leb}
 use lib.ListN.{length, take, drop}
 use lib.Seq.{length-take-le}
-use borrow.Author.Tests.{eq-eqb, ne-eqb, le-leb, lt-leb, lt-ltb, le-ltb}
+use borrow.Author.Tests.{eq-eqb, ne-eqb, le-leb, lt-leb, lt-ltb, le-ltb, leb-true, not-true, not-false}
 use Rattle.utf8.proofs.Tests.{holds}
 use Rattle.operation.specs.declared.Refusal.{Refusal}
 use Rattle.operation.specs.declared.Refusal.the-variants.{Log, Revision, IncompatibleLengths, Limit, Room}
@@ -28,11 +28,30 @@ use Rattle.log.specs.Scan.{Found, Scans}
 use Rattle.session.specs.Rows.{Moved, rebase}
 use Rattle.session.specs.Session.{movedIn, acceptFault, append, acceptCall}
 use Rattle.accept.specs.Running.{Holds, HandsOut}
-use Rattle.accept.specs.Accepting.{Admitted, MovedPast, Accepts}
+use Rattle.accept.specs.Accepting.{Admitted, Rooms, MovedPast, Accepts}
 
 -- the record of e in a buffer has as many bytes as e's
 size-of : (e : Seq) (cur : List ℕ) → Holds e cur → sizeOf cur ≡ length (encode e)
 size-of e cur h = sym (length-take-le (sizeOf cur) cur (limits cur .0 (faultless cur .0 (h .fault) .in-limits) .whole)) ∙ ap length (h .bytes-are)
+
+-- ---- room
+
+module _ (log : List ℕ) (used size : ℕ) (out : List ℕ) (bytes : ℕ) where
+  pub room-short : used ≤ length log → length log - used < size → Rooms log used size out bytes false
+  room-short h g = record { told = rw (lt-leb (used + size) (length log) (omega (arith, g, h))) }
+
+  pub room-rest : used ≤ length log → size ≤ length log - used → Rooms log used size out bytes (leb bytes (length out))
+  room-rest h g = record { told = rw (le-leb (used + size) (length log) (omega (arith, g, h))) }
+
+  module _ (v : Bool) (t : Rooms log used size out bytes v) (h : not v ≡ false) where
+    both-room : (leb (used + size) (length log) ≡ true) × (leb bytes (length out) ≡ true)
+    both-room = and-eq-true-iff (leb (used + size) (length log)) (leb bytes (length out)) .0 (sym (t .told) ∙ not-false v h)
+
+    pub room-log : used + size ≤ length log
+    room-log = leb-true (used + size) (length log) (both-room .0)
+
+    pub room-out : bytes ≤ length out
+    room-out = leb-true bytes (length out) (both-room .1)
 
 module _ (edit : List ℕ) (r : ℕ) (log out : List ℕ) where
   stops : (x : Refusal) (k : ℕ) → number x ≡ suc k → acceptFault edit r log out ≡ suc k → Accepts edit r log out (written.Refused x) log out
@@ -97,22 +116,16 @@ module _ (edit : List ℕ) (r : ℕ) (log out : List ℕ) where
       size-is : size ≡ length (encode (moved .edit))
       size-is = ps ∙ size-of (moved .edit) cur (m .moved .holds)
 
-      pub accepts-short : length log - s .size < size → Accepts edit r log out (written.Refused Room) log out
-      accepts-short h =
-          stops Room 9 refl (left ∙ rw (m .moved .kept, lt-leb (sizeOfLog log + length (encode (moved .edit))) (length log) (omega (arith, size-is, a .found .size, h))))
+      module _ (v : Bool) (t : Rooms log (s .size) size out bytes v) where
+        tests : v ≡ (leb (sizeOfLog log + length (encode (moved .edit))) (length log) && leb (length (encodeAll (moved .counterparts))) (length out))
+        tests = t .told ∙ (λ i. leb (a .found .size i + size-is i) (length log) && leb (m .moved .bytes-are i) (length out))
 
-      module _ (h : size ≤ length log - s .size) where
-        fits-log : leb (sizeOfLog log + length (encode (moved .edit))) (length log) ≡ true
-        fits-log = le-leb (sizeOfLog log + length (encode (moved .edit))) (length log) (omega (arith, size-is, a .found .size, a .found .whole, h))
+        pub accepts-room : not v ≡ true → Accepts edit r log out (written.Refused Room) log out
+        accepts-room h = stops Room 9 refl (left ∙ rw (m .moved .kept, sym tests ∙ not-true v h))
 
-        pub accepts-narrow : length out < bytes → Accepts edit r log out (written.Refused Room) log out
-        accepts-narrow g =
-            stops Room 9 refl (left ∙ rw (m .moved .kept, fits-log, lt-leb (length (encodeAll (moved .counterparts))) (length out) (omega (arith, m .moved .bytes-are, g))))
-
-        module _ (g : bytes ≤ length out) where
+        module _ (h : not v ≡ false) where
           fault-none : acceptFault edit r log out ≡ 0
-          fault-none =
-              left ∙ rw (m .moved .kept, fits-log, le-leb (length (encodeAll (moved .counterparts))) (length out) (omega (arith, m .moved .bytes-are, g)))
+          fault-none = left ∙ rw (m .moved .kept, sym tests ∙ not-false v h)
 
           pub accepts-moved : (cur′ log′ out′ : List ℕ) → HandsOut (ops edit) vs out cur′ out′ → log′ ≡ append log (take size cur′) → Accepts edit r log out (written.Bytes size bytes) log′ out′
           unfolding acceptCall movedIn

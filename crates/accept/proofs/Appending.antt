@@ -58,7 +58,7 @@ module _ (edit : List ℕ) (b : Bytes edit) (z : recordFault edit ≡ 0) where
   module _ (r : ℕ) (log : List ℕ) (e : r ≡ countOf log) where
     pub newest-moved : MovedPast edit r log 0 edit
     unfolding rebase encodeAll
-    newest-moved = record { moved = subst (λ vs. Rebased (ops edit) vs 0 edit) (sym (revisions-end r log e)) (record { kept = refl; bytes-are = refl; small = omega arith; holds = edit-holds }) }
+    newest-moved = record { moved = subst (λ vs. Rebased (ops edit) vs 0 edit) (sym (revisions-end r log e)) (record { kept = refl; bytes-are = refl; holds = edit-holds }) }
 
     pub newest-hands : (out : List ℕ) → HandsOut (ops edit) (drop r (revisions log)) out edit out
     unfolding rebase encodeAll atFront

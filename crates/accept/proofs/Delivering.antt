@@ -1,22 +1,29 @@
 -- From the edit in its buffer, past the revisions of the log, to the answer.
-use Prim.Native.Nat.{ℕ, _-_, _≤_, _<_}
+use Prim.Native.Nat.{ℕ, _-_, _≤_}
 use native.Mathlib.Omega.{arith}
 use mathlib.Core.Path.{_≡_, refl, sym, ap, ap₂, _∙_, subst, subst₂}
+use mathlib.Core.Bool.{true≢false}
 use mathlib.Core.List.{List}
-use lib.ListN.{length, drop}
+use lib.ListN.{length, take, drop}
 use Rattle.operation.specs.declared.Refusal.{Refusal}
 use Rattle.operation.specs.declared.Refusal.the-variants.{Room}
 use Rattle.operation.specs.Layout.{sizeOf}
 use Rattle.operation.specs.Record.{Seq, ops, recordFault}
 use Rattle.operation.proofs.Fronts.{fault-size, fault-small}
+use Rattle.operational_transform.specs.Emit.{over}
+use Rattle.operational_transform.proofs.Over.{over-front}
+use Rattle.operational_transform.proofs.Outputs.{atFront-take}
+use Rattle.transform.specs.declared.WrittenPair.{WrittenPair}
 use Rattle.transform.specs.declared.WrittenPair.the-variants as written
 use Rattle.log.specs.declared.core.Scan.{Scan}
 use Rattle.log.specs.Log.{encodeAll, countOf, editsIn, revisions}
 use Rattle.session.specs.Rows.{rebase}
+use Rattle.accept.specs.declared.Tried.{Tried}
+use Rattle.accept.specs.declared.Tried.the-variants as tried
 use Rattle.accept.specs.declared.run.Run.{Run}
 use Rattle.accept.specs.declared.run.Run.the-variants as outcome
-use Rattle.accept.specs.Running.{Holds, Narrow, Rebased, Runs, Roomy, HandsOut}
-use Rattle.accept.specs.Accepting.{Admitted, MovedPast, Accepts}
+use Rattle.accept.specs.Running.{Holds, Runs, HandsOut}
+use Rattle.accept.specs.Accepting.{Admitted, MovedPast, Stored, Accepts, TriesTo, Tries}
 use Rattle.accept.proofs.Places.{edits-from}
 use Rattle.accept.proofs.Answering.{accepts-limit}
 
@@ -26,9 +33,6 @@ record-small r z = omega (arith, fault-size r refl refl refl, fault-small r refl
 pub lay-large : (edit : List ℕ) (r : ℕ) (log : List ℕ) (s : Scan) (cur : List ℕ) → Admitted edit r log s → 35848 ≤ length cur → sizeOf edit ≤ length cur
 lay-large edit r log s cur a h = omega (arith, record-small edit (a .fault), h)
 
-pub in-place : (size room place : ℕ) → place ≡ room → size ≤ room → size ≤ place
-in-place size room place e h = omega arith
-
 pub holds-own : (e : Seq) (cur : List ℕ) → Holds e cur → Holds (ops cur) cur
 holds-own e cur h = subst (λ s. Holds s cur) (sym (h .edit)) h
 
@@ -36,33 +40,63 @@ module _ (edit : List ℕ) (r : ℕ) (log : List ℕ) (s : Scan) (a : Admitted e
   edits : editsIn n (drop (s .at) log) ≡ drop r (revisions log)
   edits = edits-from log r s (a .found) (a .rev) n e
 
-  runs-edit : (room : ℕ) (x : Run) (cur′ : List ℕ) → Runs room (ops cur) (editsIn n (drop (s .at) log)) x cur′ → Runs room (ops edit) (drop r (revisions log)) x cur′
-  runs-edit room x cur′ q = subst₂ (λ u vs. Runs room u vs x cur′) (h .edit) edits q
+  module _ (slots room : ℕ) (x : Run) (cur′ parts parts′ : List ℕ) (q : Runs slots room (ops cur) (editsIn n (drop (s .at) log)) x cur′ parts parts′) where
+    runs-as : (y : Run) → x ≡ y → Runs slots room (ops edit) (drop r (revisions log)) y cur′ parts parts′
+    runs-as y p = subst (λ z. Runs slots room (ops edit) (drop r (revisions log)) z cur′ parts parts′) p (subst₂ (λ u vs. Runs slots room u vs x cur′ parts parts′) (h .edit) edits q)
 
-  pub past-moved : (room : ℕ) (x : Run) (cur′ : List ℕ) → Runs room (ops cur) (editsIn n (drop (s .at) log)) x cur′ → (bytes : ℕ) → x ≡ outcome.Kept bytes → MovedPast edit r log bytes cur′
-  past-moved room x cur′ q bytes p = record { moved = subst (λ y. Runs room (ops edit) (drop r (revisions log)) y cur′) p (runs-edit room x cur′ q) .runs .0 }
+    pub past-moved : (bytes : ℕ) → x ≡ outcome.Kept bytes → MovedPast edit r log bytes cur′
+    past-moved bytes p = record { moved = runs-as (outcome.Kept bytes) p .runs .0 }
 
-  pub past-narrow : (room place : ℕ) → place ≡ room → (x : Run) (cur′ : List ℕ) → Runs room (ops cur) (editsIn n (drop (s .at) log)) x cur′ → (bytes : ℕ) → x ≡ outcome.Kept bytes
-      → Narrow place (ops edit) (drop r (revisions log))
-  past-narrow room place w x cur′ q bytes p =
-      subst (λ k. Narrow k (ops edit) (drop r (revisions log))) (sym w) (subst (λ y. Runs room (ops edit) (drop r (revisions log)) y cur′) p (runs-edit room x cur′ q) .runs .1)
+    pub past-stored : (bytes : ℕ) → x ≡ outcome.Kept bytes → length parts′ ≡ length parts → Stored edit r log bytes parts′
+    past-stored bytes p l =
+        let (m, g) = runs-as (outcome.Kept bytes) p .runs in
+        record { stored = λ z. ap₂ take (m .bytes-are) (g (omega (arith, z, l))) ∙ atFront-take (encodeAll (rebase (ops edit) (drop r (revisions log)) .counterparts)) parts }
 
-  pub past-never : (room : ℕ) (x : Run) (cur′ : List ℕ) → Runs room (ops cur) (editsIn n (drop (s .at) log)) x cur′ → x ≡ outcome.Short → 35848 ≤ room → (out : List ℕ)
-      → Accepts edit r log out (written.Refused Room) log out
-  past-never room x cur′ q p w out = absurd (let z : room < 35848 = subst (λ y. Runs room (ops edit) (drop r (revisions log)) y cur′) p (runs-edit room x cur′ q) .runs in omega arith)
+    pub past-stops : (y : Refusal) → x ≡ outcome.Refused y → (out : List ℕ) → Accepts edit r log out (written.Refused y) log out
+    past-stops y p out =
+        let (l, k) = runs-as (outcome.Refused y) p .runs in
+        subst (λ z. Accepts edit r log out (written.Refused z) log out) (sym l) (accepts-limit edit r log out s a k)
 
-  pub narrow-own : (room place : ℕ) → place ≡ room → Narrow room (ops edit) (drop r (revisions log)) → Narrow place (ops cur) (editsIn n (drop (s .at) log))
-  narrow-own room place p w = subst (λ k. Narrow k (ops cur) (editsIn n (drop (s .at) log))) (sym p) (subst₂ (Narrow room) (sym (h .edit)) (sym edits) w)
+    -- long stages are never too short
+    module _ (few : 1024 ≡ slots) (wide : 35848 ≤ room) where
+      pub past-never : x ≡ outcome.Short → (out : List ℕ) → Accepts edit r log out (written.Refused Room) log out
+      past-never p out = absurd (runs-as outcome.Short p .runs (omega (arith, few)) (omega (arith, few, wide)))
 
-  pub past-stops : (room : ℕ) (x : Run) (cur′ : List ℕ) → Runs room (ops cur) (editsIn n (drop (s .at) log)) x cur′ → (y : Refusal) → x ≡ outcome.Refused y → (out : List ℕ)
-      → Accepts edit r log out (written.Refused y) log out
-  past-stops room x cur′ q y p out =
-      let (l, k) = subst (λ z. Runs room (ops edit) (drop r (revisions log)) z cur′) p (runs-edit room x cur′ q) .runs in
-      subst (λ z. Accepts edit r log out (written.Refused z) log out) (sym l) (accepts-limit edit r log out s a k)
+      -- the run once more, to a buffer in which the counterparts have room
+      pub past-again : (bytes : ℕ) (moved : List ℕ) → MovedPast edit r log bytes moved → bytes ≤ length parts → HandsOut (ops edit) (drop r (revisions log)) parts cur′ parts′
+      past-again bytes moved m g = go x refl
+        where
+          go : (y : Run) → x ≡ y → HandsOut (ops edit) (drop r (revisions log)) parts cur′ parts′
+          go (outcome.Kept b) p = let (k, w) = runs-as (outcome.Kept b) p .runs in record { holds = k .holds; given = w (omega (arith, m .moved .bytes-are, k .bytes-are, g)) }
+          go (outcome.Refused y) p = absurd (true≢false (sym (m .moved .kept) ∙ runs-as (outcome.Refused y) p .runs .1))
+          go outcome.Short p = absurd (runs-as outcome.Short p .runs (omega (arith, few)) (omega (arith, few, wide)))
 
-  pub roomy : (bytes : ℕ) (moved : List ℕ) → MovedPast edit r log bytes moved → (out : List ℕ) → bytes ≤ length out → Roomy (ops cur) (editsIn n (drop (s .at) log)) out
-  roomy bytes moved m out g =
-      subst₂ (λ u vs. Roomy u vs out) (sym (h .edit)) (sym edits) (record { kept = m .moved .kept; room = omega (arith, m .moved .bytes-are, g) })
+-- what stands in a buffer goes to the output
+pub hands : (edit : List ℕ) (r : ℕ) (log : List ℕ) (bytes : ℕ) (cur parts : List ℕ) → MovedPast edit r log bytes cur → Stored edit r log bytes parts → bytes ≤ length parts → (out out′ : List ℕ) → bytes ≤ length out
+    → out′ ≡ over 0 (take (bytes - 0) (drop 0 parts)) out → HandsOut (ops edit) (drop r (revisions log)) out cur out′
+hands edit r log bytes cur parts m g l out out′ h e =
+    let k : bytes - 0 ≡ bytes = omega arith in
+    let t : take (bytes - 0) (drop 0 parts) ≡ encodeAll (rebase (ops edit) (drop r (revisions log)) .counterparts) = ap (λ i. take i parts) k ∙ g .stored l in
+    record { holds = m .moved .holds; given = e ∙ ap (λ u. over 0 u out) t ∙ over-front (encodeAll (rebase (ops edit) (drop r (revisions log)) .counterparts)) out (omega (arith, m .moved .bytes-are, h)) }
 
-  pub hands : (out cur′ out′ : List ℕ) → HandsOut (ops cur) (editsIn n (drop (s .at) log)) out cur′ out′ → HandsOut (ops edit) (drop r (revisions log)) out cur′ out′
-  hands out cur′ out′ q = subst₂ (λ u vs. HandsOut u vs out cur′ out′) (h .edit) edits q
+-- ---- short buffers
+
+module _ (edit : List ℕ) (r : ℕ) (log out : List ℕ) (x : Tried) (log′ out′ : List ℕ) (q : Tries edit r log out x log′ out′) where
+  tries-as : (y : Tried) → x ≡ y → TriesTo edit r log out y log′ out′
+  tries-as y p = subst (λ z. Tries edit r log out z log′ out′) p q .tries
+
+  pub tried-bytes : (k l : ℕ) → x ≡ tried.Bytes k l → Accepts edit r log out (written.Bytes k l) log′ out′
+  tried-bytes k l p = tries-as (tried.Bytes k l) p
+
+  pub tried-refused : (y : Refusal) → x ≡ tried.Refused y → Accepts edit r log out (written.Refused y) log′ out′
+  tried-refused y p = tries-as (tried.Refused y) p
+
+  module _ (p : x ≡ tried.Short) where
+    pub short-admits : (s : Scan) → Admitted edit r log s → Admitted edit r log′ s
+    short-admits s a = subst (λ l. Admitted edit r l s) (sym (tries-as tried.Short p .0)) a
+
+    pub short-count : (n : ℕ) → n ≡ countOf log - r → n ≡ countOf log′ - r
+    short-count n e = e ∙ ap (λ l. countOf l - r) (sym (tries-as tried.Short p .0))
+
+    pub short-then : (y : WrittenPair) (log″ out″ : List ℕ) → Accepts edit r log′ out′ y log″ out″ → Accepts edit r log out y log″ out″
+    short-then y log″ out″ a = subst₂ (λ l o. Accepts edit r l o y log″ out″) (tries-as tried.Short p .0) (tries-as tried.Short p .1) a

@@ -1,8 +1,8 @@
 -- accept
 pub mod Passing
 pub mod Moving
-pub mod Sizing
-pub mod Handing
+pub mod Turning
+pub mod Stages
 pub mod Places
 pub mod Answering
 pub mod Appending

@@ -1,5 +1,5 @@
--- One transform: the edit's side takes the edit's place, the revision's side goes to the output.
-use Prim.Native.Nat.{ℕ, _+_, _-_, _≤_}
+-- Past one revision: the edit's side takes the edit's place, the revision's side goes behind the counterparts before it.
+use Prim.Native.Nat.{ℕ, _+_, _-_, _≤_, _<_}
 use native.Mathlib.Omega.{arith}
 use mathlib.Core.Path.{_≡_, sym, ap, ap₂, _∙_, subst}
 use mathlib.Core.Bool.{true}
@@ -8,27 +8,23 @@ use lib.Dec.{T}
 use lib.ListN.{length, take, drop, length-drop}
 use lib.Seq.{take-at, drop-length}
 use borrow.Rule.Slice.PartMut.{putMid}
-use Rattle.utf8.specs.Text.{Char}
 use Rattle.utf8.specs.Order.{order}
-use Rattle.utf8.proofs.Tests.{known, holds}
-use Rattle.operation.specs.Layout.{sizeOf}
+use Rattle.utf8.proofs.Tests.{known}
+use Rattle.operation.specs.Layout.{sizeOf, textStart}
 use Rattle.operation.specs.Record.{Seq, encode, fits}
 use Rattle.operation.proofs.Sequences.{Good, fits-limits}
-use Rattle.operation.proofs.Records.{encode-small, size-encode, ops-encode, fault-encode}
+use Rattle.operation.proofs.Records.{size-encode, ops-encode, fault-encode}
 use Rattle.operational_transform.specs.declared.core.Emitter.{Emitter}
 use Rattle.operational_transform.specs.Output.{atFront}
-use Rattle.operational_transform.specs.Transform.{Sides, keepBoth, transform}
-use Rattle.operational_transform.specs.Emit.{over, Sizes, Writes, within, sizeIn}
+use Rattle.operational_transform.specs.Transform.{keepBoth, transform}
+use Rattle.operational_transform.specs.Emit.{Sizes, Staged, within, sizeIn, headed, settled}
 use Rattle.operational_transform.proofs.Claims.{transform-built}
 use Rattle.operational_transform.proofs.Delivering.{sized-fits, sized-length, written-front}
-use Rattle.operational_transform.proofs.Over.{over-front}
-use Rattle.operational_transform.proofs.Outputs.{atFront-take}
+use Rattle.operational_transform.proofs.Staging.{staged-writes}
 use Rattle.transform.specs.declared.core.Pair.{Pair}
-use Rattle.transform.specs.Pairs.{SizedBoth}
-use Rattle.transform.proofs.Looping.{write-right}
 use Rattle.log.proofs.Scanning.{to-end}
 use Rattle.accept.specs.declared.run.Spot.{Spot}
-use Rattle.accept.specs.Running.{Holds, Fit, GoesOn}
+use Rattle.accept.specs.Running.{Holds, Ready, Keeps, GoesOn}
 
 pub within-fits : (s : Seq) (e : Emitter) → Sizes s e → within e ≡ true → T (fits s)
 within-fits s e d w = known (sym (sized-fits s e d) ∙ w)
@@ -40,50 +36,48 @@ front-holds s buffer g =
     let more = drop (length (encode s)) buffer in
     record { fault = fault-encode s more g; edit = ops-encode s more; bytes-are = take-at (encode s) more _ (sym (size-encode s more)) }
 
-module _ (x y : Seq) (p : Pair) (d : SizedBoth (transform order x y) p) (we : within (p .e) ≡ true) (z : ℕ) (pz : z ≡ sizeIn (p .e)) where
-  left-good : Good (transform order x y .left)
-  unfolding transform
-  left-good = record { is-built = transform-built keepBoth order x y .0; in-limits = within-fits _ (p .e) (d .left) we }
+-- ---- from a stage to a place
 
-  pub replaces : (next next′ cur cur′ : List ℕ) → sizeIn (p .e) ≤ length next → sizeIn (p .e) ≤ length cur
-      → Writes (p .e .records) (transform order x y .left) next next′ → cur′ ≡ over 0 (take (z - 0) (drop 0 next′)) cur → Holds (transform order x y .left) cur′
-  replaces next next′ cur cur′ room space wl e =
-      let s = transform order x y in
-      let fl = within-fits _ (p .e) (d .left) we in
-      let n : next′ ≡ atFront (encode (s .left)) next = written-front (s .left) _ next (wl .emitter) (wl .before) next′ (fits-limits (s .left) .0 fl) (omega (arith, sized-length (s .left) (p .e) (d .left), room)) (wl .done) (d .left .records) (wl .is) in
-      let l : z - 0 ≡ length (encode (s .left)) = omega (arith, pz ∙ sized-length (s .left) (p .e) (d .left)) in
-      let t : take (z - 0) (drop 0 next′) ≡ encode (s .left) = ap₂ take l n ∙ atFront-take (encode (s .left)) next in
-      let c : cur′ ≡ atFront (encode (s .left)) cur = e ∙ ap (λ u. over 0 u cur) t ∙ over-front (encode (s .left)) cur (omega (arith, sized-length (s .left) (p .e) (d .left), space)) in
-      subst (Holds (s .left)) (sym c) (front-holds (s .left) cur left-good)
+pub places : (slots : ℕ) (e : Emitter) (stage out o₁ o₂ : List ℕ) → o₁ ≡ settled slots (e .records) (e .text) stage out → o₂ ≡ headed e o₁ → o₂ ≡ headed e (settled slots (e .records) (e .text) stage out)
+places slots e stage out o₁ o₂ p q = q ∙ ap (headed e) p
 
--- both sides, sized
-pub goes-on : (x y : Seq) (p : Pair) → SizedBoth (transform order x y) p → (rec : List ℕ) (spot : Spot) (size z : ℕ) → size ≡ sizeOf rec → z ≡ sizeIn (p .f) → (cur′ : List ℕ)
-    → Holds (transform order x y .left) cur′ → GoesOn (transform order x y) rec spot (record { at = spot .at + size; bytes = spot .bytes + z }) cur′
-goes-on x y p d rec spot size z ps pz cur′ h =
-    record { holds = h; at-is = ap (λ k. spot .at + k) ps; bytes-are = ap (λ k. spot .bytes + k) (pz ∙ sized-length (transform order x y .right) (p .f) (d .right)) }
+module _ (slots : ℕ) (s : Seq) (e : Emitter) (stage : List ℕ) (g : Staged slots s e stage) (few : e .records ≤ slots) (room : textStart slots + e .text ≤ length stage) (f : T (fits s)) where
+  staged-front : (out out′ : List ℕ) → sizeIn e ≤ length out → out′ ≡ headed e (settled slots (e .records) (e .text) stage out) → out′ ≡ atFront (encode s) out
+  staged-front out out′ space p =
+      let w = staged-writes slots s e stage out out′ g few room p in
+      let z = g .done .sizes in
+      written-front s (e .records) out (w .emitter) (w .before) out′ (fits-limits s .0 f) (omega (arith, sized-length s e z, space)) (w .done) (z .records) (w .is)
 
--- ---- both sides are known to keep the limits
+module _ (slots : ℕ) (f : Emitter) (side : List ℕ) (from to : ℕ) (parts : List ℕ) where
+  -- what goes to a part of a buffer goes to the buffer
+  pub keeps-part : (sub′ : List ℕ) → to ≡ from + sizeIn f → f .records ≤ slots → textStart slots + f .text ≤ length side → to ≤ length parts
+      → sub′ ≡ headed f (settled slots (f .records) (f .text) side (take (length parts - from) (drop from parts))) → Keeps slots f side from to parts (putMid from (length parts - from) parts sub′)
+  keeps-part sub′ pt few room h q = record {
+    keeps = λ s g fit _.
+        let e = to-end parts from in
+        let n : sub′ ≡ atFront (encode s) (drop from parts) =
+        staged-front slots s f side g few room fit (take (length parts - from) (drop from parts)) sub′ (rw e (omega (arith, h, pt, length-drop from parts))) q ∙ ap (atFront (encode s)) e in
+        let z : drop (length parts - from) (drop from parts) ≡ [] = ap (λ k. drop k (drop from parts)) (sym (length-drop from parts)) ∙ drop-length (drop from parts) in
+        ap (λ x. take from parts ++ x) (ap₂ _++_ n z ∙ append-nil (atFront (encode s) (drop from parts)));
+  }
 
-module _ (x y : Seq) (p : Pair) (d : SizedBoth (transform order x y) p) where
-  pub fit-left : Fit (transform order x y) → within (p .e) ≡ true
-  fit-left f = sized-fits _ (p .e) (d .left) ∙ holds _ (f .left)
+  pub keeps-none : length parts < to → Keeps slots f side from to parts parts
+  keeps-none h = record { keeps = λ s g fit k. absurd (omega (arith, h, k)) }
 
-  pub hand-wide : (room : ℕ) → length (encode (transform order x y .left)) ≤ room → sizeIn (p .e) ≤ room
-  hand-wide room h = omega (arith, sized-length (transform order x y .left) (p .e) (d .left), h)
+left-good : (x y : Seq) → T (fits (transform order x y .left)) → Good (transform order x y .left)
+unfolding transform
+left-good x y f = record { is-built = transform-built keepBoth order x y .0; in-limits = f }
 
-  pub hand-bytes : (z : ℕ) → z ≡ sizeIn (p .f) → z ≡ length (encode (transform order x y .right))
-  hand-bytes z e = e ∙ sized-length (transform order x y .right) (p .f) (d .right)
-
--- what goes to a part of the output goes to the output
-pub hand-part : (x y : Seq) (p : Pair) → SizedBoth (transform order x y) p → Fit (transform order x y) → (out : List ℕ) (from : ℕ) (sub′ : List ℕ) → from + length (encode (transform order x y .right)) ≤ length out
-    → Writes (p .f .records) (transform order y x .left) (take (length out - from) (drop from out)) sub′
-    → putMid from (length out - from) out sub′ ≡ take from out ++ atFront (encode (transform order x y .right)) (drop from out)
-hand-part x y p d f out from sub′ h w =
+pub goes-on : (slots : ℕ) (x y : Seq) (p : Pair) (cur next side : List ℕ) → length next ≡ length cur → length side ≡ length cur → Ready slots (transform order x y) p (length cur) next side → (rec : List ℕ) (spot : Spot) (size z : ℕ) → size ≡ sizeOf rec → z ≡ sizeIn (p .f)
+    → (cur′ : List ℕ) → cur′ ≡ headed (p .e) (settled slots (p .e .records) (p .e .text) next cur) → (parts parts′ : List ℕ) → Keeps slots (p .f) side (spot .bytes) (spot .bytes + z) parts parts′
+    → GoesOn (transform order x y) rec spot (record { at = spot .at + size; bytes = spot .bytes + z }) cur′ parts parts′
+goes-on slots x y p cur next side ln ls r rec spot size z ps pz cur′ pc parts parts′ k =
     let s = transform order x y in
-    let e = to-end out from in
-    let r = write-right (p .f .records) x y (take (length out - from) (drop from out)) sub′ w in
-    let n : sub′ ≡ atFront (encode (s .right)) (drop from out) =
-    written-front (s .right) _ (take (length out - from) (drop from out)) (r .emitter) (r .before) sub′ (fits-limits (s .right) .0 (f .right)) (rw e (omega (arith, h, length-drop from out))) (r .done) (d .right .records) (r .is)
-    ∙ ap (atFront (encode (s .right))) e in
-    let z : drop (length out - from) (drop from out) ≡ [] = ap (λ k. drop k (drop from out)) (sym (length-drop from out)) ∙ drop-length (drop from out) in
-    ap (λ x. take from out ++ x) (ap₂ _++_ n z ∙ append-nil (atFront (encode (s .right)) (drop from out)))
+    let g = r .staged in
+    let c : cur′ ≡ atFront (encode (s .left)) cur = staged-front slots (s .left) (p .e) next (g .left) (r .few-left) (omega (arith, r .room-left, ln)) (r .fit .left) cur cur′ (omega (arith, r .few-left, r .room-left)) pc in
+    record {
+      holds = subst (Holds (s .left)) (sym c) (front-holds (s .left) cur (left-good x y (r .fit .left)));
+      at-is = ap (λ k. spot .at + k) ps;
+      bytes-are = ap (λ k. spot .bytes + k) (pz ∙ sized-length (s .right) (p .f) (g .right .done .sizes));
+      given = k .keeps (s .right) (g .right) (r .fit .right);
+    }

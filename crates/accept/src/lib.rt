@@ -6,18 +6,29 @@ use operation::Refusal;
 use transform::WrittenPair;
 ghost use mathlib.Core.Path.{_≡_};
 ghost use Prim.Native.Nat.{_+_, _-_, _^_, _≤_};
-ghost use lib.ListN.{length, take, drop};
+ghost use lib.ListN.{length, take};
 ghost use Rattle.operation.specs.Record.{ops, recordFault};
 ghost use Rattle.operation.specs.Layout.{sizeOf};
 ghost use Rattle.transform.specs.Pairs.{pairOf};
-ghost use Rattle.log.specs.Log.{countOf, sizeOfLog, revisions};
+ghost use Rattle.log.specs.Log.{countOf, sizeOfLog};
 ghost use Rattle.log.specs.Scan.{Found};
 ghost use Rattle.session.specs.Session.{acceptCall};
 ghost use Rattle.session.specs.Session.{append as appended};
-ghost use Rattle.accept.specs.Running.{Holds, Narrow};
-ghost use Rattle.accept.specs.Accepting.{Admitted, Accepts, MovedPast};
+ghost use Rattle.accept.specs.Running.{Holds};
+ghost use Rattle.accept.specs.Accepting.{Admitted, Rooms, Accepts, MovedPast, Stored, Tries};
 
 mod run;
+
+// Whether the log, of which `used` bytes are taken, has room for `size` more, and the output for the counterparts.
+fn has_room(log: &[u8], used: usize, size: usize, out: &[u8], bytes: usize) -> bool
+    requires { ⌜ used ≤ length (now log) ⌝ }
+    ensures { λ r. ⌜ Rooms (now (log .entry)) used size (now (out .entry)) bytes r ⌝ }
+{
+    if log.len() - used < size {
+        return false;
+    }
+    bytes <= out.len()
+}
 
 // A record of `size` bytes behind the log's contents, and one revision more.
 fn append(log: &mut [u8], s: Scan, rec: &[u8], size: usize)
@@ -34,7 +45,7 @@ fn newest(edit: &[u8], r: u64, log: &mut [u8], s: Scan, out: &mut [u8]) -> Writt
     ensures { λ x. ⌜ Accepts (now (edit .entry)) r (now (log .entry)) (now (out .entry)) x (now (log .exit)) (now (out .exit)) ⌝ }
 {
     let size = operation::core::size(edit);
-    if log.len() - s.size < size {
+    if !has_room(log, s.size, size, out, 0) {
         return WrittenPair::Refused(Refusal::Room);
     }
     append(log, s, edit, size);
@@ -50,36 +61,96 @@ fn lay(cur: &mut [u8], edit: &[u8])
     operational_transform::core::copy(cur, 0, edit, 0, size);
 }
 
-// What came out of the run goes into the log, the counterparts to the output, if both have room.
+// What came of a run in short buffers: an answer, or nothing yet, since they were too short.
+enum Tried {
+    Bytes(usize, usize),
+    Refused(Refusal),
+    Short,
+}
+
+// What came out of the run goes into the log, the counterparts to the output.
 fn deliver(
     edit: &[u8],
     r: u64,
     log: &mut [u8],
     s: Scan,
+    out: &mut [u8],
+    cur: &[u8],
+    parts: &[u8],
+    bytes: usize,
+) -> Tried
+    requires { ⌜ Admitted (now edit) r (now log) s × MovedPast (now edit) r (now log) bytes (now cur) × Stored (now edit) r (now log) bytes (now parts) ⌝ }
+    ensures { λ x. ⌜ Tries (now (edit .entry)) r (now (log .entry)) (now (out .entry)) x (now (log .exit)) (now (out .exit)) ⌝ }
+{
+    let size = operation::core::size(cur);
+    if !has_room(log, s.size, size, out, bytes) {
+        return Tried::Refused(Refusal::Room);
+    }
+    if parts.len() < bytes {
+        return Tried::Short;
+    }
+    operational_transform::core::copy(out, 0, parts, 0, bytes);
+    append(log, s, cur, size);
+    Tried::Bytes(size, bytes)
+}
+
+// In buffers of any length: one run, which keeps the counterparts, too.
+fn short(
+    edit: &[u8],
+    r: u64,
+    log: &mut [u8],
+    s: Scan,
     n: usize,
     out: &mut [u8],
     cur: &mut [u8],
     next: &mut [u8],
+    side: &mut [u8],
+    parts: &mut [u8],
+    slots: usize,
+) -> Tried
+    requires { ⌜ Admitted (now edit) r (now log) s × (n ≡ countOf (now log) - r) × (length (now next) ≡ length (now cur)) × (length (now side) ≡ length (now cur)) × (slots ≤ 1024) ⌝ }
+    ensures { λ x. ⌜ Tries (now (edit .entry)) r (now (log .entry)) (now (out .entry)) x (now (log .exit)) (now (out .exit)) ⌝ }
+{
+    let size = operation::core::size(edit);
+    if cur.len() < size {
+        return Tried::Short;
+    }
+    lay(cur, edit);
+    match run::rebase(log, s.at, n, cur, next, side, parts, slots) {
+        run::Run::Refused(x) => Tried::Refused(x),
+        run::Run::Kept(bytes) => deliver(edit, r, log, s, out, cur, parts, bytes),
+        run::Run::Short => Tried::Short,
+    }
+}
+
+// The run once more, now that all is decided: the counterparts go to the output.
+fn again(
+    edit: &[u8],
+    r: u64,
+    log: &mut [u8],
+    s: Scan,
+    n: usize,
+    out: &mut [u8],
+    cur: &mut [u8],
+    next: &mut [u8],
+    side: &mut [u8],
     bytes: usize,
 ) -> WrittenPair
-    requires { ⌜ Admitted (now edit) r (now log) s × (n ≡ countOf (now log) - r) × (sizeOf (now edit) ≤ length (now cur)) × (length (now next) ≡ length (now cur)) × MovedPast (now edit) r (now log) bytes (now cur) × Narrow (length (now cur)) (ops (now edit)) (drop r (revisions (now log))) ⌝ }
+    requires { ⌜ Admitted (now edit) r (now log) s × (n ≡ countOf (now log) - r) × (35848 ≤ length (now cur)) × (length (now next) ≡ length (now cur)) × (length (now side) ≡ length (now cur)) × MovedPast (now edit) r (now log) bytes (now cur) ⌝ }
     ensures { λ x. ⌜ Accepts (now (edit .entry)) r (now (log .entry)) (now (out .entry)) x (now (log .exit)) (now (out .exit)) ⌝ }
 {
     let size = operation::core::size(cur);
-    if log.len() - s.size < size {
-        return WrittenPair::Refused(Refusal::Room);
-    }
-    if out.len() < bytes {
+    if !has_room(log, s.size, size, out, bytes) {
         return WrittenPair::Refused(Refusal::Room);
     }
     lay(cur, edit);
-    run::hand_out(log, s.at, n, cur, next, out);
+    run::rebase(log, s.at, n, cur, next, side, out, 1024);
     append(log, s, cur, size);
     WrittenPair::Bytes(size, bytes)
 }
 
-// In buffers of any length.
-fn small(
+// In buffers in which every record has a place: the first run keeps no counterparts.
+fn long(
     edit: &[u8],
     r: u64,
     log: &mut [u8],
@@ -88,40 +159,16 @@ fn small(
     out: &mut [u8],
     cur: &mut [u8],
     next: &mut [u8],
+    side: &mut [u8],
 ) -> WrittenPair
-    requires { ⌜ Admitted (now edit) r (now log) s × (n ≡ countOf (now log) - r) × (length (now next) ≡ length (now cur)) ⌝ }
+    requires { ⌜ Admitted (now edit) r (now log) s × (n ≡ countOf (now log) - r) × (35848 ≤ length (now cur)) × (length (now next) ≡ length (now cur)) × (length (now side) ≡ length (now cur)) ⌝ }
     ensures { λ x. ⌜ Accepts (now (edit .entry)) r (now (log .entry)) (now (out .entry)) x (now (log .exit)) (now (out .exit)) ⌝ }
 {
-    let size = operation::core::size(edit);
-    if cur.len() < size {
-        return large(edit, r, log, s, n, out);
-    }
+    let mut none = [0u8; 0];
     lay(cur, edit);
-    match run::rebase(log, s.at, n, cur, next) {
+    match run::rebase(log, s.at, n, cur, next, side, &mut none, 1024) {
         run::Run::Refused(x) => WrittenPair::Refused(x),
-        run::Run::Kept(bytes) => deliver(edit, r, log, s, n, out, cur, next, bytes),
-        run::Run::Short => large(edit, r, log, s, n, out),
-    }
-}
-
-// In buffers in which every record has a place.
-fn past(
-    edit: &[u8],
-    r: u64,
-    log: &mut [u8],
-    s: Scan,
-    n: usize,
-    out: &mut [u8],
-    cur: &mut [u8],
-    next: &mut [u8],
-) -> WrittenPair
-    requires { ⌜ Admitted (now edit) r (now log) s × (n ≡ countOf (now log) - r) × (35848 ≤ length (now cur)) × (length (now next) ≡ length (now cur)) ⌝ }
-    ensures { λ x. ⌜ Accepts (now (edit .entry)) r (now (log .entry)) (now (out .entry)) x (now (log .exit)) (now (out .exit)) ⌝ }
-{
-    lay(cur, edit);
-    match run::rebase(log, s.at, n, cur, next) {
-        run::Run::Refused(x) => WrittenPair::Refused(x),
-        run::Run::Kept(bytes) => deliver(edit, r, log, s, n, out, cur, next, bytes),
+        run::Run::Kept(bytes) => again(edit, r, log, s, n, out, cur, next, side, bytes),
         // never: every record has a place
         run::Run::Short => WrittenPair::Refused(Refusal::Room),
     }
@@ -133,7 +180,62 @@ fn large(edit: &[u8], r: u64, log: &mut [u8], s: Scan, n: usize, out: &mut [u8])
 {
     let mut cur = [0u8; 35848];
     let mut next = [0u8; 35848];
-    past(edit, r, log, s, n, out, &mut cur, &mut next)
+    let mut side = [0u8; 35848];
+    long(edit, r, log, s, n, out, &mut cur, &mut next, &mut side)
+}
+
+fn medium(edit: &[u8], r: u64, log: &mut [u8], s: Scan, n: usize, out: &mut [u8]) -> WrittenPair
+    requires { ⌜ Admitted (now edit) r (now log) s × (n ≡ countOf (now log) - r) ⌝ }
+    ensures { λ x. ⌜ Accepts (now (edit .entry)) r (now (log .entry)) (now (out .entry)) x (now (log .exit)) (now (out .exit)) ⌝ }
+{
+    let mut cur = [0u8; 1024];
+    let mut next = [0u8; 1024];
+    let mut side = [0u8; 1024];
+    let mut parts = [0u8; 8192];
+    match short(
+        edit,
+        r,
+        log,
+        s,
+        n,
+        out,
+        &mut cur,
+        &mut next,
+        &mut side,
+        &mut parts,
+        128,
+    ) {
+        Tried::Bytes(k, l) => WrittenPair::Bytes(k, l),
+        Tried::Refused(x) => WrittenPair::Refused(x),
+        Tried::Short => large(edit, r, log, s, n, out),
+    }
+}
+
+fn small(edit: &[u8], r: u64, log: &mut [u8], s: Scan, n: usize, out: &mut [u8]) -> WrittenPair
+    requires { ⌜ Admitted (now edit) r (now log) s × (n ≡ countOf (now log) - r) ⌝ }
+    ensures { λ x. ⌜ Accepts (now (edit .entry)) r (now (log .entry)) (now (out .entry)) x (now (log .exit)) (now (out .exit)) ⌝ }
+{
+    let mut cur = [0u8; 256];
+    let mut next = [0u8; 256];
+    let mut side = [0u8; 256];
+    let mut parts = [0u8; 512];
+    match short(
+        edit,
+        r,
+        log,
+        s,
+        n,
+        out,
+        &mut cur,
+        &mut next,
+        &mut side,
+        &mut parts,
+        32,
+    ) {
+        Tried::Bytes(k, l) => WrittenPair::Bytes(k, l),
+        Tried::Refused(x) => WrittenPair::Refused(x),
+        Tried::Short => large(edit, r, log, s, n, out),
+    }
 }
 
 // Past n revisions that came meanwhile. Nearly all edits have a place in short buffers, which cost little to clear.
@@ -141,9 +243,14 @@ fn late(edit: &[u8], r: u64, log: &mut [u8], s: Scan, n: usize, out: &mut [u8]) 
     requires { ⌜ Admitted (now edit) r (now log) s × (n ≡ countOf (now log) - r) ⌝ }
     ensures { λ x. ⌜ Accepts (now (edit .entry)) r (now (log .entry)) (now (out .entry)) x (now (log .exit)) (now (out .exit)) ⌝ }
 {
-    let mut cur = [0u8; 1024];
-    let mut next = [0u8; 1024];
-    small(edit, r, log, s, n, out, &mut cur, &mut next)
+    let size = operation::core::size(edit);
+    if 16 < n {
+        return medium(edit, r, log, s, n, out);
+    }
+    if 128 < size {
+        return medium(edit, r, log, s, n, out);
+    }
+    small(edit, r, log, s, n, out)
 }
 
 // Into a log that can be read.

@@ -1,117 +1,192 @@
-// An edit is moved past revisions. It stands in a buffer, and what it becomes is written to another, of as many bytes.
+// An edit is moved past revisions. It stands in a buffer; what it and a revision become is written to two stages, by one run over both,
+// and goes from there to its place.
 use operation::Refusal;
 use operation::core::Front;
 use operational_transform::core::Emitter;
 use transform::core::Pair;
-use turns::core::State;
 use turns::core::Turn;
 ghost use mathlib.Core.Path.{_≡_};
 ghost use mathlib.Core.Bool.{true, _&&_};
-ghost use mathlib.Core.List.{[], _++_};
 ghost use Prim.Native.Nat.{_+_, _^_, _≤_, _<_};
-ghost use lib.Dec.{leb};
-ghost use lib.ListN.{length, take, drop};
+ghost use lib.ListN.{length, drop};
 ghost use Rattle.utf8.specs.Order.{order};
-ghost use Rattle.operation.specs.Layout.{recordsOf};
-ghost use Rattle.operation.specs.Op.{cut};
-ghost use Rattle.operation.specs.Record.{encode, ops, recordFault};
-ghost use Rattle.operation.specs.Front.{frontOp, Stands, Cut};
-ghost use Rattle.operational_transform.specs.Transform.{transformTurn, past, keepBoth, lefts};
+ghost use Rattle.operation.specs.Layout.{recordsOf, textStart};
+ghost use Rattle.operation.specs.Record.{ops, recordFault};
+ghost use Rattle.operation.specs.Front.{Stands, Cut};
+ghost use Rattle.operational_transform.specs.Transform.{transformTurn};
 ghost use Rattle.operational_transform.specs.Transform.{transform as transformOf};
-ghost use Rattle.operational_transform.specs.Emit.{Under, Adds, within, sizeIn};
-ghost use Rattle.operational_transform.specs.Output.{atFront};
-ghost use Rattle.turns.specs.Turns.{liveIs, Chooses, Went};
-ghost use Rattle.transform.specs.Sides.{FirstWent, BothWent};
-ghost use Rattle.transform.specs.Pairs.{SizedBoth};
+ghost use Rattle.operational_transform.specs.Emit.{Under, Finishes, within, sizeIn, headed, settled};
+ghost use Rattle.turns.specs.Turns.{liveIs, Chooses};
 ghost use Rattle.log.specs.Log.{editsIn};
-ghost use Rattle.accept.specs.Running.{Lie, Holds, Narrow, Fit, EndsWith, GoesOn, Runs, Roomy, HandsOut};
+ghost use Rattle.accept.specs.Running.{Lie, Holds, BegunBoth, FirstBoth, SecondBoth, Meets, TogetherBoth, WentBoth, placed, Ready, Keeps, GoesOn, Runs};
 
-// How many bytes the counterparts have, or why the run ended: a refusal, or buffers that are too short for what the edit becomes.
+// How many bytes the counterparts have, or why the run ended: a refusal, or stages that are too short for what is written.
 pub(crate) enum Run {
     Kept(usize),
     Refused(Refusal),
     Short,
 }
 
-// What the edit becomes past a revision takes its place.
-fn replace(cur: &mut [u8], na: usize, rec: &[u8], nb: usize, next: &mut [u8], p: Pair)
-    requires { ⌜ (na ≡ recordsOf (now cur)) × (na ≤ 1024) × (nb ≡ recordsOf (now rec)) × (nb ≤ 1024) × (recordFault (now cur) ≡ 0) × (recordFault (now rec) ≡ 0) × (sizeIn (p .e) ≤ length (now cur)) × (sizeIn (p .e) ≤ length (now next)) × SizedBoth (transformOf order (ops (now cur)) (ops (now rec))) p × (within (p .e) ≡ true) ⌝ }
-    ensures { λ _. ⌜ Holds (transformOf order (ops (now (cur .entry))) (ops (now (rec .entry))) .left) (now (cur .exit)) ⌝ }
-{
-    let e = p.e;
-    transform::core::write_side(cur, na, rec, nb, next, e.records);
-    let len = operational_transform::core::size(e);
-    operational_transform::core::copy(cur, 0, next, 0, len);
+// On the way past a revision: the edit's front record and the revision's, what was emitted of the edit's side, and of the counterpart.
+pub(crate) struct Both {
+    pub x: Front,
+    pub y: Front,
+    pub e: Emitter,
+    pub f: Emitter,
 }
 
-// The edit's operation goes by itself. Here and in the next three functions numbers are taken and nothing is written.
-fn first(cur: &[u8], na: usize, s: State) -> State
-    requires { ⌜ (na ≡ recordsOf (now cur)) × Under (2 ^ 38) (s .e) × Stands (now cur) (s .x) × (0 < s .x .kind) ⌝ }
-    ensures { λ r. ⌜ FirstWent 0 (now (cur .entry)) s [] r [] ⌝ }
+fn begin(cur: &[u8], na: usize, rec: &[u8], nb: usize) -> Both
+    requires { ⌜ (na ≡ recordsOf (now cur)) × (na ≤ 1024) × (nb ≡ recordsOf (now rec)) × (nb ≤ 1024) × (recordFault (now cur) ≡ 0) × (recordFault (now rec) ≡ 0) ⌝ }
+    ensures { λ r. ⌜ BegunBoth (now (cur .entry)) (now (rec .entry)) r ⌝ }
 {
+    let s = turns::core::begin(cur, na, rec, nb);
+    let f = operational_transform::core::start();
     let x = s.x;
     let y = s.y;
     let e = s.e;
+    Both { x, y, e, f }
+}
+
+fn goes_on(b: Both) -> bool
+    ensures { λ r. ⌜ r ≡ liveIs (b .x) (b .y) ⌝ }
+{
+    let x = b.x;
+    let y = b.y;
+    turns::core::live(x, y)
+}
+
+// The edit's operation goes by itself: the counterpart retains what it gives.
+fn first(cur: &[u8], na: usize, next: &mut [u8], slots: usize, b: Both) -> Both
+    requires { ⌜ (na ≡ recordsOf (now cur)) × (slots ≤ 2 ^ 40) × Under (2 ^ 38) (b .e) × Under (2 ^ 38) (b .f) × Stands (now cur) (b .x) × (0 < b .x .kind) ⌝ }
+    ensures { λ r. ⌜ FirstBoth slots (now (cur .entry)) b (now (next .entry)) r (now (next .exit)) ⌝ }
+{
+    let x = b.x;
+    let y = b.y;
+    let d = b.e;
+    let h = b.f;
     let k = x.left;
     let to = x.to;
-    let f = operational_transform::core::tally(cur, e, x, k, to);
+    let e = operational_transform::core::part(next, slots, d, cur, x, k, to);
+    let f = operational_transform::core::retain(h, transform::core::gives(x));
     let g = operation::core::rest(cur, na, x, k, to);
-    State { x: g, y, e: f }
+    Both { x: g, y, e, f }
 }
 
-fn stays(cur: &[u8], rec: &[u8], e: Emitter, x: Front, y: Front, k: usize) -> Emitter
-    requires { ⌜ Under (2 ^ 38) e × Stands (now cur) x × Stands (now rec) y × (0 < k) × (k ≤ x .left) × (k ≤ y .left) × Cut (now cur) x k (x .to) × Cut (now rec) y k (y .to) ⌝ }
-    ensures { λ r. ⌜ Adds 0 (past keepBoth (cut k (frontOp (now (rec .entry)) y)) (cut k (frontOp (now (cur .entry)) x))) e [] r [] ⌝ }
+// The revision's.
+fn second(rec: &[u8], nb: usize, side: &mut [u8], slots: usize, b: Both) -> Both
+    requires { ⌜ (nb ≡ recordsOf (now rec)) × (slots ≤ 2 ^ 40) × Under (2 ^ 38) (b .e) × Under (2 ^ 38) (b .f) × Stands (now rec) (b .y) × (0 < b .y .kind) ⌝ }
+    ensures { λ r. ⌜ SecondBoth slots (now (rec .entry)) b (now (side .entry)) r (now (side .exit)) ⌝ }
 {
-    if y.kind == 1 {
-        return operational_transform::core::tally(cur, e, x, k, x.to);
-    }
-    if y.kind == 2 {
-        let d = operational_transform::core::tally(rec, e, y, k, y.to);
-        return operational_transform::core::retain(d, k);
-    }
-    e
+    let x = b.x;
+    let y = b.y;
+    let d = b.e;
+    let h = b.f;
+    let k = y.left;
+    let to = y.to;
+    let e = operational_transform::core::retain(d, transform::core::gives(y));
+    let f = operational_transform::core::part(side, slots, h, rec, y, k, to);
+    let g = operation::core::rest(rec, nb, y, k, to);
+    Both { x, y: g, e, f }
 }
 
-fn together(cur: &[u8], na: usize, rec: &[u8], nb: usize, s: State) -> State
-    requires { ⌜ (na ≡ recordsOf (now cur)) × (nb ≡ recordsOf (now rec)) × Under (2 ^ 38) (s .e) × Stands (now cur) (s .x) × Stands (now rec) (s .y) × Chooses (transformTurn order) (now cur) (now rec) (s .x) (s .y) Turn.Together ⌝ }
-    ensures { λ r. ⌜ BothWent 0 (now (cur .entry)) (now (rec .entry)) s [] r [] ⌝ }
+// What stays of k characters of both. Equal inserts are both kept; what either deletes, the other has no more.
+fn meet(
+    cur: &[u8],
+    rec: &[u8],
+    next: &mut [u8],
+    side: &mut [u8],
+    slots: usize,
+    b: Both,
+    k: usize,
+) -> Pair
+    requires { ⌜ (slots ≤ 2 ^ 40) × Under (2 ^ 38) (b .e) × Under (2 ^ 38) (b .f) × Stands (now cur) (b .x) × Stands (now rec) (b .y) × (0 < k) × (k ≤ b .x .left) × (k ≤ b .y .left) × Cut (now cur) (b .x) k (b .x .to) × Cut (now rec) (b .y) k (b .y .to) × Chooses (transformTurn order) (now cur) (now rec) (b .x) (b .y) Turn.Together ⌝ }
+    ensures { λ r. ⌜ Meets slots (now (cur .entry)) (now (rec .entry)) b k (now (next .entry)) (now (side .entry)) r (now (next .exit)) (now (side .exit)) ⌝ }
 {
-    let x = s.x;
-    let y = s.y;
-    let e = s.e;
-    let k = operational_transform::core::lesser(x.left, y.left);
+    let x = b.x;
+    let y = b.y;
+    let e = b.e;
+    let f = b.f;
     let i = x.to;
     let j = y.to;
-    let f = stays(cur, rec, e, x, y, k);
-    let g = operation::core::rest(cur, na, x, k, i);
-    let h = operation::core::rest(rec, nb, y, k, j);
-    State { x: g, y: h, e: f }
+    if y.kind == 2 {
+        let d = operational_transform::core::part(next, slots, e, rec, y, k, j);
+        let h = operational_transform::core::part(side, slots, f, cur, x, k, i);
+        let d = operational_transform::core::retain(d, k);
+        let h = operational_transform::core::retain(h, k);
+        return Pair { e: d, f: h };
+    }
+    if y.kind == 1 {
+        let d = operational_transform::core::part(next, slots, e, cur, x, k, i);
+        if x.kind == 1 {
+            let h = operational_transform::core::part(side, slots, f, rec, y, k, j);
+            return Pair { e: d, f: h };
+        }
+        return Pair { e: d, f };
+    }
+    if x.kind == 1 {
+        let h = operational_transform::core::part(side, slots, f, rec, y, k, j);
+        return Pair { e, f: h };
+    }
+    Pair { e, f }
+}
+
+// As many characters of both.
+fn together(
+    cur: &[u8],
+    na: usize,
+    rec: &[u8],
+    nb: usize,
+    next: &mut [u8],
+    side: &mut [u8],
+    slots: usize,
+    b: Both,
+) -> Both
+    requires { ⌜ (na ≡ recordsOf (now cur)) × (nb ≡ recordsOf (now rec)) × (slots ≤ 2 ^ 40) × Under (2 ^ 38) (b .e) × Under (2 ^ 38) (b .f) × Stands (now cur) (b .x) × Stands (now rec) (b .y) × Chooses (transformTurn order) (now cur) (now rec) (b .x) (b .y) Turn.Together ⌝ }
+    ensures { λ r. ⌜ TogetherBoth slots (now (cur .entry)) (now (rec .entry)) b (now (next .entry)) (now (side .entry)) r (now (next .exit)) (now (side .exit)) ⌝ }
+{
+    let x = b.x;
+    let y = b.y;
+    let k = operational_transform::core::lesser(x.left, y.left);
+    let p = meet(cur, rec, next, side, slots, b, k);
+    let e = p.e;
+    let f = p.f;
+    let g = operation::core::rest(cur, na, x, k, x.to);
+    let h = operation::core::rest(rec, nb, y, k, y.to);
+    Both { x: g, y: h, e, f }
 }
 
 // A step over the front records.
-fn turn(cur: &[u8], na: usize, rec: &[u8], nb: usize, s: State) -> State
-    requires { ⌜ (na ≡ recordsOf (now cur)) × (nb ≡ recordsOf (now rec)) × Under (2 ^ 38) (s .e) × Stands (now cur) (s .x) × Stands (now rec) (s .y) × (liveIs (s .x) (s .y) ≡ true) ⌝ }
-    ensures { λ r. ⌜ Went (transformTurn order) (lefts keepBoth) 0 (now (cur .entry)) (now (rec .entry)) s [] r [] ⌝ }
+fn turn(
+    cur: &[u8],
+    na: usize,
+    rec: &[u8],
+    nb: usize,
+    next: &mut [u8],
+    side: &mut [u8],
+    slots: usize,
+    b: Both,
+) -> Both
+    requires { ⌜ (na ≡ recordsOf (now cur)) × (nb ≡ recordsOf (now rec)) × (slots ≤ 2 ^ 40) × Under (2 ^ 38) (b .e) × Under (2 ^ 38) (b .f) × Stands (now cur) (b .x) × Stands (now rec) (b .y) × (liveIs (b .x) (b .y) ≡ true) ⌝ }
+    ensures { λ r. ⌜ WentBoth slots (now (cur .entry)) (now (rec .entry)) b (now (next .entry)) (now (side .entry)) r (now (next .exit)) (now (side .exit)) ⌝ }
 {
-    let x = s.x;
-    let y = s.y;
+    let x = b.x;
+    let y = b.y;
     match transform::core::whose(cur, rec, x, y) {
-        Turn::First => first(cur, na, s),
-        Turn::Second => transform::core::second(rec, nb, s),
-        Turn::Together => together(cur, na, rec, nb, s),
+        Turn::First => first(cur, na, next, slots, b),
+        Turn::Second => second(rec, nb, side, slots, b),
+        Turn::Together => together(cur, na, rec, nb, next, side, slots, b),
     }
 }
 
-// The sizes of both sides, the edit's having been gone through.
-fn end(cur: &[u8], na: usize, rec: &[u8], nb: usize, s: State) -> Pair
-    requires { ⌜ (na ≡ recordsOf (now cur)) × (na ≤ 1024) × (nb ≡ recordsOf (now rec)) × (nb ≤ 1024) × (recordFault (now cur) ≡ 0) × (recordFault (now rec) ≡ 0) × Under (2 ^ 38) (s .e) ⌝ }
-    ensures { λ r. ⌜ EndsWith (now (cur .entry)) (now (rec .entry)) s r ⌝ }
+// Behind the last step.
+fn end(next: &mut [u8], side: &mut [u8], slots: usize, b: Both) -> Pair
+    requires { ⌜ (slots ≤ 2 ^ 40) × Under (2 ^ 38) (b .e) × Under (2 ^ 38) (b .f) ⌝ }
+    ensures { λ r. ⌜ Finishes slots (b .e) (now (next .entry)) (r .e) (now (next .exit)) × Finishes slots (b .f) (now (side .entry)) (r .f) (now (side .exit)) ⌝ }
 {
-    let mut none = [0u8; 0];
-    let last = s.e;
-    let e = operational_transform::core::finish(&mut none, 0, last);
-    let f = transform::core::side(rec, nb, cur, na);
+    let d = b.e;
+    let h = b.f;
+    let e = operational_transform::core::finish(next, slots, d);
+    let f = operational_transform::core::finish(side, slots, h);
     Pair { e, f }
 }
 
@@ -126,13 +201,17 @@ fn keep_limits(p: Pair) -> bool
     operational_transform::core::keeps_limits(f)
 }
 
-// Whether the edit's side has a place in so many bytes.
-fn has_place(p: Pair, room: usize) -> bool
-    requires { ⌜ Under (2 ^ 40) (p .e) ⌝ }
-    ensures { λ r. ⌜ r ≡ leb (sizeIn (p .e)) room ⌝ }
+// Whether both sides have a place in their stages.
+fn have_places(p: Pair, slots: usize, room: usize) -> bool
+    requires { ⌜ (slots ≤ 2 ^ 40) × Under (2 ^ 40) (p .e) × Under (2 ^ 40) (p .f) ⌝ }
+    ensures { λ r. ⌜ r ≡ (placed (p .e) slots room && placed (p .f) slots room) ⌝ }
 {
     let e = p.e;
-    operational_transform::core::size(e) <= room
+    let f = p.f;
+    if !operational_transform::core::has_place(e, slots, room) {
+        return false;
+    }
+    operational_transform::core::has_place(f, slots, room)
 }
 
 // How far a run has come: where the next revision begins, and how many bytes the counterparts have.
@@ -141,30 +220,63 @@ pub(crate) struct Spot {
     pub bytes: usize,
 }
 
-// Past the revision at the spot, both sides having been sized.
+// What was staged, as a record of its own.
+fn place(out: &mut [u8], stage: &[u8], slots: usize, e: Emitter)
+    requires { ⌜ (slots ≤ 2 ^ 40) × (e .records ≤ slots) × (textStart slots + e .text ≤ length (now stage)) × Under (2 ^ 40) e ⌝ }
+    ensures { λ _. ⌜ now (out .exit) ≡ headed e (settled slots (e .records) (e .text) (now (stage .entry)) (now (out .entry))) ⌝ }
+{
+    operational_transform::core::settle(out, stage, slots, e.records, e.text);
+    operational_transform::core::header(out, e);
+}
+
+// A counterpart goes behind those before it, if there is room.
+fn keep(parts: &mut [u8], from: usize, to: usize, side: &[u8], slots: usize, f: Emitter)
+    requires { ⌜ (to ≡ from + sizeIn f) × (slots ≤ 2 ^ 40) × (f .records ≤ slots) × (textStart slots + f .text ≤ length (now side)) × Under (2 ^ 40) f ⌝ }
+    ensures { λ _. ⌜ Keeps slots f (now (side .entry)) from to (now (parts .entry)) (now (parts .exit)) ⌝ }
+{
+    if to <= parts.len() {
+        place(&mut parts[from..], side, slots, f);
+    }
+}
+
+// Past the revision at the spot: what the edit becomes takes its place.
 fn go_on(
     cur: &mut [u8],
-    na: usize,
     rec: &[u8],
-    nb: usize,
-    next: &mut [u8],
+    next: &[u8],
+    side: &[u8],
+    parts: &mut [u8],
+    slots: usize,
     p: Pair,
     spot: Spot,
 ) -> Spot
-    requires { ⌜ (na ≡ recordsOf (now cur)) × (na ≤ 1024) × (nb ≡ recordsOf (now rec)) × (nb ≤ 1024) × (recordFault (now cur) ≡ 0) × (recordFault (now rec) ≡ 0) × (sizeIn (p .e) ≤ length (now cur)) × (sizeIn (p .e) ≤ length (now next)) × SizedBoth (transformOf order (ops (now cur)) (ops (now rec))) p × (within (p .e) ≡ true) × (spot .at ≤ 2 ^ 63) × (spot .bytes ≤ 2 ^ 40) ⌝ }
-    ensures { λ r. ⌜ GoesOn (transformOf order (ops (now (cur .entry))) (ops (now (rec .entry)))) (now (rec .entry)) spot r (now (cur .exit)) ⌝ }
+    requires { ⌜ (slots ≤ 2 ^ 40) × (length (now next) ≡ length (now cur)) × (length (now side) ≡ length (now cur)) × (recordFault (now rec) ≡ 0) × Ready slots (transformOf order (ops (now cur)) (ops (now rec))) p (length (now cur)) (now next) (now side) × (spot .at ≤ 2 ^ 63) × (spot .bytes ≤ 2 ^ 40) ⌝ }
+    ensures { λ r. ⌜ GoesOn (transformOf order (ops (now (cur .entry))) (ops (now (rec .entry)))) (now (rec .entry)) spot r (now (cur .exit)) (now (parts .entry)) (now (parts .exit)) ⌝ }
 {
+    let e = p.e;
     let f = p.f;
+    let from = spot.bytes;
     let at = spot.at + operation::core::size(rec);
-    let bytes = spot.bytes + operational_transform::core::size(f);
-    replace(cur, na, rec, nb, next, p);
+    let bytes = from + operational_transform::core::size(f);
+    place(cur, next, slots, e);
+    keep(parts, from, bytes, side, slots, f);
     Spot { at, bytes }
 }
 
-// Past n revisions, whose records begin at `from`: the first whose transform passes a limit ends the run.
-pub(crate) fn rebase(log: &[u8], from: usize, n: usize, cur: &mut [u8], next: &mut [u8]) -> Run
-    requires { ⌜ (from ≤ length (now log)) × (n ≤ 256) × Lie n (drop from (now log)) × Holds (ops (now cur)) (now cur) × (length (now next) ≡ length (now cur)) ⌝ }
-    ensures { λ r. ⌜ Runs (length (now (cur .entry))) (ops (now (cur .entry))) (editsIn n (drop from (now (log .entry)))) r (now (cur .exit)) ⌝ }
+// Past n revisions, whose records begin at `from`: the first whose transform passes a limit ends the run. The counterparts go to `parts`,
+// one behind the other, as long as there is room.
+pub(crate) fn rebase(
+    log: &[u8],
+    from: usize,
+    n: usize,
+    cur: &mut [u8],
+    next: &mut [u8],
+    side: &mut [u8],
+    parts: &mut [u8],
+    slots: usize,
+) -> Run
+    requires { ⌜ (from ≤ length (now log)) × (n ≤ 256) × Lie n (drop from (now log)) × Holds (ops (now cur)) (now cur) × (length (now next) ≡ length (now cur)) × (length (now side) ≡ length (now cur)) × (slots ≤ 2 ^ 40) ⌝ }
+    ensures { λ r. ⌜ Runs slots (length (now (cur .entry))) (ops (now (cur .entry))) (editsIn n (drop from (now (log .entry)))) r (now (cur .exit)) (now (parts .entry)) (now (parts .exit)) ⌝ }
 {
     let mut spot = Spot { at: from, bytes: 0 };
     let mut left = n;
@@ -176,59 +288,21 @@ pub(crate) fn rebase(log: &[u8], from: usize, n: usize, cur: &mut [u8], next: &m
         let rec = &log[at..];
         let na = operation::core::records(cur);
         let nb = operation::core::records(rec);
-        let mut s = turns::core::begin(cur, na, rec, nb);
+        let mut b = begin(cur, na, rec, nb);
         let p = loop {
-            if !turns::core::goes_on(s) {
-                let p = end(cur, na, rec, nb, s);
+            if !goes_on(b) {
+                let p = end(next, side, slots, b);
                 if !keep_limits(p) {
                     break 'run Run::Refused(Refusal::Limit);
                 }
-                if !has_place(p, next.len()) {
+                if !have_places(p, slots, next.len()) {
                     break 'run Run::Short;
                 }
                 break p;
             }
-            s = turn(cur, na, rec, nb, s);
+            b = turn(cur, na, rec, nb, next, side, slots, b);
         };
-        spot = go_on(cur, na, rec, nb, next, p, spot);
-        left -= 1;
-    }
-}
-
-// The counterpart of the revision whose record is `rec` goes to its place in the output; both sides keep the limits.
-fn hand(cur: &mut [u8], rec: &[u8], next: &mut [u8], out: &mut [u8], spot: Spot) -> Spot
-    requires { ⌜ (recordFault (now cur) ≡ 0) × (recordFault (now rec) ≡ 0) × (length (encode (transformOf order (ops (now cur)) (ops (now rec)) .left)) ≤ length (now cur)) × (length (now next) ≡ length (now cur)) × Fit (transformOf order (ops (now cur)) (ops (now rec))) × (spot .at ≤ 2 ^ 63) × (spot .bytes + length (encode (transformOf order (ops (now cur)) (ops (now rec)) .right)) ≤ length (now out)) ⌝ }
-    ensures { λ r. ⌜ GoesOn (transformOf order (ops (now (cur .entry))) (ops (now (rec .entry)))) (now (rec .entry)) spot r (now (cur .exit)) × (now (out .exit) ≡ take (spot .bytes) (now (out .entry)) ++ atFront (encode (transformOf order (ops (now (cur .entry))) (ops (now (rec .entry))) .right)) (drop (spot .bytes) (now (out .entry)))) ⌝ }
-{
-    let na = operation::core::records(cur);
-    let nb = operation::core::records(rec);
-    let p = transform::core::sized(cur, na, rec, nb);
-    let f = p.f;
-    let from = spot.bytes;
-    let at = spot.at + operation::core::size(rec);
-    let bytes = from + operational_transform::core::size(f);
-    transform::core::write_side(rec, nb, cur, na, &mut out[from..], f.records);
-    replace(cur, na, rec, nb, next, p);
-    Spot { at, bytes }
-}
-
-// Past the same revisions once more, where none passes a limit: the counterparts go to the output, oldest first.
-pub(crate) fn hand_out(
-    log: &[u8],
-    from: usize,
-    n: usize,
-    cur: &mut [u8],
-    next: &mut [u8],
-    out: &mut [u8],
-)
-    requires { ⌜ (from ≤ length (now log)) × (n ≤ 256) × Lie n (drop from (now log)) × Holds (ops (now cur)) (now cur) × Narrow (length (now cur)) (ops (now cur)) (editsIn n (drop from (now log))) × (length (now next) ≡ length (now cur)) × Roomy (ops (now cur)) (editsIn n (drop from (now log))) (now out) ⌝ }
-    ensures { λ _. ⌜ HandsOut (ops (now (cur .entry))) (editsIn n (drop from (now (log .entry)))) (now (out .entry)) (now (cur .exit)) (now (out .exit)) ⌝ }
-{
-    let mut spot = Spot { at: from, bytes: 0 };
-    let mut left = n;
-    while 0 < left {
-        let at = spot.at;
-        spot = hand(cur, &log[at..], next, out, spot);
+        spot = go_on(cur, rec, next, side, parts, slots, p, spot);
         left -= 1;
     }
 }

@@ -29,7 +29,7 @@ flip Less = Greater
 flip Equal = Equal
 flip Greater = Less
 
-abbrev other : Turn → Turn
+abbrev pub other : Turn → Turn
 other first = second
 other second = first
 other together = together
@@ -74,7 +74,7 @@ module _ {C : Type 0} where
   each-mirror g h e (w ∷ s) = ap₂ _++_ (e w) (each-mirror g h e s)
 
   module _ (order : List C → List C → Ordering) (flips : (s t : List C) → order t s ≡ flip (order s t)) where
-    turns-flip : (o p : Op C) → transformTurn order p o ≡ other (transformTurn order o p)
+    pub turns-flip : (o p : Op C) → transformTurn order p o ≡ other (transformTurn order o p)
     turns-flip (insert s) (insert t) = ap lesser (flips s t) ∙ go (order s t)
       where
         go : (w : Ordering) → lesser (flip w) ≡ other (lesser w)

@@ -167,7 +167,7 @@ module _ (a b : List ℕ) (x y : Front) (sx : Stands a x) (sy : Stands b y) (c :
       equal Equal p = refl
       equal Greater p = absurd (let z : _≡_ {A = ℕ} 0 1 = cc p in omega arith)
 
-  insert-both : x .kind ≡ 2 → y .kind ≡ 2
+  pub insert-both : x .kind ≡ 2 → y .kind ≡ 2
   insert-both e = go (eqb (y .kind) 2) refl
     where
       first-not : {w : Op Char} → frontOp b y ≡ w → transformTurn order (insert (chars (frontText a x))) w ≡ align.first → align.first ≡ align.together
@@ -181,7 +181,7 @@ module _ (a b : List ℕ) (x y : Front) (sx : Stands a x) (sy : Stands b y) (c :
           no (keeps w) = absurd (let z : _≡_ {A = ℕ} 0 1 = cc (first-not w refl) in omega arith)
           no (drops w) = absurd (let z : _≡_ {A = ℕ} 0 1 = cc (first-not w refl) in omega arith)
 
-  both-insert : y .kind ≡ 2 → x .kind ≡ 2
+  pub both-insert : y .kind ≡ 2 → x .kind ≡ 2
   both-insert e = go (eqb (x .kind) 2) refl
     where
       second-not : {w : Op Char} → frontOp a x ≡ w → transformTurn order w (insert (chars (frontText b y))) ≡ align.second → align.second ≡ align.together

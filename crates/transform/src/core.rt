@@ -62,7 +62,7 @@ pub fn whose(a: &[u8], b: &[u8], x: Front, y: Front) -> Turn
 }
 
 // How many characters a front's operation gives.
-fn gives(f: Front) -> usize
+pub fn gives(f: Front) -> usize
     requires { ⌜ f .left < 65536 ⌝ }
     ensures { λ r. ⌜ (r ≡ givesOf f) × (r < 65536) ⌝ }
 {

@@ -15,8 +15,11 @@ size-requires-2 c κs = search needs
 add-bytes : tie.Need-add-bytes
 add-bytes c = search needs
 
-replace-requires : tie.Need-replace-requires
-replace-requires c κs = search needs
+place-requires : tie.Need-place-requires
+place-requires c κs = search needs
+
+keep-requires : tie.Need-keep-requires
+keep-requires c κs = search needs
 
 same-length : tie.Need-same-length
 same-length c = search needs
@@ -25,7 +28,7 @@ same-length-2 : tie.Need-same-length-2
 same-length-2 c = search needs
 
 returns : tie.Need-returns
-returns c = search goes-on
+returns c = goes-on _ _ _ _ _ _ _ (c .before .before .before .before .before .before .before .before .before .before .before .before .before .before .before .before .before .before .pre .1) (c .before .before .before .before .before .before .before .before .before .before .before .before .before .before .before .before .before .before .pre .2) (c .before .before .before .before .before .before .before .before .before .before .before .before .before .before .before .before .before .before .pre .4) _ _ _ _ (c .before .before .before .before .before .before .before .before .before .before .size .ensures .0) (c .before .before .before .before .before .before .before .before .size2 .ensures) _ (c .before .before .before .before .before .before .place .ensures) _ _ (c .before .before .keep .ensures)
 
 pub go-on-spec : {M : Type 1} → statement M
 go-on-spec =
@@ -35,7 +38,8 @@ go-on-spec =
     add-at
     size-requires-2
     add-bytes
-    replace-requires
+    place-requires
+    keep-requires
     same-length
     same-length-2
     returns)

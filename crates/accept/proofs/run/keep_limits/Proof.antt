@@ -1,5 +1,5 @@
 use borrow.Author.Needs.{needs}
-use Rattle.accept.proofs.Sizing.{keep-first, keep-both}
+use Rattle.accept.proofs.Stages.{keep-first, keep-both}
 use Rattle.accept.proofs.run.keep_limits.Statement.{statement}
 use Rattle.accept.proofs.run.keep_limits.Tie as tie
 

@@ -1,4 +1,5 @@
-use Rattle.transform.proofs.Siding.{both-went, uncut-x, uncut-y, both-some}
+use Rattle.transform.proofs.Siding.{uncut-x, uncut-y, both-some}
+use Rattle.accept.proofs.Turning.{together-both}
 use borrow.Author.Needs.{needs}
 use Rattle.accept.proofs.run.together.Statement.{statement}
 use Rattle.accept.proofs.run.together.Tie as tie
@@ -6,18 +7,32 @@ use Rattle.accept.proofs.run.together.Tie as tie
 lesser-requires : tie.Need-lesser-requires
 lesser-requires c κs = search needs
 
-stays-requires : tie.Need-stays-requires
-stays-requires c κs = (search needs, search needs, search needs, search both-some, search needs, search needs, search uncut-x, search uncut-y)
+meet-requires : tie.Need-meet-requires
+meet-requires c κs = (search needs, search needs, search needs, search needs, search needs, search both-some, search needs, search needs, search uncut-x, search uncut-y, search needs)
 
 rest-requires : tie.Need-rest-requires
 rest-requires c κs = search (uncut-x, needs)
 
 rest-requires-2 : tie.Need-rest-requires-2
-rest-requires-2 c κs = search (uncut-y, needs)
+rest-requires-2 c κs = search (uncut-y, needs, c .before .before .before .before .before .before .before .before .before .before .before .before .before .before .before .before .before .pre)
+
+same-length : tie.Need-same-length
+same-length c = search needs
+
+same-length-2 : tie.Need-same-length-2
+same-length-2 c = search needs
 
 returns : tie.Need-returns
-returns c = search both-went
+returns c = search together-both
 
 pub together-spec : {M : Type 1} → statement M
 together-spec =
-    tie.close (tie.spec lesser-requires stays-requires rest-requires rest-requires-2 returns)
+    tie.close
+    (tie.spec
+    lesser-requires
+    meet-requires
+    rest-requires
+    rest-requires-2
+    same-length
+    same-length-2
+    returns)
