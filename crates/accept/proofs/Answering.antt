@@ -27,7 +27,7 @@ use Rattle.log.specs.Log.{encodeAll, countOf, readable, sizeOfLog, lengthAt, re
 use Rattle.log.specs.Scan.{Found, Scans}
 use Rattle.session.specs.Rows.{Moved, rebase}
 use Rattle.session.specs.Session.{movedIn, acceptFault, append, acceptCall}
-use Rattle.accept.specs.Running.{Holds, HandsOut}
+use Rattle.rebase.specs.Running.{Holds, HandsOut}
 use Rattle.accept.specs.Accepting.{Admitted, Rooms, MovedPast, Accepts}
 
 -- the record of e in a buffer has as many bytes as e's

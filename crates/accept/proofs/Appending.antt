@@ -19,9 +19,9 @@ use Rattle.log.specs.Log.{encodeAll, countOf, placeOf, sizeOfLog, revisions}
 use Rattle.log.proofs.Scanning.{revisions-end}
 use Rattle.session.specs.Rows.{rebase}
 use Rattle.session.specs.Session.{append}
-use Rattle.accept.specs.Running.{Holds, Rebased, HandsOut}
+use Rattle.rebase.specs.Running.{Holds, Rebased, HandsOut}
 use Rattle.accept.specs.Accepting.{MovedPast}
-use Rattle.accept.proofs.Passing.{front-holds}
+use Rattle.rebase.proofs.Passing.{front-holds}
 
 pub appends : (log : List ℕ) (s : Scan) (rec : List ℕ) (size : ℕ) → s .count ≡ countOf log → s .count ≤ 256 → s .size ≡ sizeOfLog log → size ≤ length rec → s .size + size ≤ length log → (l₁ l₂ : List ℕ)
     → l₁ ≡ over (s .size) (take (size - 0) (drop 0 rec)) log → l₂ ≡ over 0 (bytes16 (s .count + 1)) l₁ → l₂ ≡ append log (take size rec)

@@ -20,9 +20,9 @@ use Rattle.log.specs.Log.{encodeAll, countOf, editsIn, revisions}
 use Rattle.session.specs.Rows.{rebase}
 use Rattle.accept.specs.declared.Tried.{Tried}
 use Rattle.accept.specs.declared.Tried.the-variants as tried
-use Rattle.accept.specs.declared.run.Run.{Run}
-use Rattle.accept.specs.declared.run.Run.the-variants as outcome
-use Rattle.accept.specs.Running.{Holds, Runs, HandsOut}
+use Rattle.rebase.specs.declared.core.Run.{Run}
+use Rattle.rebase.specs.declared.core.Run.the-variants as outcome
+use Rattle.rebase.specs.Running.{Holds, Runs, HandsOut}
 use Rattle.accept.specs.Accepting.{Admitted, MovedPast, Stored, Accepts, TriesTo, Tries}
 use Rattle.accept.proofs.Places.{edits-from}
 use Rattle.accept.proofs.Answering.{accepts-limit}

@@ -1,8 +1,4 @@
 -- accept
-pub mod Passing
-pub mod Moving
-pub mod Turning
-pub mod Stages
 pub mod Places
 pub mod Answering
 pub mod Appending

@@ -14,8 +14,8 @@ use Rattle.log.specs.declared.core.Scan.{Scan}
 use Rattle.log.specs.Log.{countOf, startOf, recordsStart, sizesIn, editsIn, readableFrom, readable, placeOf, sizeOfLog, revisions}
 use Rattle.log.specs.Scan.{Found}
 use Rattle.log.proofs.Scanning.{reads, drop-place, place-inside}
-use Rattle.accept.specs.Running.{Lie}
-use Rattle.accept.proofs.Moving.{lie-first, lie-rest}
+use Rattle.rebase.specs.Running.{Lie}
+use Rattle.rebase.proofs.Moving.{lie-first, lie-rest}
 
 -- ---- records that stand end to end
 

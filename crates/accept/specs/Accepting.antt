@@ -17,7 +17,7 @@ use Rattle.session.specs.Rows.{rebase}
 use Rattle.session.specs.Session.{acceptCall}
 use Rattle.accept.specs.declared.Tried.{Tried}
 use Rattle.accept.specs.declared.Tried.the-variants as tried
-use Rattle.accept.specs.Running.{Rebased}
+use Rattle.rebase.specs.Running.{Rebased}
 
 -- nothing up to 8 refuses the edit, and the log may have a revision more
 pub record Admitted (edit : List ℕ) (r : ℕ) (log : List ℕ) (s : Scan) : Type 0 where

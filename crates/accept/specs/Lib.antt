@@ -1,3 +1,2 @@
 -- accept
-pub mod Running
 pub mod Accepting

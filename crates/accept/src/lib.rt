@@ -3,6 +3,7 @@ use log::core::Scan;
 use log::core::Scanned;
 use operation::Fact;
 use operation::Refusal;
+use rebase::core::Run;
 use transform::WrittenPair;
 ghost use mathlib.Core.Path.{_≡_};
 ghost use Prim.Native.Nat.{_+_, _-_, _^_, _≤_};
@@ -14,10 +15,8 @@ ghost use Rattle.log.specs.Log.{countOf, sizeOfLog};
 ghost use Rattle.log.specs.Scan.{Found};
 ghost use Rattle.session.specs.Session.{acceptCall};
 ghost use Rattle.session.specs.Session.{append as appended};
-ghost use Rattle.accept.specs.Running.{Holds};
+ghost use Rattle.rebase.specs.Running.{Holds};
 ghost use Rattle.accept.specs.Accepting.{Admitted, Rooms, Accepts, MovedPast, Stored, Tries};
-
-mod run;
 
 // Whether the log, of which `used` bytes are taken, has room for `size` more, and the output for the counterparts.
 fn has_room(log: &[u8], used: usize, size: usize, out: &[u8], bytes: usize) -> bool
@@ -116,10 +115,10 @@ fn short(
         return Tried::Short;
     }
     lay(cur, edit);
-    match run::rebase(log, s.at, n, cur, next, side, parts, slots) {
-        run::Run::Refused(x) => Tried::Refused(x),
-        run::Run::Kept(bytes) => deliver(edit, r, log, s, out, cur, parts, bytes),
-        run::Run::Short => Tried::Short,
+    match rebase::core::rebase(log, s.at, n, cur, next, side, parts, slots) {
+        Run::Refused(x) => Tried::Refused(x),
+        Run::Kept(bytes) => deliver(edit, r, log, s, out, cur, parts, bytes),
+        Run::Short => Tried::Short,
     }
 }
 
@@ -144,7 +143,7 @@ fn again(
         return WrittenPair::Refused(Refusal::Room);
     }
     lay(cur, edit);
-    run::rebase(log, s.at, n, cur, next, side, out, 1024);
+    rebase::core::rebase(log, s.at, n, cur, next, side, out, 1024);
     append(log, s, cur, size);
     WrittenPair::Bytes(size, bytes)
 }
@@ -166,11 +165,11 @@ fn long(
 {
     let mut none = [0u8; 0];
     lay(cur, edit);
-    match run::rebase(log, s.at, n, cur, next, side, &mut none, 1024) {
-        run::Run::Refused(x) => WrittenPair::Refused(x),
-        run::Run::Kept(bytes) => again(edit, r, log, s, n, out, cur, next, side, bytes),
+    match rebase::core::rebase(log, s.at, n, cur, next, side, &mut none, 1024) {
+        Run::Refused(x) => WrittenPair::Refused(x),
+        Run::Kept(bytes) => again(edit, r, log, s, n, out, cur, next, side, bytes),
         // never: every record has a place
-        run::Run::Short => WrittenPair::Refused(Refusal::Room),
+        Run::Short => WrittenPair::Refused(Refusal::Room),
     }
 }
 

@@ -61,7 +61,7 @@ module _ (slots : ℕ) (w : Seq) (t o : List ℕ) (few : length w ≤ slots) (ro
       (omega (arith, length-over kindsStart kinds x, length-over (countsStart slots) counts o))
 
 -- `settle` gives what a run of as many places as there are operations writes
-staged-writes : (slots : ℕ) (s : Seq) (e : Emitter) (stage out out′ : List ℕ) → Staged slots s e stage → e .records ≤ slots → textStart slots + e .text ≤ length stage
+pub staged-writes : (slots : ℕ) (s : Seq) (e : Emitter) (stage out out′ : List ℕ) → Staged slots s e stage → e .records ≤ slots → textStart slots + e .text ≤ length stage
     → out′ ≡ headed e (settled slots (e .records) (e .records) (e .text) stage out) → Writes (e .records) s out out′
 unfolding settled laid
 staged-writes slots s e stage out out′ g few room p =

@@ -1,0 +1,5 @@
+-- rebase
+pub mod Passing
+pub mod Moving
+pub mod Turning
+pub mod Stages

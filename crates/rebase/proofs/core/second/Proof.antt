@@ -1,0 +1,28 @@
+use Rattle.transform.proofs.Siding.{whole-cut, left-live}
+use Rattle.rebase.proofs.Turning.{second-both}
+use borrow.Author.Needs.{needs}
+use Rattle.rebase.proofs.core.second.Statement.{statement}
+use Rattle.rebase.proofs.core.second.Tie as tie
+
+gives-requires : tie.Need-gives-requires
+gives-requires c κs = search needs
+
+retain-requires : tie.Need-retain-requires
+retain-requires c κs = search needs
+
+part-requires : tie.Need-part-requires
+part-requires c κs = search (left-live, whole-cut, needs)
+
+rest-requires : tie.Need-rest-requires
+rest-requires c κs = search (whole-cut, needs)
+
+same-length : tie.Need-same-length
+same-length c = search needs
+
+returns : tie.Need-returns
+returns c = second-both _ _ _ _ _ _ _ _ _ (c .before .before .before .before .before .before .before .before .before .before .before .before .before .pre .4) (c .rest .ensures) (c .before .before .before .part .ensures) (c .before .before .before .before .before .before .gives .ensures .0) (c .before .before .before .before .before .retain .ensures)
+
+pub second-spec : {M : Type 1} → statement M
+second-spec =
+    tie.close
+    (tie.spec gives-requires retain-requires part-requires rest-requires same-length returns)

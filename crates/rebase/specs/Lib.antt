@@ -1,0 +1,2 @@
+-- rebase
+pub mod Running

@@ -1,0 +1,2 @@
+// An edit is moved past revisions.
+pub mod core;
