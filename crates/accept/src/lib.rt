@@ -233,7 +233,7 @@ fn small(edit: &[u8], r: u64, log: &mut [u8], s: Scan, n: usize, out: &mut [u8])
     ) {
         Tried::Bytes(k, l) => WrittenPair::Bytes(k, l),
         Tried::Refused(x) => WrittenPair::Refused(x),
-        Tried::Short => large(edit, r, log, s, n, out),
+        Tried::Short => medium(edit, r, log, s, n, out),
     }
 }
 
@@ -243,6 +243,9 @@ fn late(edit: &[u8], r: u64, log: &mut [u8], s: Scan, n: usize, out: &mut [u8]) 
     ensures { λ x. ⌜ Accepts (now (edit .entry)) r (now (log .entry)) (now (out .entry)) x (now (log .exit)) (now (out .exit)) ⌝ }
 {
     let size = operation::core::size(edit);
+    if 1024 < size {
+        return large(edit, r, log, s, n, out);
+    }
     if 16 < n {
         return medium(edit, r, log, s, n, out);
     }

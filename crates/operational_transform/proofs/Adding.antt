@@ -396,20 +396,6 @@ module _ (r : List ℕ) (f : Front) (k mid : ℕ) (s : Stands r f) (h : k ≤ f 
     pub part-deletes : 0 < k → (f .kind ≡ 1 → ⊥) → (f .kind ≡ 2 → ⊥) → e′ ≡ deletedBy k e → o′ ≡ spilled n e o → Adds n (cut k (frontOp r f) ∷ []) e o e′ o′
     part-deletes l y z w p = rw (op-delete r f y z) (adds-deletes n k e o (omega (arith, s .small)) (λ v. absurd (omega arith)) w p)
 
-  -- on a buffer of no bytes nothing is written
-  module _ (e e′ : Emitter) where
-    none-spilled : [] ≡ spilled 0 e []
-    none-spilled = sym (spilled-none 0 e)
-
-    pub tally-retain : f .kind ≡ 1 → Retains k e e′ → Adds 0 (cut k (frontOp r f) ∷ []) e [] e′ []
-    tally-retain z a = part-retain 0 e e′ [] [] z a
-
-    pub tally-insert : 0 < k → f .kind ≡ 2 → e′ ≡ insertedBy (mid - f .from) k e → Adds 0 (cut k (frontOp r f) ∷ []) e [] e′ []
-    tally-insert l z w = part-inserts 0 e e′ [] [] l z w refl none-spilled (sym (over-none _ _))
-
-    pub tally-delete : 0 < k → (f .kind ≡ 1 → ⊥) → (f .kind ≡ 2 → ⊥) → e′ ≡ deletedBy k e → Adds 0 (cut k (frontOp r f) ∷ []) e [] e′ []
-    tally-delete l y z w = part-deletes 0 e e′ [] [] l y z w none-spilled
-
 -- cut behind its last character, it is whole
 pub whole-op : (r : List ℕ) (f : Front) → Stands r f → cut (f .left) (frontOp r f) ≡ frontOp r f
 whole-op r f s = go (kinds r f)

@@ -256,22 +256,6 @@ pub fn part(
     deleted(e, k)
 }
 
-// The numbers after the same; nothing is written. The text isn't looked at: `src` is what the contract speaks of.
-pub fn tally(src: &[u8], e: Emitter, f: Front, k: usize, mid: usize) -> Emitter
-    requires { ⌜ Stands (now src) f × (0 < k) × (k ≤ f .left) × Cut (now src) f k mid × Under (2 ^ 40) e ⌝ }
-    ensures { λ r. ⌜ Adds 0 (cut k (frontOp (now (src .entry)) f) ∷ []) e [] r [] ⌝ }
-{
-    let kind = f.kind;
-    if kind == 1 {
-        return retain(e, k);
-    }
-    if kind == 2 {
-        let from = f.from;
-        return inserted(e, mid - from, k);
-    }
-    deleted(e, k)
-}
-
 // The numbers after the text is inserted, after k characters are deleted, and once no group is pending; nothing is written.
 pub fn count_insert(text: &[u8], e: Emitter, num: usize) -> Emitter
     requires { ⌜ (length (now text) ≤ 2 ^ 18) × T (wellFormed (now text)) × (num ≡ numChars (now text)) × Under (2 ^ 40) e ⌝ }

@@ -1,5 +1,5 @@
 -- The loop of one side, and the other side.
-use Prim.Native.Nat.{ℕ, _^_, _≤_}
+use Prim.Native.Nat.{ℕ}
 use mathlib.Core.Path.{_≡_, sym, ap, _∙_, subst}
 use mathlib.Core.Bool.{Bool, false}
 use mathlib.Core.List.{List, reverse}
@@ -7,14 +7,12 @@ use Rattle.utf8.specs.Order.{order}
 use Rattle.operation.specs.Record.{Seq, ops}
 use Rattle.operational_transform.specs.declared.core.Emitter.{Emitter}
 use Rattle.operational_transform.specs.Transform.{transformTurn, keepBoth, lefts, transform}
-use Rattle.operational_transform.specs.Emit.{Under, Sizes, Done, Finishes, Writes}
+use Rattle.operational_transform.specs.Emit.{Done, Finishes, Writes}
 use Rattle.operational_transform.proofs.Loops.{transform-runs}
 use Rattle.operational_transform.proofs.Theorems.{transform-swaps}
 use Rattle.turns.specs.declared.core.State.{State}
 use Rattle.turns.specs.Turns.{liveIs}
 use Rattle.turns.proofs.Going.{Going, going-all}
-use Rattle.transform.specs.declared.core.Pair.{Pair}
-use Rattle.transform.specs.Pairs.{SizedBoth}
 
 pub going-done : (n : ℕ) (a b out0 : List ℕ) (s : State) (o : List ℕ) (v : Bool) (r : Emitter) (o′ : List ℕ) → Going (transformTurn order) (lefts keepBoth) n a b out0 s o → v ≡ liveIs (s .x) (s .y) → v ≡ false
     → Finishes n (s .e) o r o′ → Done n (transform order (ops a) (ops b) .left) out0 r o′
@@ -24,16 +22,9 @@ going-done n a b out0 s o v r o′ g w l f =
     ap (λ t. t .left) (transform-runs keepBoth order (ops a) (ops b)) ∙ ap reverse (sym (going-all (transformTurn order) (lefts keepBoth) n a b out0 s o g (sym w ∙ l))) in
     subst (λ t. Done n t out0 r o′) (sym e) (f .done out0 (g .acc) (g .rep))
 
-pub sized-side : (n : ℕ) (s : Seq) (x : List ℕ) (r : Emitter) (x′ : List ℕ) → Done n s x r x′ → Sizes s r × Under (2 ^ 40) r
-sized-side n s x r x′ d = (d .sizes, d .small)
-
 -- the right side is the left of the two exchanged
 pub right-is : (a b : Seq) → transform order b a .left ≡ transform order a b .right
 right-is a b = ap (λ s. s .left) (transform-swaps a b)
-
-pub sized-both : (a b : Seq) (e f : Emitter) → Sizes (transform order a b .left) e × Under (2 ^ 40) e → Sizes (transform order b a .left) f × Under (2 ^ 40) f
-    → SizedBoth (transform order a b) (record { e = e; f = f })
-sized-both a b e f (l, u) (r, v) = record { left = l; right = rw (right-is a b) at r; under-left = u; under-right = v }
 
 pub write-right : (m : ℕ) (a b : Seq) (o o′ : List ℕ) → Writes m (transform order b a .left) o o′ → Writes m (transform order a b .right) o o′
 write-right m a b o o′ w = rw (right-is a b) at w

@@ -4,15 +4,14 @@ use mathlib.Core.Path.{_≡_}
 use mathlib.Core.Bool.{cond, _&&_}
 use mathlib.Core.List.{List, [], _∷_}
 use lib.Dec.{leb}
-use Rattle.utf8.specs.Text.{Char}
 use Rattle.operation.specs.declared.Refusal.the-variants.{Limit, Room}
 use Rattle.operation.specs.Answer.{Answer, gives, refused, number}
 use Rattle.operational_transform.specs.declared.core.Emitter.{Emitter}
 use Rattle.utf8.specs.Order.{order}
 use Rattle.operation.specs.Record.{Seq}
-use Rattle.operational_transform.specs.Transform.{Sides, transform}
+use Rattle.operational_transform.specs.Transform.{transform}
 use Rattle.operational_transform.specs.Calls.{transformCall}
-use Rattle.operational_transform.specs.Emit.{Under, Sizes, Staged, within, sizeIn}
+use Rattle.operational_transform.specs.Emit.{Under, Staged, within, sizeIn}
 use Rattle.transform.specs.declared.WrittenPair.{WrittenPair}
 use Rattle.transform.specs.declared.WrittenPair.the-variants as written
 use Rattle.transform.specs.declared.core.Pair.{Pair}
@@ -27,12 +26,6 @@ pairOf (written.Refused x) = refused (number x)
 unfoldable pub judgedBoth : Emitter → Emitter → ℕ → ℕ → WrittenPair
 judgedBoth e f x y =
     cond (within e && within f) (cond (leb (sizeIn e) x && leb (sizeIn f) y) (written.Bytes (sizeIn e) (sizeIn f)) (written.Refused Room)) (written.Refused Limit)
-
-pub record SizedBoth (s : Sides Char) (r : Pair) : Type 0 where
-  pub left : Sizes (s .left) (r .e)
-  pub right : Sizes (s .right) (r .f)
-  pub under-left : Under (2 ^ 40) (r .e)
-  pub under-right : Under (2 ^ 40) (r .f)
 
 -- each side of a and b written to a stage
 pub record StagedBoth (slots : ℕ) (a b : Seq) (r : Pair) (x y : List ℕ) : Type 0 where

@@ -18,9 +18,9 @@ ghost use Rattle.operation.specs.Front.{frontText, frontOp, Stands, Cut};
 ghost use Rattle.operational_transform.specs.Transform.{transformTurn, keepBoth, lefts};
 ghost use Rattle.operational_transform.specs.Transform.{past as stays};
 ghost use Rattle.operational_transform.specs.Transform.{transform as transformOf};
-ghost use Rattle.operational_transform.specs.Emit.{Under, Adds, Sizes, Done, Writes, Staged, within};
+ghost use Rattle.operational_transform.specs.Emit.{Under, Adds, Done, Writes, Staged, within};
 ghost use Rattle.turns.specs.Turns.{liveIs, Chooses, Went};
-ghost use Rattle.transform.specs.Pairs.{judgedBoth, SizedBoth, StagedBoth, Transforms};
+ghost use Rattle.transform.specs.Pairs.{judgedBoth, StagedBoth, Transforms};
 ghost use Rattle.transform.specs.Sides.{givesOf, FirstWent, SecondWent, BothWent};
 
 // Of two inserts that meet, the lesser by byte order goes first.
@@ -114,7 +114,7 @@ fn first(a: &[u8], na: usize, out: &mut [u8], n: usize, s: State) -> State
 }
 
 // The second's operation goes by itself: what it gives is retained.
-pub fn second(b: &[u8], nb: usize, s: State) -> State
+fn second(b: &[u8], nb: usize, s: State) -> State
     requires { ⌜ (nb ≡ recordsOf (now b)) × Under (2 ^ 38) (s .e) × Stands (now b) (s .y) ⌝ }
     ensures { λ r. ⌜ SecondWent (now (b .entry)) s r ⌝ }
 {
@@ -160,7 +160,7 @@ fn turn(a: &[u8], na: usize, b: &[u8], nb: usize, out: &mut [u8], n: usize, s: S
 }
 
 // All of one side, for a result of n records.
-pub fn run(a: &[u8], na: usize, b: &[u8], nb: usize, out: &mut [u8], n: usize) -> Emitter
+fn run(a: &[u8], na: usize, b: &[u8], nb: usize, out: &mut [u8], n: usize) -> Emitter
     requires { ⌜ (na ≡ recordsOf (now a)) × (na ≤ 1024) × (nb ≡ recordsOf (now b)) × (nb ≤ 1024) × (n ≤ 2 ^ 40) × (recordFault (now a) ≡ 0) × (recordFault (now b) ≡ 0) ⌝ }
     ensures { λ r. ⌜ Done n (transformOf order (ops (now (a .entry))) (ops (now (b .entry))) .left) (now (out .entry)) r (now (out .exit)) ⌝ }
 {
@@ -172,55 +172,19 @@ pub fn run(a: &[u8], na: usize, b: &[u8], nb: usize, out: &mut [u8], n: usize) -
     operational_transform::core::finish(out, n, last)
 }
 
-// The sizes of one side: a run on a buffer in which nothing has a place.
-pub fn side(a: &[u8], na: usize, b: &[u8], nb: usize) -> Emitter
-    requires { ⌜ (na ≡ recordsOf (now a)) × (na ≤ 1024) × (nb ≡ recordsOf (now b)) × (nb ≤ 1024) × (recordFault (now a) ≡ 0) × (recordFault (now b) ≡ 0) ⌝ }
-    ensures { λ r. ⌜ Sizes (transformOf order (ops (now (a .entry))) (ops (now (b .entry))) .left) r × Under (2 ^ 40) r ⌝ }
-{
-    let mut none = [0u8; 0];
-    run(a, na, b, nb, &mut none, 0)
-}
-
+// What was emitted of both sides.
 pub struct Pair {
     pub e: Emitter,
     pub f: Emitter,
 }
 
-// The sizes of the results.
-pub fn sized(a: &[u8], na: usize, b: &[u8], nb: usize) -> Pair
-    requires { ⌜ (na ≡ recordsOf (now a)) × (na ≤ 1024) × (nb ≡ recordsOf (now b)) × (nb ≤ 1024) × (recordFault (now a) ≡ 0) × (recordFault (now b) ≡ 0) ⌝ }
-    ensures { λ r. ⌜ SizedBoth (transformOf order (ops (now (a .entry))) (ops (now (b .entry)))) r ⌝ }
-{
-    let e = side(a, na, b, nb);
-    let f = side(b, nb, a, na);
-    Pair { e, f }
-}
-
 // The record of one side, of n records.
-pub fn write_side(a: &[u8], na: usize, b: &[u8], nb: usize, out: &mut [u8], n: usize)
+fn write_side(a: &[u8], na: usize, b: &[u8], nb: usize, out: &mut [u8], n: usize)
     requires { ⌜ (na ≡ recordsOf (now a)) × (na ≤ 1024) × (nb ≡ recordsOf (now b)) × (nb ≤ 1024) × (n ≤ 2 ^ 40) × (recordFault (now a) ≡ 0) × (recordFault (now b) ≡ 0) ⌝ }
     ensures { λ _. ⌜ Writes n (transformOf order (ops (now (a .entry))) (ops (now (b .entry))) .left) (now (out .entry)) (now (out .exit)) ⌝ }
 {
     let e = run(a, na, b, nb, out, n);
     operational_transform::core::header(out, e);
-}
-
-// The records of results of n and m records.
-pub fn write(
-    a: &[u8],
-    na: usize,
-    b: &[u8],
-    nb: usize,
-    out_a: &mut [u8],
-    n: usize,
-    out_b: &mut [u8],
-    m: usize,
-)
-    requires { ⌜ (na ≡ recordsOf (now a)) × (na ≤ 1024) × (nb ≡ recordsOf (now b)) × (nb ≤ 1024) × (n ≤ 2 ^ 40) × (m ≤ 2 ^ 40) × (recordFault (now a) ≡ 0) × (recordFault (now b) ≡ 0) ⌝ }
-    ensures { λ _. ⌜ Writes n (transformOf order (ops (now (a .entry))) (ops (now (b .entry))) .left) (now («out_a» .entry)) (now («out_a» .exit)) × Writes m (transformOf order (ops (now (a .entry))) (ops (now (b .entry))) .right) (now («out_b» .entry)) (now («out_b» .exit)) ⌝ }
-{
-    write_side(a, na, b, nb, out_a, n);
-    write_side(b, nb, a, na, out_b, m);
 }
 
 // 9 where either side passes a limit, then 10 where either output is too short.

@@ -27,8 +27,8 @@ enum-known-x c = search needs
 enum-told : tie.Need-enum-told
 enum-told c = search needs
 
-large-requires : tie.Need-large-requires
-large-requires c κs = (short-admits _ _ _ _ _ _ _ (c .before .before .before .before .before .before .before .before .before .before .before .before .short .ensures) (c .before .before .enum-told .given .1) _ (c .before .before .before .before .before .before .before .before .before .before .before .before .before .before .before .before .before .before .before .before .before .before .pre .0), short-count _ _ _ _ _ _ _ (c .before .before .before .before .before .before .before .before .before .before .before .before .short .ensures) (c .before .before .enum-told .given .1) _ (c .before .before .before .before .before .before .before .before .before .before .before .before .before .before .before .before .before .before .before .before .before .before .pre .1))
+medium-requires : tie.Need-medium-requires
+medium-requires c κs = (short-admits _ _ _ _ _ _ _ (c .before .before .before .before .before .before .before .before .before .before .before .before .short .ensures) (c .before .before .enum-told .given .1) _ (c .before .before .before .before .before .before .before .before .before .before .before .before .before .before .before .before .before .before .before .before .before .before .pre .0), short-count _ _ _ _ _ _ _ (c .before .before .before .before .before .before .before .before .before .before .before .before .short .ensures) (c .before .before .enum-told .given .1) _ (c .before .before .before .before .before .before .before .before .before .before .before .before .before .before .before .before .before .before .before .before .before .before .pre .1))
 
 same-length : tie.Need-same-length
 same-length c = search needs
@@ -55,7 +55,7 @@ same-length-6 : tie.Need-same-length-6
 same-length-6 c = search needs
 
 returns-3 : tie.Need-returns-3
-returns-3 c = short-then _ _ _ _ _ _ _ (c .before .before .before .before .before .before .before .before .before .before .before .before .before .before .before .before .before .short .ensures) (c .before .before .before .before .before .before .before .enum-told .given .1) _ _ _ (c .before .before .before .before .large .ensures)
+returns-3 c = short-then _ _ _ _ _ _ _ (c .before .before .before .before .before .before .before .before .before .before .before .before .before .before .before .before .before .short .ensures) (c .before .before .before .before .before .before .before .enum-told .given .1) _ _ _ (c .before .before .before .before .medium .ensures)
 
 pub small-spec : {M : Type 1} → statement M
 small-spec =
@@ -69,7 +69,7 @@ small-spec =
     enum-known-k
     enum-known-x
     enum-told
-    large-requires
+    medium-requires
     same-length
     same-length-2
     returns
