@@ -237,7 +237,8 @@ fn small(edit: &[u8], r: u64, log: &mut [u8], s: Scan, n: usize, out: &mut [u8])
     }
 }
 
-// Past n revisions that came meanwhile. Nearly all edits have a place in short buffers, which cost little to clear.
+// Past n revisions that came meanwhile. A short edit past few bytes of revisions nearly always does with short buffers, which cost little
+// to clear.
 fn late(edit: &[u8], r: u64, log: &mut [u8], s: Scan, n: usize, out: &mut [u8]) -> WrittenPair
     requires { ⌜ Admitted (now edit) r (now log) s × (n ≡ countOf (now log) - r) ⌝ }
     ensures { λ x. ⌜ Accepts (now (edit .entry)) r (now (log .entry)) (now (out .entry)) x (now (log .exit)) (now (out .exit)) ⌝ }
@@ -246,10 +247,10 @@ fn late(edit: &[u8], r: u64, log: &mut [u8], s: Scan, n: usize, out: &mut [u8]) 
     if 1024 < size {
         return large(edit, r, log, s, n, out);
     }
-    if 16 < n {
+    if 128 < size {
         return medium(edit, r, log, s, n, out);
     }
-    if 128 < size {
+    if s.at + 384 < s.size {
         return medium(edit, r, log, s, n, out);
     }
     small(edit, r, log, s, n, out)

@@ -23,16 +23,32 @@ same-length-3 : tie.Need-same-length-3
 same-length-3 c = search needs
 
 returns : tie.Need-returns
-returns c = accepts-room _ _ _ _ _ (c .before .before .before .before .before .before .before .before .before .before .before .before .pre .0) _ _ (c .before .before .before .before .before .before .before .before .before .before .before .before .pre .5) _ (c .before .before .before .before .size .ensures .0) _ (c .before .has-room .ensures) (c .if1 .taken)
+returns c =
+    let at-has-room = c .before in
+    let at-size = at-has-room .before .before .before in
+    let start = at-size .before .before .before .before .before .before .before .before in
+    accepts-room _ _ _ _ _ (start .pre .0) _ _ (start .pre .5) _ (at-size .size .ensures .0) _ (at-has-room .has-room .ensures) (c .if1 .taken)
 
 lay-requires : tie.Need-lay-requires
 lay-requires c κs = search (lay-large, needs, c .before .before .before .before .before .before .before .before .before .before .before .before .before .pre)
 
 rebase-requires : tie.Need-rebase-requires
-rebase-requires c κs = (from-inside _ _ _ (c .before .before .before .before .before .before .before .before .before .before .before .before .before .before .before .before .before .before .before .before .before .pre .0 .found) (c .before .before .before .before .before .before .before .before .before .before .before .before .before .before .before .before .before .before .before .before .before .pre .0 .rev) _ (c .before .before .before .before .before .before .before .before .before .before .before .before .before .before .before .before .before .before .before .before .before .pre .1), few-from _ _ _ (c .before .before .before .before .before .before .before .before .before .before .before .before .before .before .before .before .before .before .before .before .before .pre .0 .found) (c .before .before .before .before .before .before .before .before .before .before .before .before .before .before .before .before .before .before .before .before .before .pre .0 .rev) _ (c .before .before .before .before .before .before .before .before .before .before .before .before .before .before .before .before .before .before .before .before .before .pre .1), lie-from _ _ _ (c .before .before .before .before .before .before .before .before .before .before .before .before .before .before .before .before .before .before .before .before .before .pre .0 .found) (c .before .before .before .before .before .before .before .before .before .before .before .before .before .before .before .before .before .before .before .before .before .pre .0 .rev) _ (c .before .before .before .before .before .before .before .before .before .before .before .before .before .before .before .before .before .before .before .before .before .pre .1), holds-own _ _ (c .before .before .before .before .before .before .before .lay .ensures .0), search needs, search needs, omega arith)
+rebase-requires c κs =
+    let at-lay = c .before .before .before .before .before .before .before in
+    let start = at-lay .before .before .before .before .before .before .before .before .before .before .before .before .before .before in
+    (from-inside _ _ _ (start .pre .0 .found) (start .pre .0 .rev) _ (start .pre .1), few-from _ _ _ (start .pre .0 .found) (start .pre .0 .rev) _ (start .pre .1), lie-from _ _ _ (start .pre .0 .found) (start .pre .0 .rev) _ (start .pre .1), holds-own _ _ (at-lay .lay .ensures .0), search needs, search needs, omega arith)
 
 append-requires : tie.Need-append-requires
-append-requires c κs = (c .before .before .before .before .before .before .before .before .before .before .before .before .before .before .before .before .before .before .before .before .before .before .before .before .before .before .before .before .before .before .before .before .pre .0 .found .count, c .before .before .before .before .before .before .before .before .before .before .before .before .before .before .before .before .before .before .before .before .before .before .before .before .before .before .before .before .before .before .before .before .pre .0 .found .few, c .before .before .before .before .before .before .before .before .before .before .before .before .before .before .before .before .before .before .before .before .before .before .before .before .before .before .before .before .before .before .before .before .pre .0 .found .size, log-small _ _ _ (c .before .before .before .before .before .before .before .before .before .before .before .before .before .before .before .before .before .before .before .before .before .before .before .before .before .before .before .before .before .before .before .before .pre .0 .found), search needs, room-log _ _ _ _ _ _ (c .before .before .before .before .before .before .before .before .before .before .before .before .before .before .before .before .before .before .before .before .before .has-room .ensures) (c .before .before .before .before .before .before .before .before .before .before .before .before .before .before .before .before .before .before .before .before .if1 .left))
+append-requires c κs =
+    let at-cur2 = c .before .before .before .before .before .before .before .before .before in
+    let at-rebase = at-cur2 .before in
+    let at-cur = at-rebase .before .before .before .before .before .before .before in
+    let at-lay = at-cur .before in
+    let at-if1 = at-lay .before .before in
+    let at-has-room = at-if1 .before in
+    let at-size = at-has-room .before .before .before in
+    let start = at-size .before .before .before .before .before .before .before .before in
+    (start .pre .0 .found .count, start .pre .0 .found .few, start .pre .0 .found .size, log-small _ _ _ (start .pre .0 .found), omega (arith, at-size .size .ensures .2, at-cur .cur .given, at-lay .lay, at-cur2 .cur2 .given, at-rebase .rebase), room-log _ _ _ _ _ _ (at-has-room .has-room .ensures) (at-if1 .if1 .left))
 
 same-length-4 : tie.Need-same-length-4
 same-length-4 c = search needs
@@ -51,7 +67,15 @@ same-length-8 c = search needs
 
 returns-2 : tie.Need-returns-2
 returns-2 c =
-    accepts-moved _ _ _ _ _ (c .before .before .before .before .before .before .before .before .before .before .before .before .before .before .before .before .before .before .before .before .before .before .before .before .before .before .before .before .before .before .before .before .before .before .before .pre .0) _ _ (c .before .before .before .before .before .before .before .before .before .before .before .before .before .before .before .before .before .before .before .before .before .before .before .before .before .before .before .before .before .before .before .before .before .before .before .pre .5) _ (c .before .before .before .before .before .before .before .before .before .before .before .before .before .before .before .before .before .before .before .before .before .before .before .before .before .before .before .size .ensures .0) _ (c .before .before .before .before .before .before .before .before .before .before .before .before .before .before .before .before .before .before .before .before .before .before .before .before .has-room .ensures) (c .before .before .before .before .before .before .before .before .before .before .before .before .before .before .before .before .before .before .before .before .before .before .before .if1 .left) _ _ _ (past-again _ _ _ _ (c .before .before .before .before .before .before .before .before .before .before .before .before .before .before .before .before .before .before .before .before .before .before .before .before .before .before .before .before .before .before .before .before .before .before .before .pre .0) _ (c .before .before .before .before .before .before .before .before .before .before .before .before .before .before .before .before .before .before .before .before .before .before .before .before .before .before .before .before .before .before .before .before .before .before .before .pre .1) _ (c .before .before .before .before .before .before .before .before .before .before .before .before .before .before .before .before .before .before .before .before .before .lay .ensures .0) _ _ _ _ _ _ (c .before .before .before .before .before .before .before .before .before .before .before .before .before .rebase .ensures) refl (omega (arith, c .before .before .before .before .before .before .before .before .before .before .before .before .before .before .before .before .before .before .before .before .before .before .before .before .before .before .before .before .before .before .before .before .before .before .before .pre .2, c .before .before .before .before .before .before .before .before .before .before .before .before .before .before .before .before .before .before .before .before .cur .given, c .before .before .before .before .before .before .before .before .before .before .before .before .before .before .before .before .before .before .before .before .before .lay)) _ _ (c .before .before .before .before .before .before .before .before .before .before .before .before .before .before .before .before .before .before .before .before .before .before .before .before .before .before .before .before .before .before .before .before .before .before .before .pre .5) (room-out _ _ _ _ _ _ (c .before .before .before .before .before .before .before .before .before .before .before .before .before .before .before .before .before .before .before .before .before .before .before .before .has-room .ensures) (c .before .before .before .before .before .before .before .before .before .before .before .before .before .before .before .before .before .before .before .before .before .before .before .if1 .left))) (c .before .before .append .ensures)
+    let at-append = c .before .before in
+    let at-rebase = at-append .before .before .before .before .before .before .before .before .before .before .before in
+    let at-cur = at-rebase .before .before .before .before .before .before .before in
+    let at-lay = at-cur .before in
+    let at-if1 = at-lay .before .before in
+    let at-has-room = at-if1 .before in
+    let at-size = at-has-room .before .before .before in
+    let start = at-size .before .before .before .before .before .before .before .before in
+    accepts-moved _ _ _ _ _ (start .pre .0) _ _ (start .pre .5) _ (at-size .size .ensures .0) _ (at-has-room .has-room .ensures) (at-if1 .if1 .left) _ _ _ (past-again _ _ _ _ (start .pre .0) _ (start .pre .1) _ (at-lay .lay .ensures .0) _ _ _ _ _ _ (at-rebase .rebase .ensures) refl (omega (arith, start .pre .2, at-cur .cur .given, at-lay .lay)) _ _ (start .pre .5) (room-out _ _ _ _ _ _ (at-has-room .has-room .ensures) (at-if1 .if1 .left))) (at-append .append .ensures)
 
 pub again-spec : {M : Type 1} → statement M
 again-spec =

@@ -18,7 +18,11 @@ same-length-2 : tie.Need-same-length-2
 same-length-2 c = search needs
 
 returns : tie.Need-returns
-returns c = record { tries = accepts-room _ _ _ _ _ (c .before .before .before .before .before .before .before .before .before .before .pre .0) _ _ (c .before .before .before .before .before .before .before .before .before .before .pre .1) _ (c .before .before .before .before .size .ensures .0) _ (c .before .has-room .ensures) (c .if1 .taken) }
+returns c =
+    let at-has-room = c .before in
+    let at-size = at-has-room .before .before .before in
+    let start = at-size .before .before .before .before .before .before in
+    record { tries = accepts-room _ _ _ _ _ (start .pre .0) _ _ (start .pre .1) _ (at-size .size .ensures .0) _ (at-has-room .has-room .ensures) (c .if1 .taken) }
 
 same-length-3 : tie.Need-same-length-3
 same-length-3 c = search needs
@@ -33,7 +37,12 @@ copy-requires : tie.Need-copy-requires
 copy-requires c κs = search needs
 
 append-requires : tie.Need-append-requires
-append-requires c κs = (c .before .before .before .before .before .before .before .before .before .before .before .before .before .before .before .before .pre .0 .found .count, c .before .before .before .before .before .before .before .before .before .before .before .before .before .before .before .before .pre .0 .found .few, c .before .before .before .before .before .before .before .before .before .before .before .before .before .before .before .before .pre .0 .found .size, log-small _ _ _ (c .before .before .before .before .before .before .before .before .before .before .before .before .before .before .before .before .pre .0 .found), c .before .before .before .before .before .before .before .before .before .before .size .ensures .2, room-log _ _ _ _ _ _ (c .before .before .before .before .before .before .before .has-room .ensures) (c .before .before .before .before .before .before .if1 .left))
+append-requires c κs =
+    let at-if1 = c .before .before .before .before .before .before in
+    let at-has-room = at-if1 .before in
+    let at-size = at-has-room .before .before .before in
+    let start = at-size .before .before .before .before .before .before in
+    (start .pre .0 .found .count, start .pre .0 .found .few, start .pre .0 .found .size, log-small _ _ _ (start .pre .0 .found), at-size .size .ensures .2, room-log _ _ _ _ _ _ (at-has-room .has-room .ensures) (at-if1 .if1 .left))
 
 same-length-5 : tie.Need-same-length-5
 same-length-5 c = search needs
@@ -43,7 +52,14 @@ same-length-6 c = search needs
 
 returns-3 : tie.Need-returns-3
 returns-3 c =
-    record { tries = accepts-moved _ _ _ _ _ (c .before .before .before .before .before .before .before .before .before .before .before .before .before .before .before .before .before .before .before .pre .0) _ _ (c .before .before .before .before .before .before .before .before .before .before .before .before .before .before .before .before .before .before .before .pre .1) _ (c .before .before .before .before .before .before .before .before .before .before .before .before .before .size .ensures .0) _ (c .before .before .before .before .before .before .before .before .before .before .has-room .ensures) (c .before .before .before .before .before .before .before .before .before .if1 .left) _ _ _ (hands _ _ _ _ _ _ (c .before .before .before .before .before .before .before .before .before .before .before .before .before .before .before .before .before .before .before .pre .1) (c .before .before .before .before .before .before .before .before .before .before .before .before .before .before .before .before .before .before .before .pre .2) (c .before .before .before .before .before .before .before .before .if2 .left) _ _ (room-out _ _ _ _ _ _ (c .before .before .before .before .before .before .before .before .before .before .has-room .ensures) (c .before .before .before .before .before .before .before .before .before .if1 .left)) (c .before .before .before .before .before .before .copy .ensures)) (c .before .before .append .ensures) }
+    let at-append = c .before .before in
+    let at-copy = at-append .before .before .before .before in
+    let at-if2 = at-copy .before .before in
+    let at-if1 = at-if2 .before in
+    let at-has-room = at-if1 .before in
+    let at-size = at-has-room .before .before .before in
+    let start = at-size .before .before .before .before .before .before in
+    record { tries = accepts-moved _ _ _ _ _ (start .pre .0) _ _ (start .pre .1) _ (at-size .size .ensures .0) _ (at-has-room .has-room .ensures) (at-if1 .if1 .left) _ _ _ (hands _ _ _ _ _ _ (start .pre .1) (start .pre .2) (at-if2 .if2 .left) _ _ (room-out _ _ _ _ _ _ (at-has-room .has-room .ensures) (at-if1 .if1 .left)) (at-copy .copy .ensures)) (at-append .append .ensures) }
 
 pub deliver-spec : {M : Type 1} → statement M
 deliver-spec =

@@ -13,7 +13,10 @@ slice-aggregate-rebase : tie.Need-slice-aggregate-rebase
 slice-aggregate-rebase c = search needs
 
 rebase-requires : tie.Need-rebase-requires
-rebase-requires c κs = (from-inside _ _ _ (c .before .before .before .before .before .before .before .before .before .before .before .before .before .before .before .pre .0 .found) (c .before .before .before .before .before .before .before .before .before .before .before .before .before .before .before .pre .0 .rev) _ (c .before .before .before .before .before .before .before .before .before .before .before .before .before .before .before .pre .1), few-from _ _ _ (c .before .before .before .before .before .before .before .before .before .before .before .before .before .before .before .pre .0 .found) (c .before .before .before .before .before .before .before .before .before .before .before .before .before .before .before .pre .0 .rev) _ (c .before .before .before .before .before .before .before .before .before .before .before .before .before .before .before .pre .1), lie-from _ _ _ (c .before .before .before .before .before .before .before .before .before .before .before .before .before .before .before .pre .0 .found) (c .before .before .before .before .before .before .before .before .before .before .before .before .before .before .before .pre .0 .rev) _ (c .before .before .before .before .before .before .before .before .before .before .before .before .before .before .before .pre .1), holds-own _ _ (c .before .before .before .before .before .before .before .lay .ensures .0), search needs, search needs, omega arith)
+rebase-requires c κs =
+    let at-lay = c .before .before .before .before .before .before .before in
+    let start = at-lay .before .before .before .before .before .before .before .before in
+    (from-inside _ _ _ (start .pre .0 .found) (start .pre .0 .rev) _ (start .pre .1), few-from _ _ _ (start .pre .0 .found) (start .pre .0 .rev) _ (start .pre .1), lie-from _ _ _ (start .pre .0 .found) (start .pre .0 .rev) _ (start .pre .1), holds-own _ _ (at-lay .lay .ensures .0), search needs, search needs, omega arith)
 
 enum-known-x : tie.Need-enum-known-x
 enum-known-x c = search needs
@@ -22,7 +25,12 @@ enum-known-bytes : tie.Need-enum-known-bytes
 enum-known-bytes c = search needs
 
 again-requires : tie.Need-again-requires
-again-requires c κs = (c .before .before .before .before .before .before .before .before .before .before .before .before .before .before .before .before .before .before .before .before .before .before .before .before .before .before .before .before .before .before .before .pre .0, c .before .before .before .before .before .before .before .before .before .before .before .before .before .before .before .before .before .before .before .before .before .before .before .before .before .before .before .before .before .before .before .pre .1, search needs, search needs, search needs, past-moved _ _ _ _ (c .before .before .before .before .before .before .before .before .before .before .before .before .before .before .before .before .before .before .before .before .before .before .before .before .before .before .before .before .before .before .before .pre .0) _ (c .before .before .before .before .before .before .before .before .before .before .before .before .before .before .before .before .before .before .before .before .before .before .before .before .before .before .before .before .before .before .before .pre .1) _ (c .before .before .before .before .before .before .before .before .before .before .before .before .before .before .before .before .before .before .before .before .before .before .before .lay .ensures .0) _ _ _ _ _ _ (c .before .before .before .before .before .before .before .before .before .before .before .before .before .before .before .rebase .ensures) _ (c .before .before .before .before .before .before .bytes .given .1))
+again-requires c κs =
+    let at-bytes = c .before .before .before .before .before .before in
+    let at-rebase = at-bytes .before .before .before .before .before .before .before .before .before in
+    let at-lay = at-rebase .before .before .before .before .before .before .before .before in
+    let start = at-lay .before .before .before .before .before .before .before .before in
+    (start .pre .0, start .pre .1, search needs, search needs, search needs, past-moved _ _ _ _ (start .pre .0) _ (start .pre .1) _ (at-lay .lay .ensures .0) _ _ _ _ _ _ (at-rebase .rebase .ensures) _ (at-bytes .bytes .given .1))
 
 enum-told : tie.Need-enum-told
 enum-told c = search needs
@@ -40,7 +48,12 @@ same-length-4 : tie.Need-same-length-4
 same-length-4 c = search needs
 
 returns : tie.Need-returns
-returns c = past-stops _ _ _ _ (c .before .before .before .before .before .before .before .before .before .before .before .before .before .before .before .before .before .before .before .before .before .before .before .before .before .before .pre .0) _ (c .before .before .before .before .before .before .before .before .before .before .before .before .before .before .before .before .before .before .before .before .before .before .before .before .before .before .pre .1) _ (c .before .before .before .before .before .before .before .before .before .before .before .before .before .before .before .before .before .before .lay .ensures .0) _ _ _ _ _ _ (c .before .before .before .before .before .before .before .before .before .before .rebase .ensures) _ (c .before .x .given .1) _
+returns c =
+    let at-x = c .before in
+    let at-rebase = at-x .before .before .before .before .before .before .before .before .before in
+    let at-lay = at-rebase .before .before .before .before .before .before .before .before in
+    let start = at-lay .before .before .before .before .before .before .before .before in
+    past-stops _ _ _ _ (start .pre .0) _ (start .pre .1) _ (at-lay .lay .ensures .0) _ _ _ _ _ _ (at-rebase .rebase .ensures) _ (at-x .x .given .1) _
 
 same-length-5 : tie.Need-same-length-5
 same-length-5 c = search needs
@@ -73,7 +86,11 @@ same-length-13 : tie.Need-same-length-13
 same-length-13 c = search needs
 
 returns-3 : tie.Need-returns-3
-returns-3 c = past-never _ _ _ _ (c .before .before .before .before .before .before .before .before .before .before .before .before .before .before .before .before .before .before .before .before .before .before .before .before .before .pre .0) _ (c .before .before .before .before .before .before .before .before .before .before .before .before .before .before .before .before .before .before .before .before .before .before .before .before .before .pre .1) _ (c .before .before .before .before .before .before .before .before .before .before .before .before .before .before .before .before .before .lay .ensures .0) _ _ _ _ _ _ (c .before .before .before .before .before .before .before .before .before .rebase .ensures) refl (search needs) (c .enum-told .given .1) _
+returns-3 c =
+    let at-rebase = c .before .before .before .before .before .before .before .before .before in
+    let at-lay = at-rebase .before .before .before .before .before .before .before .before in
+    let start = at-lay .before .before .before .before .before .before .before .before in
+    past-never _ _ _ _ (start .pre .0) _ (start .pre .1) _ (at-lay .lay .ensures .0) _ _ _ _ _ _ (at-rebase .rebase .ensures) refl (search needs) (c .enum-told .given .1) _
 
 pub long-spec : {M : Type 1} → statement M
 long-spec =

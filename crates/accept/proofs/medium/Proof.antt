@@ -28,7 +28,11 @@ enum-told : tie.Need-enum-told
 enum-told c = search needs
 
 large-requires : tie.Need-large-requires
-large-requires c κs = (short-admits _ _ _ _ _ _ _ (c .before .before .before .before .before .before .before .before .before .before .before .before .short .ensures) (c .before .before .enum-told .given .1) _ (c .before .before .before .before .before .before .before .before .before .before .before .before .before .before .before .before .before .before .before .before .before .before .pre .0), short-count _ _ _ _ _ _ _ (c .before .before .before .before .before .before .before .before .before .before .before .before .short .ensures) (c .before .before .enum-told .given .1) _ (c .before .before .before .before .before .before .before .before .before .before .before .before .before .before .before .before .before .before .before .before .before .before .pre .1))
+large-requires c κs =
+    let at-enum-told = c .before .before in
+    let at-short = at-enum-told .before .before .before .before .before .before .before .before .before .before in
+    let start = at-short .before .before .before .before .before .before .before .before .before .before in
+    (short-admits _ _ _ _ _ _ _ (at-short .short .ensures) (at-enum-told .enum-told .given .1) _ (start .pre .0), short-count _ _ _ _ _ _ _ (at-short .short .ensures) (at-enum-told .enum-told .given .1) _ (start .pre .1))
 
 same-length : tie.Need-same-length
 same-length c = search needs
@@ -37,7 +41,10 @@ same-length-2 : tie.Need-same-length-2
 same-length-2 c = search needs
 
 returns : tie.Need-returns
-returns c = tried-bytes _ _ _ _ _ _ _ (c .before .before .before .before .before .before .before .before .before .before .before .short .ensures) _ _ (c .before .k .given .1)
+returns c =
+    let at-k = c .before in
+    let at-short = at-k .before .before .before .before .before .before .before .before .before .before in
+    tried-bytes _ _ _ _ _ _ _ (at-short .short .ensures) _ _ (at-k .k .given .1)
 
 same-length-3 : tie.Need-same-length-3
 same-length-3 c = search needs
@@ -46,7 +53,10 @@ same-length-4 : tie.Need-same-length-4
 same-length-4 c = search needs
 
 returns-2 : tie.Need-returns-2
-returns-2 c = tried-refused _ _ _ _ _ _ _ (c .before .before .before .before .before .before .before .before .before .before .before .short .ensures) _ (c .before .x .given .1)
+returns-2 c =
+    let at-x = c .before in
+    let at-short = at-x .before .before .before .before .before .before .before .before .before .before in
+    tried-refused _ _ _ _ _ _ _ (at-short .short .ensures) _ (at-x .x .given .1)
 
 same-length-5 : tie.Need-same-length-5
 same-length-5 c = search needs
@@ -55,7 +65,11 @@ same-length-6 : tie.Need-same-length-6
 same-length-6 c = search needs
 
 returns-3 : tie.Need-returns-3
-returns-3 c = short-then _ _ _ _ _ _ _ (c .before .before .before .before .before .before .before .before .before .before .before .before .before .before .before .before .before .short .ensures) (c .before .before .before .before .before .before .before .enum-told .given .1) _ _ _ (c .before .before .before .before .large .ensures)
+returns-3 c =
+    let at-large = c .before .before .before .before in
+    let at-enum-told = at-large .before .before .before in
+    let at-short = at-enum-told .before .before .before .before .before .before .before .before .before .before in
+    short-then _ _ _ _ _ _ _ (at-short .short .ensures) (at-enum-told .enum-told .given .1) _ _ _ (at-large .large .ensures)
 
 pub medium-spec : {M : Type 1} → statement M
 medium-spec =

@@ -19,10 +19,20 @@ same-length-2 : tie.Need-same-length-2
 same-length-2 c = search needs
 
 returns : tie.Need-returns
-returns c = accepts-room _ _ _ _ _ (c .before .before .before .before .before .before .before .before .pre .0) 0 _ (newest-moved (c .before .before .before .before .before .before .before .before .args .edit .now) (λ i. omega (arith, c .before .before .before .before .before .before .before .shared-slice-known .given i)) (c .before .before .before .before .before .before .before .before .pre .0 .fault) _ _ (c .before .before .before .before .before .before .before .before .pre .1)) _ (c .before .before .before .before .size .ensures .0) _ (c .before .has-room .ensures) (c .if1 .taken)
+returns c =
+    let at-has-room = c .before in
+    let at-size = at-has-room .before .before .before in
+    let at-shared-slice-known = at-size .before .before .before in
+    let start = at-shared-slice-known .before in
+    accepts-room _ _ _ _ _ (start .pre .0) 0 _ (newest-moved (start .args .edit .now) (λ i. omega (arith, at-shared-slice-known .shared-slice-known .given i)) (start .pre .0 .fault) _ _ (start .pre .1)) _ (at-size .size .ensures .0) _ (at-has-room .has-room .ensures) (c .if1 .taken)
 
 append-requires : tie.Need-append-requires
-append-requires c κs = (c .before .before .before .before .before .before .before .before .before .pre .0 .found .count, c .before .before .before .before .before .before .before .before .before .pre .0 .found .few, c .before .before .before .before .before .before .before .before .before .pre .0 .found .size, log-small _ _ _ (c .before .before .before .before .before .before .before .before .before .pre .0 .found), c .before .before .before .before .before .size .ensures .2, room-log _ _ _ _ _ _ (c .before .before .has-room .ensures) (c .before .if1 .left))
+append-requires c κs =
+    let at-if1 = c .before in
+    let at-has-room = at-if1 .before in
+    let at-size = at-has-room .before .before .before in
+    let start = at-size .before .before .before .before in
+    (start .pre .0 .found .count, start .pre .0 .found .few, start .pre .0 .found .size, log-small _ _ _ (start .pre .0 .found), at-size .size .ensures .2, room-log _ _ _ _ _ _ (at-has-room .has-room .ensures) (at-if1 .if1 .left))
 
 same-length-3 : tie.Need-same-length-3
 same-length-3 c = search needs
@@ -32,7 +42,13 @@ same-length-4 c = search needs
 
 returns-2 : tie.Need-returns-2
 returns-2 c =
-    accepts-moved _ _ _ _ _ (c .before .before .before .before .before .before .before .before .before .before .before .before .pre .0) 0 _ (newest-moved (c .before .before .before .before .before .before .before .before .before .before .before .before .args .edit .now) (λ i. omega (arith, c .before .before .before .before .before .before .before .before .before .before .before .shared-slice-known .given i)) (c .before .before .before .before .before .before .before .before .before .before .before .before .pre .0 .fault) _ _ (c .before .before .before .before .before .before .before .before .before .before .before .before .pre .1)) _ (c .before .before .before .before .before .before .before .before .size .ensures .0) _ (c .before .before .before .before .before .has-room .ensures) (c .before .before .before .before .if1 .left) _ _ _ (newest-hands (c .before .before .before .before .before .before .before .before .before .before .before .before .args .edit .now) (λ i. omega (arith, c .before .before .before .before .before .before .before .before .before .before .before .shared-slice-known .given i)) (c .before .before .before .before .before .before .before .before .before .before .before .before .pre .0 .fault) _ _ (c .before .before .before .before .before .before .before .before .before .before .before .before .pre .1) _) (c .before .before .append .ensures)
+    let at-append = c .before .before in
+    let at-if1 = at-append .before .before in
+    let at-has-room = at-if1 .before in
+    let at-size = at-has-room .before .before .before in
+    let at-shared-slice-known = at-size .before .before .before in
+    let start = at-shared-slice-known .before in
+    accepts-moved _ _ _ _ _ (start .pre .0) 0 _ (newest-moved (start .args .edit .now) (λ i. omega (arith, at-shared-slice-known .shared-slice-known .given i)) (start .pre .0 .fault) _ _ (start .pre .1)) _ (at-size .size .ensures .0) _ (at-has-room .has-room .ensures) (at-if1 .if1 .left) _ _ _ (newest-hands (start .args .edit .now) (λ i. omega (arith, at-shared-slice-known .shared-slice-known .given i)) (start .pre .0 .fault) _ _ (start .pre .1) _) (at-append .append .ensures)
 
 pub newest-spec : {M : Type 1} → statement M
 newest-spec =

@@ -14,7 +14,10 @@ lay-requires : tie.Need-lay-requires
 lay-requires c κs = search needs
 
 rebase-requires : tie.Need-rebase-requires
-rebase-requires c κs = (from-inside _ _ _ (c .before .before .before .before .before .before .before .before .before .before .before .before .before .before .before .before .before .before .pre .0 .found) (c .before .before .before .before .before .before .before .before .before .before .before .before .before .before .before .before .before .before .pre .0 .rev) _ (c .before .before .before .before .before .before .before .before .before .before .before .before .before .before .before .before .before .before .pre .1), few-from _ _ _ (c .before .before .before .before .before .before .before .before .before .before .before .before .before .before .before .before .before .before .pre .0 .found) (c .before .before .before .before .before .before .before .before .before .before .before .before .before .before .before .before .before .before .pre .0 .rev) _ (c .before .before .before .before .before .before .before .before .before .before .before .before .before .before .before .before .before .before .pre .1), lie-from _ _ _ (c .before .before .before .before .before .before .before .before .before .before .before .before .before .before .before .before .before .before .pre .0 .found) (c .before .before .before .before .before .before .before .before .before .before .before .before .before .before .before .before .before .before .pre .0 .rev) _ (c .before .before .before .before .before .before .before .before .before .before .before .before .before .before .before .before .before .before .pre .1), holds-own _ _ (c .before .before .before .before .before .before .before .lay .ensures .0), search needs, search needs, search (needs, c .before .before .before .before .before .before .before .before .before .before .before .before .before .before .before .before .before .before .pre))
+rebase-requires c κs =
+    let at-lay = c .before .before .before .before .before .before .before in
+    let start = at-lay .before .before .before .before .before .before .before .before .before .before .before in
+    (from-inside _ _ _ (start .pre .0 .found) (start .pre .0 .rev) _ (start .pre .1), few-from _ _ _ (start .pre .0 .found) (start .pre .0 .rev) _ (start .pre .1), lie-from _ _ _ (start .pre .0 .found) (start .pre .0 .rev) _ (start .pre .1), holds-own _ _ (at-lay .lay .ensures .0), search needs, search needs, search (needs, start .pre))
 
 enum-known-x : tie.Need-enum-known-x
 enum-known-x c = search needs
@@ -23,7 +26,12 @@ enum-known-bytes : tie.Need-enum-known-bytes
 enum-known-bytes c = search needs
 
 deliver-requires : tie.Need-deliver-requires
-deliver-requires c κs = (c .before .before .before .before .before .before .before .before .before .before .before .before .before .before .before .before .before .before .before .before .before .before .before .before .before .before .before .before .before .before .before .before .before .before .pre .0, past-moved _ _ _ _ (c .before .before .before .before .before .before .before .before .before .before .before .before .before .before .before .before .before .before .before .before .before .before .before .before .before .before .before .before .before .before .before .before .before .before .pre .0) _ (c .before .before .before .before .before .before .before .before .before .before .before .before .before .before .before .before .before .before .before .before .before .before .before .before .before .before .before .before .before .before .before .before .before .before .pre .1) _ (c .before .before .before .before .before .before .before .before .before .before .before .before .before .before .before .before .before .before .before .before .before .before .before .lay .ensures .0) _ _ _ _ _ _ (c .before .before .before .before .before .before .before .before .before .before .before .before .before .before .before .rebase .ensures) _ (c .before .before .before .before .before .bytes .given .1), past-stored _ _ _ _ (c .before .before .before .before .before .before .before .before .before .before .before .before .before .before .before .before .before .before .before .before .before .before .before .before .before .before .before .before .before .before .before .before .before .before .pre .0) _ (c .before .before .before .before .before .before .before .before .before .before .before .before .before .before .before .before .before .before .before .before .before .before .before .before .before .before .before .before .before .before .before .before .before .before .pre .1) _ (c .before .before .before .before .before .before .before .before .before .before .before .before .before .before .before .before .before .before .before .before .before .before .before .lay .ensures .0) _ _ _ _ _ _ (c .before .before .before .before .before .before .before .before .before .before .before .before .before .before .before .rebase .ensures) _ (c .before .before .before .before .before .bytes .given .1) (search needs))
+deliver-requires c κs =
+    let at-bytes = c .before .before .before .before .before in
+    let at-rebase = at-bytes .before .before .before .before .before .before .before .before .before .before in
+    let at-lay = at-rebase .before .before .before .before .before .before .before .before in
+    let start = at-lay .before .before .before .before .before .before .before .before .before .before .before in
+    (start .pre .0, past-moved _ _ _ _ (start .pre .0) _ (start .pre .1) _ (at-lay .lay .ensures .0) _ _ _ _ _ _ (at-rebase .rebase .ensures) _ (at-bytes .bytes .given .1), past-stored _ _ _ _ (start .pre .0) _ (start .pre .1) _ (at-lay .lay .ensures .0) _ _ _ _ _ _ (at-rebase .rebase .ensures) _ (at-bytes .bytes .given .1) (search needs))
 
 enum-told : tie.Need-enum-told
 enum-told c = search needs
@@ -44,7 +52,12 @@ same-length-5 : tie.Need-same-length-5
 same-length-5 c = search needs
 
 returns-2 : tie.Need-returns-2
-returns-2 c = record { tries = past-stops _ _ _ _ (c .before .before .before .before .before .before .before .before .before .before .before .before .before .before .before .before .before .before .before .before .before .before .before .before .before .before .before .before .before .before .pre .0) _ (c .before .before .before .before .before .before .before .before .before .before .before .before .before .before .before .before .before .before .before .before .before .before .before .before .before .before .before .before .before .before .pre .1) _ (c .before .before .before .before .before .before .before .before .before .before .before .before .before .before .before .before .before .before .before .lay .ensures .0) _ _ _ _ _ _ (c .before .before .before .before .before .before .before .before .before .before .before .rebase .ensures) _ (c .before .x .given .1) _ }
+returns-2 c =
+    let at-x = c .before in
+    let at-rebase = at-x .before .before .before .before .before .before .before .before .before .before in
+    let at-lay = at-rebase .before .before .before .before .before .before .before .before in
+    let start = at-lay .before .before .before .before .before .before .before .before .before .before .before in
+    record { tries = past-stops _ _ _ _ (start .pre .0) _ (start .pre .1) _ (at-lay .lay .ensures .0) _ _ _ _ _ _ (at-rebase .rebase .ensures) _ (at-x .x .given .1) _ }
 
 same-length-6 : tie.Need-same-length-6
 same-length-6 c = search needs

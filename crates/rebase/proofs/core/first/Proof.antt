@@ -20,7 +20,12 @@ same-length : tie.Need-same-length
 same-length c = search needs
 
 returns : tie.Need-returns
-returns c = first-both _ _ _ _ _ _ _ _ _ (c .before .before .before .before .before .before .before .before .before .before .before .before .before .pre .4) (c .rest .ensures) (c .before .before .before .before .before .part .ensures) (c .before .before .gives .ensures .0) (c .before .retain .ensures)
+returns c =
+    let at-retain = c .before in
+    let at-gives = at-retain .before in
+    let at-part = at-gives .before .before .before in
+    let start = at-part .before .before .before .before .before .before .before .before in
+    first-both _ _ _ _ _ _ _ _ _ (start .pre .4) (c .rest .ensures) (at-part .part .ensures) (at-gives .gives .ensures .0) (at-retain .retain .ensures)
 
 pub first-spec : {M : Type 1} → statement M
 first-spec =

@@ -28,7 +28,13 @@ same-length-2 : tie.Need-same-length-2
 same-length-2 c = search needs
 
 returns : tie.Need-returns
-returns c = goes-on _ _ _ _ _ _ _ (c .before .before .before .before .before .before .before .before .before .before .before .before .before .before .before .before .before .before .pre .1) (c .before .before .before .before .before .before .before .before .before .before .before .before .before .before .before .before .before .before .pre .2) (c .before .before .before .before .before .before .before .before .before .before .before .before .before .before .before .before .before .before .pre .4) _ _ _ _ (c .before .before .before .before .before .before .before .before .before .before .size .ensures .0) (c .before .before .before .before .before .before .before .before .size2 .ensures) _ (c .before .before .before .before .before .before .place .ensures) _ _ (c .before .before .keep .ensures)
+returns c =
+    let at-keep = c .before .before in
+    let at-place = at-keep .before .before .before .before in
+    let at-size2 = at-place .before .before in
+    let at-size = at-size2 .before .before in
+    let start = at-size .before .before .before .before .before .before .before .before in
+    goes-on _ _ _ _ _ _ _ (start .pre .1) (start .pre .2) (start .pre .4) _ _ _ _ (at-size .size .ensures .0) (at-size2 .size2 .ensures) _ (at-place .place .ensures) _ _ (at-keep .keep .ensures)
 
 pub go-on-spec : {M : Type 1} → statement M
 go-on-spec =

@@ -13,10 +13,16 @@ part-requires-2 : tie.Need-part-requires-2
 part-requires-2 c κs = search (needs, c .before .before .before .before .before .before .before .before .before .before .before .before .before .before .before .pre)
 
 retain-requires : tie.Need-retain-requires
-retain-requires c κs = search (under-part, needs, c .before .before .before .before .before .before .before .before .before .before .before .before .before .before .before .before .before .before .pre, c .before .before .before .before .before .before .part .ensures)
+retain-requires c κs =
+    let at-part = c .before .before .before .before .before .before in
+    let start = at-part .before .before .before .before .before .before .before .before .before .before .before .before in
+    search (under-part, needs, start .pre, at-part .part .ensures)
 
 retain-requires-2 : tie.Need-retain-requires-2
-retain-requires-2 c κs = search (under-part, needs, c .before .before .before .before .before .before .before .before .before .before .before .before .before .before .before .before .before .before .before .pre, c .before .before .before .part2 .ensures)
+retain-requires-2 c κs =
+    let at-part2 = c .before .before .before in
+    let start = at-part2 .before .before .before .before .before .before .before .before .before .before .before .before .before .before .before .before in
+    search (under-part, needs, start .pre, at-part2 .part2 .ensures)
 
 same-length : tie.Need-same-length
 same-length c = search needs
@@ -25,13 +31,21 @@ same-length-2 : tie.Need-same-length-2
 same-length-2 c = search needs
 
 returns : tie.Need-returns
-returns c = meets-insert _ _ _ _ _ _ _ (c .before .before .before .before .before .before .before .before .before .before .before .before .before .before .before .before .before .before .before .before .pre .3) (c .before .before .before .before .before .before .before .before .before .before .before .before .before .before .before .before .before .before .before .before .pre .4) (c .before .before .before .before .before .before .before .before .before .before .before .before .before .before .before .before .before .before .before .before .pre .10) (c .before .before .before .before .before .before .before .before .before .before .if1 .taken) (c .before .before .before .before .before .before .before .before .before .before .before .before .before .before .before .before .before .before .before .before .pre .6) (c .before .before .before .before .before .before .before .before .before .before .before .before .before .before .before .before .before .before .before .before .pre .7) _ _ _ (c .before .before .before .before .before .before .before .before .part .ensures) (c .before .retain .ensures) _ _ _ (c .before .before .before .before .part2 .ensures) (c .retain2 .ensures)
+returns c =
+    let at-retain = c .before in
+    let at-part2 = at-retain .before .before .before in
+    let at-part = at-part2 .before .before .before .before in
+    let at-if1 = at-part .before .before in
+    let start = at-if1 .before .before .before .before .before .before .before .before .before .before in
+    meets-insert _ _ _ _ _ _ _ (start .pre .3) (start .pre .4) (start .pre .10) (at-if1 .if1 .taken) (start .pre .6) (start .pre .7) _ _ _ (at-part .part .ensures) (at-retain .retain .ensures) _ _ _ (at-part2 .part2 .ensures) (c .retain2 .ensures)
 
 part-requires-3 : tie.Need-part-requires-3
 part-requires-3 c κs = search needs
 
 part-requires-4 : tie.Need-part-requires-4
-part-requires-4 c κs = (c .before .before .before .before .before .before .before .before .before .before .before .before .before .before .before .before .before .before .before .pre .0, c .before .before .before .before .before .before .before .before .before .before .before .before .before .before .before .before .before .before .before .pre .4, c .before .before .before .before .before .before .before .before .before .before .before .before .before .before .before .before .before .before .before .pre .5, c .before .before .before .before .before .before .before .before .before .before .before .before .before .before .before .before .before .before .before .pre .7, c .before .before .before .before .before .before .before .before .before .before .before .before .before .before .before .before .before .before .before .pre .9, under-more _ _ _ (omega arith) (c .before .before .before .before .before .before .before .before .before .before .before .before .before .before .before .before .before .before .before .pre .2))
+part-requires-4 c κs =
+    let start = c .before .before .before .before .before .before .before .before .before .before .before .before .before .before .before .before .before .before .before in
+    (start .pre .0, start .pre .4, start .pre .5, start .pre .7, start .pre .9, under-more _ _ _ (omega arith) (start .pre .2))
 
 same-length-3 : tie.Need-same-length-3
 same-length-3 c = search needs
@@ -40,7 +54,13 @@ same-length-4 : tie.Need-same-length-4
 same-length-4 c = search needs
 
 returns-2 : tie.Need-returns-2
-returns-2 c = meets-retain _ _ _ _ _ _ _ (c .before .before .before .before .before .before .before .before .before .before .before .before .before .before .before .before .before .before .before .before .before .before .pre .3) (c .before .before .before .before .before .before .before .before .before .before .before .before .before .before .before .before .before .before .before .before .before .before .pre .4) (c .before .before .before .before .before .before .before .before .before .before .before .before .before .before .before .before .before .before .before .before .before .before .pre .10) (c .before .before .before .before .before .before .before .before .before .before .if2 .taken) (c .before .before .before .before .if3 .taken) _ _ (c .before .before .before .before .before .before .before .before .part3 .ensures) _ _ (c .before .before .part4 .ensures)
+returns-2 c =
+    let at-part4 = c .before .before in
+    let at-if3 = at-part4 .before .before in
+    let at-part3 = at-if3 .before .before .before .before in
+    let at-if2 = at-part3 .before .before in
+    let start = at-if2 .before .before .before .before .before .before .before .before .before .before .before .before in
+    meets-retain _ _ _ _ _ _ _ (start .pre .3) (start .pre .4) (start .pre .10) (at-if2 .if2 .taken) (at-if3 .if3 .taken) _ _ (at-part3 .part3 .ensures) _ _ (at-part4 .part4 .ensures)
 
 same-length-5 : tie.Need-same-length-5
 same-length-5 c = search needs

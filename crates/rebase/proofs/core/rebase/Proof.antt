@@ -51,18 +51,35 @@ goes-on-requires : tie.Need-goes-on-requires Inv-loop μ-loop Inv-run μ-run
 goes-on-requires c κs = search needs
 
 end-requires : tie.Need-end-requires Inv-loop μ-loop Inv-run μ-run
-end-requires c κs = search (edit-under, counterpart-under, needs, c .before .before .before .before .loop .inv, c .before .before .before .before .before .before .before .before .before .before .before .before .before .before .before .before .before .before .pre)
+end-requires c κs =
+    let at-loop = c .before .before .before .before in
+    let start = at-loop .before .before .before .before .before .before .before .before .before .before .before .before .before .before in
+    (start .pre .6, edit-under _ _ _ _ _ (at-loop .loop .b) _ _ (at-loop .loop .inv .0), counterpart-under _ _ _ _ _ (at-loop .loop .b) _ _ (at-loop .loop .inv .0))
 
 keep-limits-requires : tie.Need-keep-limits-requires Inv-loop μ-loop Inv-run μ-run
 keep-limits-requires c κs = search needs
 
 have-places-requires : tie.Need-have-places-requires Inv-loop μ-loop Inv-run μ-run
 have-places-requires c κs =
-    let d = staged-run _ _ _ _ _ (c .before .before .before .before .before .before .before .before .before .before .before .loop .b) _ _ (c .before .before .before .before .before .before .before .before .before .before .before .loop .inv .0) (c .before .before .before .before .before .before .before .before .before .before .before .loop .inv .1) (c .before .before .before .before .before .before .before .before .before .before .before .loop .inv .2) _ (c .before .before .before .before .before .before .before .before .before .before .goes-on .ensures) (c .before .before .before .before .before .before .before .before .before .if2 .taken) (c .before .before .before .before .before .before .end .result) _ _ (c .before .before .before .before .before .before .end .ensures .0) (c .before .before .before .before .before .before .end .ensures .1) (omega (arith, c .before .before .before .before .before .next .given, c .before .before .before .before .before .before .end)) (omega (arith, c .before .before .before .side .given, c .before .before .before .before .before .before .end)) in
-    (c .before .before .before .before .before .before .before .before .before .before .before .before .before .before .before .before .before .before .before .before .before .before .before .before .before .pre .6, d .left .done .small, d .right .done .small)
+    let at-side = c .before .before .before in
+    let at-next = at-side .before .before in
+    let at-end = at-next .before in
+    let at-if2 = at-end .before .before .before in
+    let at-goes-on = at-if2 .before in
+    let at-loop = at-goes-on .before in
+    let start = at-loop .before .before .before .before .before .before .before .before .before .before .before .before .before .before in
+    let d = staged-run _ _ _ _ _ (at-loop .loop .b) _ _ (at-loop .loop .inv .0) (at-loop .loop .inv .1) (at-loop .loop .inv .2) _ (at-goes-on .goes-on .ensures) (at-if2 .if2 .taken) (at-end .end .result) _ _ (at-end .end .ensures .0) (at-end .end .ensures .1) (omega (arith, at-next .next .given, at-end .end)) (omega (arith, at-side .side .given, at-end .end)) in
+    (start .pre .6, d .left .done .small, d .right .done .small)
 
 turn-requires : tie.Need-turn-requires Inv-loop μ-loop Inv-run μ-run
-turn-requires c κs = search (passed, edit-under, counterpart-under, needs, c .before .before .before .before .before .loop .inv, c .before .before .before .before .before .before .before .before .before .before .before .before .before .before .before .before .before .before .before .pre)
+turn-requires c κs =
+    let at-if2 = c .before .before .before in
+    let at-goes-on = at-if2 .before in
+    let at-loop = at-goes-on .before in
+    let at-records2 = at-loop .before .before .before in
+    let at-records = at-records2 .before in
+    let start = at-records .before .before .before .before .before .before .before .before .before .before in
+    (at-records .records .ensures .0, at-records2 .records2 .ensures .0, start .pre .6, edit-under _ _ _ _ _ (at-loop .loop .b) _ _ (at-loop .loop .inv .0), counterpart-under _ _ _ _ _ (at-loop .loop .b) _ _ (at-loop .loop .inv .0), at-loop .loop .inv .0 .edit .stands-x, at-loop .loop .inv .0 .edit .stands-y, passed _ _ (at-goes-on .goes-on .ensures) (at-if2 .if2 .left))
 
 loop-less : tie.Need-loop-less Inv-loop μ-loop Inv-run μ-run
 loop-less c = search went-less
@@ -72,14 +89,27 @@ loop-again c = (search both-more, search needs, search needs)
 
 go-on-requires : tie.Need-go-on-requires Inv-loop μ-loop Inv-run μ-run
 go-on-requires c κs =
-    let d = staged-run _ _ _ _ _ (c .before .before .before .before .before .before .before .before .before .before .before .before .before .before .before .before .before .loop .b) _ _ (c .before .before .before .before .before .before .before .before .before .before .before .before .before .before .before .before .before .loop .inv .0) (c .before .before .before .before .before .before .before .before .before .before .before .before .before .before .before .before .before .loop .inv .1) (c .before .before .before .before .before .before .before .before .before .before .before .before .before .before .before .before .before .loop .inv .2) _ (c .before .before .before .before .before .before .before .before .before .before .before .before .before .before .before .before .goes-on .ensures) (c .before .before .before .before .before .before .before .before .before .before .before .before .before .before .before .if2 .taken) (c .before .before .before .before .before .before .before .before .before .before .before .before .end .result) _ _ (c .before .before .before .before .before .before .before .before .before .before .before .before .end .ensures .0) (c .before .before .before .before .before .before .before .before .before .before .before .before .end .ensures .1) (omega (arith, c .before .before .before .before .before .before .before .before .before .before .before .next .given, c .before .before .before .before .before .before .before .before .before .before .before .before .end)) (omega (arith, c .before .before .before .before .before .before .before .before .before .side .given, c .before .before .before .before .before .before .before .before .before .before .before .before .end)) in (
-      c .before .before .before .before .before .before .before .before .before .before .before .before .before .before .before .before .before .before .before .before .before .before .before .before .before .before .before .before .before .before .before .pre .6,
-      omega (arith, c .before .before .before .before .before .before .before .before .before .before .before .next .given, c .before .before .before .before .before .before .before .before .before .before .before .before .end, c .before .before .before .before .before .before .before .before .before .before .before .before .before .before .before .before .before .loop .inv .1, c .before .before .before .before .before .before .before .before .before .before .before .before .before .before .before .before .before .before .before .before .before .before .before .before .before .run .inv .2, c .before .before .before .before .before .before .before .before .before .before .before .before .before .before .before .before .before .before .before .before .before .before .before .before .before .run .inv .1, c .before .before .before .before .before .before .before .before .before .before .before .before .before .before .before .before .before .before .before .before .before .before .before .before .before .before .before .before .before .before .before .pre .4),
-      omega (arith, c .before .before .before .before .before .before .before .before .before .side .given, c .before .before .before .before .before .before .before .before .before .before .before .before .end, c .before .before .before .before .before .before .before .before .before .before .before .before .before .before .before .before .before .loop .inv .2, c .before .before .before .before .before .before .before .before .before .before .before .before .before .before .before .before .before .before .before .before .before .before .before .before .before .run .inv .3, c .before .before .before .before .before .before .before .before .before .before .before .before .before .before .before .before .before .before .before .before .before .before .before .before .before .run .inv .1, c .before .before .before .before .before .before .before .before .before .before .before .before .before .before .before .before .before .before .before .before .before .before .before .before .before .before .before .before .before .before .before .pre .5),
-      moving-record _ _ _ _ _ _ _ _ _ (c .before .before .before .before .before .before .before .before .before .before .before .before .before .before .before .before .before .before .before .before .before .before .before .before .before .run .inv .0) (c .before .before .before .before .before .before .before .before .before .before .before .before .before .before .before .before .before .before .before .before .before .before .before .before .if1 .left),
-      moving-ready _ _ _ _ _ _ _ _ _ (c .before .before .before .before .before .before .before .before .before .before .before .before .before .before .before .before .before .before .before .before .before .before .before .before .before .run .inv .0) (c .before .before .before .before .before .before .before .before .before .before .before .before .before .before .before .before .before .before .before .before .before .before .before .before .if1 .left) _ _ _ _ d _ (c .before .before .before .before .before .before .before .keep-limits .ensures) (c .before .before .before .before .before .before .if3 .left) _ _ (omega (arith, c .before .before .before .before .before .before .before .before .before .before .before .next .given, c .before .before .before .before .before .before .before .before .before .before .before .before .end, c .before .before .before .before .before .before .before .before .before .before .before .before .before .before .before .before .before .loop .inv .1, c .before .before .before .before .before .before .before .before .before .before .before .before .before .before .before .before .before .before .before .before .before .before .before .before .before .run .inv .2, c .before .before .before .before .before .before .before .before .before .before .before .before .before .before .before .before .before .before .before .before .before .before .before .before .before .run .inv .1, c .before .before .before .before .before .before .before .before .before .before .before .before .before .before .before .before .before .before .before .before .before .before .before .before .before .before .before .before .before .before .before .pre .4)) _ (c .before .before .before .before .before .have-places .ensures) (c .before .before .before .before .if4 .left),
-      omega (arith, c .before .before .before .before .before .before .before .before .before .before .before .before .before .before .before .before .before .before .before .before .before .before .before .before .before .run .inv .0 .place, c .before .before .before .before .before .before .before .before .before .before .before .before .before .before .before .before .before .before .before .before .before .before .before .before .before .before .before .before .before .before .before .good),
-      moving-small _ _ _ _ _ _ _ _ _ (c .before .before .before .before .before .before .before .before .before .before .before .before .before .before .before .before .before .before .before .before .before .before .before .before .before .run .inv .0) (c .before .before .before .before .before .before .before .before .before .before .before .before .before .before .before .before .before .before .before .before .before .before .before .before .before .before .before .before .before .before .before .pre .1),
+    let at-if4 = c .before .before .before .before in
+    let at-have-places = at-if4 .before in
+    let at-if3 = at-have-places .before in
+    let at-keep-limits = at-if3 .before in
+    let at-side = at-keep-limits .before .before in
+    let at-next = at-side .before .before in
+    let at-end = at-next .before in
+    let at-if2 = at-end .before .before .before in
+    let at-goes-on = at-if2 .before in
+    let at-loop = at-goes-on .before in
+    let at-if1 = at-loop .before .before .before .before .before .before .before in
+    let at-run = at-if1 .before in
+    let start = at-run .before .before .before .before .before .before in
+    let d = staged-run _ _ _ _ _ (at-loop .loop .b) _ _ (at-loop .loop .inv .0) (at-loop .loop .inv .1) (at-loop .loop .inv .2) _ (at-goes-on .goes-on .ensures) (at-if2 .if2 .taken) (at-end .end .result) _ _ (at-end .end .ensures .0) (at-end .end .ensures .1) (omega (arith, at-next .next .given, at-end .end)) (omega (arith, at-side .side .given, at-end .end)) in (
+      start .pre .6,
+      omega (arith, at-next .next .given, at-end .end, at-loop .loop .inv .1, at-run .run .inv .2, at-run .run .inv .1, start .pre .4),
+      omega (arith, at-side .side .given, at-end .end, at-loop .loop .inv .2, at-run .run .inv .3, at-run .run .inv .1, start .pre .5),
+      moving-record _ _ _ _ _ _ _ _ _ (at-run .run .inv .0) (at-if1 .if1 .left),
+      moving-ready _ _ _ _ _ _ _ _ _ (at-run .run .inv .0) (at-if1 .if1 .left) _ _ _ _ d _ (at-keep-limits .keep-limits .ensures) (at-if3 .if3 .left) _ _ (omega (arith, at-next .next .given, at-end .end, at-loop .loop .inv .1, at-run .run .inv .2, at-run .run .inv .1, start .pre .4)) _ (at-have-places .have-places .ensures) (at-if4 .if4 .left),
+      omega (arith, at-run .run .inv .0 .place, start .good),
+      moving-small _ _ _ _ _ _ _ _ _ (at-run .run .inv .0) (start .pre .1),
     )
 
 sub-left : tie.Need-sub-left Inv-loop μ-loop Inv-run μ-run
@@ -90,12 +120,25 @@ run-less c = omega (arith, c .before .before .before .before .before .before .be
 
 run-again : tie.Need-run-again Inv-loop μ-loop Inv-run μ-run
 run-again c =
-    let d = staged-run _ _ _ _ _ (c .before .before .before .before .before .before .before .before .before .before .before .before .before .before .before .before .before .before .before .before .before .before .loop .b) _ _ (c .before .before .before .before .before .before .before .before .before .before .before .before .before .before .before .before .before .before .before .before .before .before .loop .inv .0) (c .before .before .before .before .before .before .before .before .before .before .before .before .before .before .before .before .before .before .before .before .before .before .loop .inv .1) (c .before .before .before .before .before .before .before .before .before .before .before .before .before .before .before .before .before .before .before .before .before .before .loop .inv .2) _ (c .before .before .before .before .before .before .before .before .before .before .before .before .before .before .before .before .before .before .before .before .before .goes-on .ensures) (c .before .before .before .before .before .before .before .before .before .before .before .before .before .before .before .before .before .before .before .before .if2 .taken) (c .before .before .before .before .before .before .before .before .before .before .before .before .before .before .before .before .before .end .result) _ _ (c .before .before .before .before .before .before .before .before .before .before .before .before .before .before .before .before .before .end .ensures .0) (c .before .before .before .before .before .before .before .before .before .before .before .before .before .before .before .before .before .end .ensures .1) (omega (arith, c .before .before .before .before .before .before .before .before .before .before .before .before .before .before .before .before .next .given, c .before .before .before .before .before .before .before .before .before .before .before .before .before .before .before .before .before .end)) (omega (arith, c .before .before .before .before .before .before .before .before .before .before .before .before .before .before .side .given, c .before .before .before .before .before .before .before .before .before .before .before .before .before .before .before .before .before .end)) in (
-      moving-next _ _ _ _ _ _ _ _ _ (c .before .before .before .before .before .before .before .before .before .before .before .before .before .before .before .before .before .before .before .before .before .before .before .before .before .before .before .before .before .before .run .inv .0) (c .before .before .before .before .before .before .before .before .before .before .before .before .before .before .before .before .before .before .before .before .before .before .before .before .before .before .before .before .before .if1 .left) (moving-fit _ _ _ _ _ _ _ _ _ (c .before .before .before .before .before .before .before .before .before .before .before .before .before .before .before .before .before .before .before .before .before .before .before .before .before .before .before .before .before .before .run .inv .0) (c .before .before .before .before .before .before .before .before .before .before .before .before .before .before .before .before .before .before .before .before .before .before .before .before .before .before .before .before .before .if1 .left) _ _ _ _ d _ (c .before .before .before .before .before .before .before .before .before .before .before .before .keep-limits .ensures) (c .before .before .before .before .before .before .before .before .before .before .before .if3 .left)) (c .before .before .before .before .before .before .before .before .before .before .before .before .before .before .before .before .before .before .before .before .before .before .before .before .before .before .before .before .before .before .run .inv .4) _ _ _ (c .before .before .before .before .go-on .ensures),
-      omega (arith, c .before .before .before .before .before .before .before .before .before .before .before .before .before .before .before .before .before .before .before .before .before .before .before .before .before .before .before .before .before .before .run .inv .1, c .before .before .before .cur .given, c .before .before .before .before .go-on),
-      omega (arith, c .before .before .before .before .before .before .before .before .before .before .before .before .before .before .before .before .next .given, c .before .before .before .before .before .before .before .before .before .before .before .before .before .before .before .before .before .end, c .before .before .before .before .before .before .before .before .before .before .before .before .before .before .before .before .before .before .before .before .before .before .loop .inv .1, c .before .before .before .before .before .before .before .before .before .before .before .before .before .before .before .before .before .before .before .before .before .before .before .before .before .before .before .before .before .before .run .inv .2),
-      omega (arith, c .before .before .before .before .before .before .before .before .before .before .before .before .before .before .side .given, c .before .before .before .before .before .before .before .before .before .before .before .before .before .before .before .before .before .end, c .before .before .before .before .before .before .before .before .before .before .before .before .before .before .before .before .before .before .before .before .before .before .loop .inv .2, c .before .before .before .before .before .before .before .before .before .before .before .before .before .before .before .before .before .before .before .before .before .before .before .before .before .before .before .before .before .before .run .inv .3),
-      omega (arith, c .before .before .before .before .before .before .before .before .before .before .before .before .before .before .before .before .before .before .before .before .before .before .before .before .before .before .before .before .before .before .run .inv .4, c .before .parts .given, c .before .before .before .before .go-on),
+    let at-parts = c .before in
+    let at-cur = at-parts .before .before in
+    let at-go-on = at-cur .before in
+    let at-if3 = at-go-on .before .before .before .before .before .before .before in
+    let at-keep-limits = at-if3 .before in
+    let at-side = at-keep-limits .before .before in
+    let at-next = at-side .before .before in
+    let at-end = at-next .before in
+    let at-if2 = at-end .before .before .before in
+    let at-goes-on = at-if2 .before in
+    let at-loop = at-goes-on .before in
+    let at-if1 = at-loop .before .before .before .before .before .before .before in
+    let at-run = at-if1 .before in
+    let d = staged-run _ _ _ _ _ (at-loop .loop .b) _ _ (at-loop .loop .inv .0) (at-loop .loop .inv .1) (at-loop .loop .inv .2) _ (at-goes-on .goes-on .ensures) (at-if2 .if2 .taken) (at-end .end .result) _ _ (at-end .end .ensures .0) (at-end .end .ensures .1) (omega (arith, at-next .next .given, at-end .end)) (omega (arith, at-side .side .given, at-end .end)) in (
+      moving-next _ _ _ _ _ _ _ _ _ (at-run .run .inv .0) (at-if1 .if1 .left) (moving-fit _ _ _ _ _ _ _ _ _ (at-run .run .inv .0) (at-if1 .if1 .left) _ _ _ _ d _ (at-keep-limits .keep-limits .ensures) (at-if3 .if3 .left)) (at-run .run .inv .4) _ _ _ (at-go-on .go-on .ensures),
+      omega (arith, at-run .run .inv .1, at-cur .cur .given, at-go-on .go-on),
+      omega (arith, at-next .next .given, at-end .end, at-loop .loop .inv .1, at-run .run .inv .2),
+      omega (arith, at-side .side .given, at-end .end, at-loop .loop .inv .2, at-run .run .inv .3),
+      omega (arith, at-run .run .inv .4, at-parts .parts .given, at-go-on .go-on),
     )
 
 same-length : tie.Need-same-length Inv-loop μ-loop Inv-run μ-run
@@ -117,35 +160,76 @@ same-length-5 : tie.Need-same-length-5 Inv-loop μ-loop Inv-run μ-run
 same-length-5 c = c .before .before .before .before .before .before .before .before .before .before .before .before .before .before .before .before .before .before .before .run .inv .1
 
 same-length-6 : tie.Need-same-length-6 Inv-loop μ-loop Inv-run μ-run
-same-length-6 c = omega (arith, c .before .before .before .before .before .next .given, c .before .before .before .before .before .before .end, c .before .before .before .before .before .before .before .before .before .before .before .loop .inv .1, c .before .before .before .before .before .before .before .before .before .before .before .before .before .before .before .before .before .before .before .run .inv .2)
+same-length-6 c =
+    let at-next = c .before .before .before .before .before in
+    let at-end = at-next .before in
+    let at-loop = at-end .before .before .before .before .before in
+    let at-run = at-loop .before .before .before .before .before .before .before .before in
+    omega (arith, at-next .next .given, at-end .end, at-loop .loop .inv .1, at-run .run .inv .2)
 
 same-length-7 : tie.Need-same-length-7 Inv-loop μ-loop Inv-run μ-run
-same-length-7 c = omega (arith, c .before .before .before .side .given, c .before .before .before .before .before .before .end, c .before .before .before .before .before .before .before .before .before .before .before .loop .inv .2, c .before .before .before .before .before .before .before .before .before .before .before .before .before .before .before .before .before .before .before .run .inv .3)
+same-length-7 c =
+    let at-side = c .before .before .before in
+    let at-end = at-side .before .before .before in
+    let at-loop = at-end .before .before .before .before .before in
+    let at-run = at-loop .before .before .before .before .before .before .before .before in
+    omega (arith, at-side .side .given, at-end .end, at-loop .loop .inv .2, at-run .run .inv .3)
 
 same-length-8 : tie.Need-same-length-8 Inv-loop μ-loop Inv-run μ-run
 same-length-8 c = c .before .before .before .before .before .before .before .before .before .before .before .before .before .before .before .before .before .before .before .run .inv .4
 
 returns-2 : tie.Need-returns-2 Inv-loop μ-loop Inv-run μ-run
 returns-2 c =
-    let d = staged-run _ _ _ _ _ (c .before .before .before .before .before .before .before .before .before .before .before .loop .b) _ _ (c .before .before .before .before .before .before .before .before .before .before .before .loop .inv .0) (c .before .before .before .before .before .before .before .before .before .before .before .loop .inv .1) (c .before .before .before .before .before .before .before .before .before .before .before .loop .inv .2) _ (c .before .before .before .before .before .before .before .before .before .before .goes-on .ensures) (c .before .before .before .before .before .before .before .before .before .if2 .taken) (c .before .before .before .before .before .before .end .result) _ _ (c .before .before .before .before .before .before .end .ensures .0) (c .before .before .before .before .before .before .end .ensures .1) (omega (arith, c .before .before .before .before .before .next .given, c .before .before .before .before .before .before .end)) (omega (arith, c .before .before .before .side .given, c .before .before .before .before .before .before .end)) in
-    moving-stop _ _ _ _ _ _ _ _ _ (c .before .before .before .before .before .before .before .before .before .before .before .before .before .before .before .before .before .before .before .run .inv .0) (c .before .before .before .before .before .before .before .before .before .before .before .before .before .before .before .before .before .before .if1 .left) _ _ _ _ d _ (c .before .keep-limits .ensures) _ (c .if3 .taken)
+    let at-keep-limits = c .before in
+    let at-side = at-keep-limits .before .before in
+    let at-next = at-side .before .before in
+    let at-end = at-next .before in
+    let at-if2 = at-end .before .before .before in
+    let at-goes-on = at-if2 .before in
+    let at-loop = at-goes-on .before in
+    let at-if1 = at-loop .before .before .before .before .before .before .before in
+    let at-run = at-if1 .before in
+    let d = staged-run _ _ _ _ _ (at-loop .loop .b) _ _ (at-loop .loop .inv .0) (at-loop .loop .inv .1) (at-loop .loop .inv .2) _ (at-goes-on .goes-on .ensures) (at-if2 .if2 .taken) (at-end .end .result) _ _ (at-end .end .ensures .0) (at-end .end .ensures .1) (omega (arith, at-next .next .given, at-end .end)) (omega (arith, at-side .side .given, at-end .end)) in
+    moving-stop _ _ _ _ _ _ _ _ _ (at-run .run .inv .0) (at-if1 .if1 .left) _ _ _ _ d _ (at-keep-limits .keep-limits .ensures) _ (c .if3 .taken)
 
 same-length-9 : tie.Need-same-length-9 Inv-loop μ-loop Inv-run μ-run
 same-length-9 c = c .before .before .before .before .before .before .before .before .before .before .before .before .before .before .before .before .before .before .before .before .before .run .inv .1
 
 same-length-10 : tie.Need-same-length-10 Inv-loop μ-loop Inv-run μ-run
-same-length-10 c = omega (arith, c .before .before .before .before .before .before .before .next .given, c .before .before .before .before .before .before .before .before .end, c .before .before .before .before .before .before .before .before .before .before .before .before .before .loop .inv .1, c .before .before .before .before .before .before .before .before .before .before .before .before .before .before .before .before .before .before .before .before .before .run .inv .2)
+same-length-10 c =
+    let at-next = c .before .before .before .before .before .before .before in
+    let at-end = at-next .before in
+    let at-loop = at-end .before .before .before .before .before in
+    let at-run = at-loop .before .before .before .before .before .before .before .before in
+    omega (arith, at-next .next .given, at-end .end, at-loop .loop .inv .1, at-run .run .inv .2)
 
 same-length-11 : tie.Need-same-length-11 Inv-loop μ-loop Inv-run μ-run
-same-length-11 c = omega (arith, c .before .before .before .before .before .side .given, c .before .before .before .before .before .before .before .before .end, c .before .before .before .before .before .before .before .before .before .before .before .before .before .loop .inv .2, c .before .before .before .before .before .before .before .before .before .before .before .before .before .before .before .before .before .before .before .before .before .run .inv .3)
+same-length-11 c =
+    let at-side = c .before .before .before .before .before in
+    let at-end = at-side .before .before .before in
+    let at-loop = at-end .before .before .before .before .before in
+    let at-run = at-loop .before .before .before .before .before .before .before .before in
+    omega (arith, at-side .side .given, at-end .end, at-loop .loop .inv .2, at-run .run .inv .3)
 
 same-length-12 : tie.Need-same-length-12 Inv-loop μ-loop Inv-run μ-run
 same-length-12 c = c .before .before .before .before .before .before .before .before .before .before .before .before .before .before .before .before .before .before .before .before .before .run .inv .4
 
 returns-3 : tie.Need-returns-3 Inv-loop μ-loop Inv-run μ-run
 returns-3 c =
-    let d = staged-run _ _ _ _ _ (c .before .before .before .before .before .before .before .before .before .before .before .before .before .loop .b) _ _ (c .before .before .before .before .before .before .before .before .before .before .before .before .before .loop .inv .0) (c .before .before .before .before .before .before .before .before .before .before .before .before .before .loop .inv .1) (c .before .before .before .before .before .before .before .before .before .before .before .before .before .loop .inv .2) _ (c .before .before .before .before .before .before .before .before .before .before .before .before .goes-on .ensures) (c .before .before .before .before .before .before .before .before .before .before .before .if2 .taken) (c .before .before .before .before .before .before .before .before .end .result) _ _ (c .before .before .before .before .before .before .before .before .end .ensures .0) (c .before .before .before .before .before .before .before .before .end .ensures .1) (omega (arith, c .before .before .before .before .before .before .before .next .given, c .before .before .before .before .before .before .before .before .end)) (omega (arith, c .before .before .before .before .before .side .given, c .before .before .before .before .before .before .before .before .end)) in
-    moving-short _ _ _ _ _ _ _ _ _ (c .before .before .before .before .before .before .before .before .before .before .before .before .before .before .before .before .before .before .before .before .before .run .inv .0) (c .before .before .before .before .before .before .before .before .before .before .before .before .before .before .before .before .before .before .before .before .if1 .left) _ _ _ _ d _ (c .before .before .before .keep-limits .ensures) (c .before .before .if3 .left) _ _ (omega (arith, c .before .before .before .before .before .before .before .next .given, c .before .before .before .before .before .before .before .before .end, c .before .before .before .before .before .before .before .before .before .before .before .before .before .loop .inv .1, c .before .before .before .before .before .before .before .before .before .before .before .before .before .before .before .before .before .before .before .before .before .run .inv .2, c .before .before .before .before .before .before .before .before .before .before .before .before .before .before .before .before .before .before .before .before .before .before .before .before .before .before .before .pre .4)) _ (c .before .have-places .ensures) (c .if4 .taken)
+    let at-have-places = c .before in
+    let at-if3 = at-have-places .before in
+    let at-keep-limits = at-if3 .before in
+    let at-side = at-keep-limits .before .before in
+    let at-next = at-side .before .before in
+    let at-end = at-next .before in
+    let at-if2 = at-end .before .before .before in
+    let at-goes-on = at-if2 .before in
+    let at-loop = at-goes-on .before in
+    let at-if1 = at-loop .before .before .before .before .before .before .before in
+    let at-run = at-if1 .before in
+    let start = at-run .before .before .before .before .before .before in
+    let d = staged-run _ _ _ _ _ (at-loop .loop .b) _ _ (at-loop .loop .inv .0) (at-loop .loop .inv .1) (at-loop .loop .inv .2) _ (at-goes-on .goes-on .ensures) (at-if2 .if2 .taken) (at-end .end .result) _ _ (at-end .end .ensures .0) (at-end .end .ensures .1) (omega (arith, at-next .next .given, at-end .end)) (omega (arith, at-side .side .given, at-end .end)) in
+    moving-short _ _ _ _ _ _ _ _ _ (at-run .run .inv .0) (at-if1 .if1 .left) _ _ _ _ d _ (at-keep-limits .keep-limits .ensures) (at-if3 .if3 .left) _ _ (omega (arith, at-next .next .given, at-end .end, at-loop .loop .inv .1, at-run .run .inv .2, start .pre .4)) _ (at-have-places .have-places .ensures) (c .if4 .taken)
 
 pub rebase-spec : {M : Type 1} → statement M
 rebase-spec =

@@ -20,7 +20,12 @@ same-length : tie.Need-same-length
 same-length c = search needs
 
 returns : tie.Need-returns
-returns c = second-both _ _ _ _ _ _ _ _ _ (c .before .before .before .before .before .before .before .before .before .before .before .before .before .pre .4) (c .rest .ensures) (c .before .before .before .part .ensures) (c .before .before .before .before .before .before .gives .ensures .0) (c .before .before .before .before .before .retain .ensures)
+returns c =
+    let at-part = c .before .before .before in
+    let at-retain = at-part .before .before in
+    let at-gives = at-retain .before in
+    let start = at-gives .before .before .before .before .before .before .before in
+    second-both _ _ _ _ _ _ _ _ _ (start .pre .4) (c .rest .ensures) (at-part .part .ensures) (at-gives .gives .ensures .0) (at-retain .retain .ensures)
 
 pub second-spec : {M : Type 1} → statement M
 second-spec =

@@ -29,13 +29,23 @@ same-length : tie.Need-same-length
 same-length c = search needs
 
 returns : tie.Need-returns
-returns c = turned-first _ _ _ _ _ _ _ (c .before .before .before .before .before .before .whose .ensures) (c .before .before .before .before .before .before .before .before .before .before .before .before .before .pre .5) (c .before .before .before .before .before .before .before .before .before .before .before .before .before .pre .6) _ (c .before .before .before .before .enum-told .given .1) _ (c .before .before .first .ensures)
+returns c =
+    let at-first = c .before .before in
+    let at-enum-told = at-first .before .before in
+    let at-whose = at-enum-told .before .before in
+    let start = at-whose .before .before .before .before .before .before .before in
+    turned-first _ _ _ _ _ _ _ (at-whose .whose .ensures) (start .pre .5) (start .pre .6) _ (at-enum-told .enum-told .given .1) _ (at-first .first .ensures)
 
 same-length-2 : tie.Need-same-length-2
 same-length-2 c = search needs
 
 returns-2 : tie.Need-returns-2
-returns-2 c = turned-second _ _ _ _ _ _ _ (c .before .before .before .before .before .before .whose .ensures) (c .before .before .before .before .before .before .before .before .before .before .before .before .before .pre .5) (c .before .before .before .before .before .before .before .before .before .before .before .before .before .pre .6) _ (c .before .before .before .before .enum-told2 .given .1) _ (c .before .before .second .ensures)
+returns-2 c =
+    let at-second = c .before .before in
+    let at-enum-told2 = at-second .before .before in
+    let at-whose = at-enum-told2 .before .before in
+    let start = at-whose .before .before .before .before .before .before .before in
+    turned-second _ _ _ _ _ _ _ (at-whose .whose .ensures) (start .pre .5) (start .pre .6) _ (at-enum-told2 .enum-told2 .given .1) _ (at-second .second .ensures)
 
 same-length-3 : tie.Need-same-length-3
 same-length-3 c = search needs
@@ -44,7 +54,12 @@ same-length-4 : tie.Need-same-length-4
 same-length-4 c = search needs
 
 returns-3 : tie.Need-returns-3
-returns-3 c = turned-together _ _ _ _ _ _ _ (c .before .before .before .before .before .before .before .before .before .whose .ensures) (c .before .before .before .before .before .before .before .before .before .before .before .before .before .before .before .before .pre .5) (c .before .before .before .before .before .before .before .before .before .before .before .before .before .before .before .before .pre .6) _ (c .before .before .before .before .before .before .before .enum-told3 .given .1) _ _ (c .before .before .before .before .together .ensures)
+returns-3 c =
+    let at-together = c .before .before .before .before in
+    let at-enum-told3 = at-together .before .before .before in
+    let at-whose = at-enum-told3 .before .before in
+    let start = at-whose .before .before .before .before .before .before .before in
+    turned-together _ _ _ _ _ _ _ (at-whose .whose .ensures) (start .pre .5) (start .pre .6) _ (at-enum-told3 .enum-told3 .given .1) _ _ (at-together .together .ensures)
 
 pub turn-spec : {M : Type 1} → statement M
 turn-spec =
