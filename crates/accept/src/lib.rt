@@ -237,16 +237,17 @@ fn small(edit: &[u8], r: u64, log: &mut [u8], s: Scan, n: usize, out: &mut [u8])
     }
 }
 
-// Past n revisions that came meanwhile. Nearly all edits have a place in short buffers, which cost little to clear.
+// Past n revisions that came meanwhile. A short edit and few bytes of revisions nearly always do with short buffers, which cost little to
+// clear.
 fn late(edit: &[u8], r: u64, log: &mut [u8], s: Scan, n: usize, out: &mut [u8]) -> WrittenPair
     requires { ⌜ Admitted (now edit) r (now log) s × (n ≡ countOf (now log) - r) ⌝ }
     ensures { λ x. ⌜ Accepts (now (edit .entry)) r (now (log .entry)) (now (out .entry)) x (now (log .exit)) (now (out .exit)) ⌝ }
 {
     let size = operation::core::size(edit);
-    if 16 < n {
+    if 128 < size {
         return medium(edit, r, log, s, n, out);
     }
-    if 128 < size {
+    if s.at + 384 < s.size {
         return medium(edit, r, log, s, n, out);
     }
     small(edit, r, log, s, n, out)
