@@ -1,0 +1,84 @@
+use native.Mathlib.Omega.{arith}
+use Rattle.accept.proofs.Places.{from-inside}
+use borrow.Author.Needs.{needs}
+use Rattle.accept.proofs.late.Statement.{statement}
+use Rattle.accept.proofs.late.Tie as tie
+
+size-requires : tie.Need-size-requires
+size-requires c κs = search needs
+
+large-requires : tie.Need-large-requires
+large-requires c κs = search needs
+
+same-length : tie.Need-same-length
+same-length c = search needs
+
+same-length-2 : tie.Need-same-length-2
+same-length-2 c = search needs
+
+returns : tie.Need-returns
+returns c = search needs
+
+medium-requires : tie.Need-medium-requires
+medium-requires c κs = search needs
+
+same-length-3 : tie.Need-same-length-3
+same-length-3 c = search needs
+
+same-length-4 : tie.Need-same-length-4
+same-length-4 c = search needs
+
+returns-2 : tie.Need-returns-2
+returns-2 c = search needs
+
+add-if3 : tie.Need-add-if3
+add-if3 c =
+    let start = c .before .before .before .before .before .before .before in
+    omega (arith, from-inside _ _ _ (start .pre .0 .found) (start .pre .0 .rev) _ (start .pre .1), start .good)
+
+medium-requires-2 : tie.Need-medium-requires-2
+medium-requires-2 c κs = search needs
+
+same-length-5 : tie.Need-same-length-5
+same-length-5 c = search needs
+
+same-length-6 : tie.Need-same-length-6
+same-length-6 c = search needs
+
+returns-3 : tie.Need-returns-3
+returns-3 c = search needs
+
+small-requires : tie.Need-small-requires
+small-requires c κs = search needs
+
+same-length-7 : tie.Need-same-length-7
+same-length-7 c = search needs
+
+same-length-8 : tie.Need-same-length-8
+same-length-8 c = search needs
+
+returns-4 : tie.Need-returns-4
+returns-4 c = search needs
+
+pub late-spec : {M : Type 1} → statement M
+late-spec =
+    tie.close
+    (tie.spec
+    size-requires
+    large-requires
+    same-length
+    same-length-2
+    returns
+    medium-requires
+    same-length-3
+    same-length-4
+    returns-2
+    add-if3
+    medium-requires-2
+    same-length-5
+    same-length-6
+    returns-3
+    small-requires
+    same-length-7
+    same-length-8
+    returns-4)
