@@ -2,6 +2,7 @@
 use log::core::Scanned;
 use operation::Refusal;
 use operational_transform::Written;
+use utf8::core::Form;
 ghost use mathlib.Core.Path.{_≡_};
 ghost use Prim.Native.Nat.{_≤_};
 ghost use lib.Dec.{T};
@@ -31,13 +32,12 @@ pub fn play(
 ) -> Written
     ensures { λ r. ⌜ (writtenOf r ≡ playCall (now (log .entry)) (now (text .entry)) (length (now («scratch_a» .entry))) (length (now («scratch_b» .entry))) (now (out .entry)) .answer) × (now (out .exit) ≡ playCall (now (log .entry)) (now (text .entry)) (length (now («scratch_a» .entry))) (length (now («scratch_b» .entry))) (now (out .entry)) .out) ⌝ }
 {
-    if !utf8::well_formed(text) {
+    let Form::Chars(chars) = utf8::core::form_of(text) else {
         return Written::Refused(Refusal::Utf8);
-    }
+    };
     let Scanned::Of(scan) = log::core::read(log, 0) else {
         return Written::Refused(Refusal::Log);
     };
-    let chars = utf8::num_chars(text);
     if chars != scan.start {
         return Written::Refused(Refusal::IncompatibleLengths);
     }

@@ -1,10 +1,17 @@
-use Rattle.playback.proofs.Answers.{play-refused, play-3, play-6, play-8, play-short, play-10, play-0, play-out, play-reads, play-count, play-well, play-agrees, play-inside, play-size, play-room}
+use Rattle.utf8.proofs.Passed.{form-holds}
+use Rattle.playback.proofs.Answers.{play-refused, play-3, play-6, play-8, play-short, play-10, play-0, play-out, play-reads, play-count, play-agrees, play-inside, play-size, play-room}
 use borrow.Author.Needs.{needs}
 use Rattle.playback.proofs.play.Statement.{statement}
 use Rattle.playback.proofs.play.Tie as tie
 
-well-formed-requires : tie.Need-well-formed-requires
-well-formed-requires c κs = search needs
+form-of-requires : tie.Need-form-of-requires
+form-of-requires c κs = search needs
+
+enum-known-chars : tie.Need-enum-known-chars
+enum-known-chars c = search needs
+
+enum-told : tie.Need-enum-told
+enum-told c = search needs
 
 returns : tie.Need-returns
 returns c = play-refused _ _ _ _ _ 3 (search play-3)
@@ -15,26 +22,23 @@ read-requires c κs = search needs
 enum-known-scan : tie.Need-enum-known-scan
 enum-known-scan c = search needs
 
-enum-told : tie.Need-enum-told
-enum-told c = search needs
+enum-told-2 : tie.Need-enum-told-2
+enum-told-2 c = search needs
 
 returns-2 : tie.Need-returns-2
 returns-2 c = play-refused _ _ _ _ _ 6 (search play-6)
-
-num-chars-requires : tie.Need-num-chars-requires
-num-chars-requires c κs = search needs
 
 returns-3 : tie.Need-returns-3
 returns-3 c = play-refused _ _ _ _ _ 8 (search play-8)
 
 run-requires : tie.Need-run-requires
-run-requires c κs = (search play-reads, search play-count, search play-well, search play-agrees)
+run-requires c κs = (search play-reads, search play-count, search form-holds, search play-agrees)
 
 enum-known-n : tie.Need-enum-known-n
 enum-known-n c = search needs
 
-enum-told-2 : tie.Need-enum-told-2
-enum-told-2 c = search needs
+enum-told-3 : tie.Need-enum-told-3
+enum-told-3 c = search needs
 
 same-length : tie.Need-same-length
 same-length c = search needs
@@ -79,17 +83,18 @@ pub play-spec : {M : Type 1} → statement M
 play-spec =
     tie.close
     (tie.spec
-    well-formed-requires
+    form-of-requires
+    enum-known-chars
+    enum-told
     returns
     read-requires
     enum-known-scan
-    enum-told
+    enum-told-2
     returns-2
-    num-chars-requires
     returns-3
     run-requires
     enum-known-n
-    enum-told-2
+    enum-told-3
     same-length
     same-length-2
     returns-4
