@@ -166,6 +166,9 @@ pub fn cut(rec: &[u8], f: Front, k: usize) -> usize
     if from == to {
         return to;
     }
+    if to - from == f.left {
+        return from + k;
+    }
     let text = &rec[from..to];
     from + utf8::core::skip(text, 0, k)
 }
