@@ -153,7 +153,7 @@ pub fn load(rec: &[u8], n: usize, k: usize, at: usize) -> Front
     }
 }
 
-// The place in its text that is k characters behind the front.
+// The place in its text that is k characters behind the front: k bytes, where each character is one.
 pub fn cut(rec: &[u8], f: Front, k: usize) -> usize
     requires { ⌜ Stands (now rec) f × (k ≤ f .left) ⌝ }
     ensures { λ mid. ⌜ Cut (now (rec .entry)) f k mid ⌝ }
