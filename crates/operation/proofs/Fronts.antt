@@ -1,5 +1,5 @@
 -- Fronts: loaded, cut, and what stays of them.
-use Prim.Native.Nat.{ℕ, zero, suc, _+_, _-_, _≤_, _<_}
+use Prim.Native.Nat.{ℕ, zero, suc, _+_, _-_, _≤_, _<_, zero-le}
 use native.Mathlib.Nat.{zero-add, sub-zero}
 use native.Mathlib.Omega.{arith}
 use mathlib.Core.Path.{_≡_, refl, sym, ap, ap₂, _∙_}
@@ -17,6 +17,7 @@ use Rattle.utf8.proofs.Tests.{both, holds}
 use Rattle.utf8.proofs.Leads.{inside}
 use Rattle.utf8.proofs.Chars.{num-le, well-all}
 use Rattle.utf8.proofs.Texts.{chars-bytes, chars-length, bytes-chars, bytes-well, bytes-take, bytes-split, bytes-append}
+use Rattle.utf8.proofs.Places.{skips-plain}
 use Rattle.operation.specs.declared.core.Front.{Front}
 use Rattle.operation.specs.Op.{ifZero, Op, retain, insert, delete, size, cut, rest, front}
 use Rattle.operation.specs.Layout.{recordsOf, textBytesOf, textStart, sizeOf, kindAt, countAt}
@@ -358,6 +359,15 @@ module _ (r : List ℕ) (f : Front) (s : Stands r f) (k : ℕ) where
 
     pub skip-well : T (wellFormed (drop 0 (frontText r f)))
     skip-well = s .text has-text .0
+
+    -- where every character is one byte
+    pub cut-plain : k ≤ f .left → f .to - f .from ≡ f .left → Cut r f k (f .from + k)
+    cut-plain h e =
+        let t = frontText r f in
+        let n : numChars t ≡ length t = omega (arith, s .text has-text .1, text-size) in
+        let p = skips-plain t 0 k zero-le skip-well n k (omega (arith, text-size)) in
+        let l : k ≡ length (bytes (take k (chars t))) = omega (arith, ap length (p .part), length-take (k - 0) t, text-size) in
+        parts (f .from + k) (omega arith) (omega (arith, s .part)) (λ _. let i : f .from + k - f .from ≡ k = omega arith in i ∙ l)
 
     module _ (d : ℕ) (m : d ≡ 0 + length (takeChars k (drop 0 (frontText r f)))) where
       found : d ≡ length (bytes (take k (chars (frontText r f))))

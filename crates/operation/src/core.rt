@@ -153,7 +153,7 @@ pub fn load(rec: &[u8], n: usize, k: usize, at: usize) -> Front
     }
 }
 
-// The place in its text that is k characters behind the front.
+// The place in its text that is k characters behind the front: k bytes, where each character is one.
 pub fn cut(rec: &[u8], f: Front, k: usize) -> usize
     requires { ⌜ Stands (now rec) f × (k ≤ f .left) ⌝ }
     ensures { λ mid. ⌜ Cut (now (rec .entry)) f k mid ⌝ }
@@ -165,6 +165,9 @@ pub fn cut(rec: &[u8], f: Front, k: usize) -> usize
     }
     if from == to {
         return to;
+    }
+    if to - from == f.left {
+        return from + k;
     }
     let text = &rec[from..to];
     from + utf8::core::skip(text, 0, k)
