@@ -196,7 +196,7 @@ fn large(a: &[u8], na: usize, b: &[u8], nb: usize, slots: usize, out: &mut [u8])
     requires { ⌜ (na ≡ recordsOf (now a)) × (na ≤ 1024) × (nb ≡ recordsOf (now b)) × (nb ≤ 1024) × (recordFault (now a) ≡ 0) × (recordFault (now b) ≡ 0) × (slots ≤ 2048) × (targetOf (now a) ≡ baseOf (now b)) ⌝ }
     ensures { λ r. ⌜ Gives (composeCall (now (a .entry)) (now (b .entry)) (now (out .entry))) r (now (out .exit)) ⌝ }
 {
-    let mut stage = [0u8; 16384];
+    let mut stage = [0u8; 8192];
     staged(a, na, b, nb, &mut stage, slots, out)
 }
 

@@ -168,7 +168,7 @@ fn large(rec: &[u8], records: usize, text: &[u8], chars: usize, out: &mut [u8]) 
     requires { ⌜ (recordFault (now rec) ≡ 0) × (records ≡ recordsOf (now rec)) × (records ≤ 1024) × T (wellFormed (now text)) × (chars ≡ numChars (now text)) ⌝ }
     ensures { λ r. ⌜ Gives (deliver 0 (invertOf (ops (now (rec .entry))) (charsOf (now (text .entry)))) (now (out .entry))) r (now (out .exit)) ⌝ }
 {
-    let mut stage = [0u8; 16384];
+    let mut stage = [0u8; 8192];
     match staged(rec, records, text, chars, &mut stage, out) {
         Written::Bytes(k) => Written::Bytes(k),
         Written::Refused(x) => Written::Refused(x),

@@ -419,3 +419,11 @@ module _ (r : List ℕ) (n t from : ℕ) (s : Sound r) (e : n ≡ recordsOf r) (
           let u = drop (textStart (recordsOf r)) r in
           let v : insertBytes (entries r) ≤ numChars (take (insertBytes (entries r)) u) = omega (arith, num ∙ ap (λ m. numChars (take m u)) (sym (s .adds-up)), s .adds-up) in
           settled true refl (sym (ap (λ i. startWell (entries r) (drop (textStart i) r)) e ∙ plain-starts (entries r) u (s .entries-sound) (simp length-drop (omega (arith, s .room, s .adds-up))) v))
+
+-- where there is no text, none is looked at
+pub no-text : (r : List ℕ) (n t : ℕ) → Sound r → n ≡ recordsOf r → t ≡ textBytesOf r → t ≡ 0 → Chars 0 ≡ insertedOf r
+unfolding formOf
+no-text r n t s e f z =
+    let from = textStart n in
+    let k : 0 ≡ from + t - from = omega arith in
+    text-plain r n t from s e f refl (form.Chars 0) (ap (λ k. formOf (take k (drop from r))) k) refl (omega arith)

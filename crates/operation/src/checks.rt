@@ -166,6 +166,9 @@ pub(crate) fn inserted_chars(rec: &[u8], n: usize, text: usize) -> Inserted
     requires { ⌜ (n ≡ recordsOf (now rec)) × (text ≡ textBytesOf (now rec)) × Sound (now rec) ⌝ }
     ensures { λ r. ⌜ r ≡ insertedOf (now (rec .entry)) ⌝ }
 {
+    if text == 0 {
+        return Inserted::Chars(0);
+    }
     let from = crate::layout::text_start(n);
     let to = from + text;
     let all = &rec[from..to];

@@ -368,8 +368,8 @@ fn large(
     requires { ⌜ (na ≡ recordsOf (now a)) × (na ≤ 1024) × (nb ≡ recordsOf (now b)) × (nb ≤ 1024) × (recordFault (now a) ≡ 0) × (recordFault (now b) ≡ 0) × (slots ≤ 2048) × (baseOf (now a) ≡ baseOf (now b)) ⌝ }
     ensures { λ r. ⌜ Transforms (now (a .entry)) (now (b .entry)) (now («out_a» .entry)) (now («out_b» .entry)) r (now («out_a» .exit)) (now («out_b» .exit)) ⌝ }
 {
-    let mut stage_a = [0u8; 16384];
-    let mut stage_b = [0u8; 16384];
+    let mut stage_a = [0u8; 8192];
+    let mut stage_b = [0u8; 8192];
     match staged(
         a,
         na,

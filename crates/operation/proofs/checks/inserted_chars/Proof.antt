@@ -1,7 +1,10 @@
-use Rattle.operation.proofs.Checking.{text-ill, text-stops, text-starts, text-plain}
+use Rattle.operation.proofs.Checking.{no-text, text-ill, text-stops, text-starts, text-plain}
 use borrow.Author.Needs.{needs}
 use Rattle.operation.proofs.checks.inserted_chars.Statement.{statement}
 use Rattle.operation.proofs.checks.inserted_chars.Tie as tie
+
+returns : tie.Need-returns
+returns c = search no-text
 
 text-start-requires : tie.Need-text-start-requires
 text-start-requires c κs = search needs
@@ -27,25 +30,26 @@ enum-known-chars c = search needs
 enum-told : tie.Need-enum-told
 enum-told c = search needs
 
-returns : tie.Need-returns
-returns c = search text-ill
+returns-2 : tie.Need-returns-2
+returns-2 c = search text-ill
 
 start-well-requires : tie.Need-start-well-requires
 start-well-requires c κs = search needs
 
-returns-2 : tie.Need-returns-2
-returns-2 c = search text-stops
-
 returns-3 : tie.Need-returns-3
-returns-3 c = search text-starts
+returns-3 c = search text-stops
 
 returns-4 : tie.Need-returns-4
-returns-4 c = search text-plain
+returns-4 c = search text-starts
+
+returns-5 : tie.Need-returns-5
+returns-5 c = search text-plain
 
 pub inserted-chars-spec : {M : Type 1} → statement M
 inserted-chars-spec =
     tie.close
     (tie.spec
+    returns
     text-start-requires
     add-to
     sub-all
@@ -54,8 +58,8 @@ inserted-chars-spec =
     form-of-requires
     enum-known-chars
     enum-told
-    returns
-    start-well-requires
     returns-2
+    start-well-requires
     returns-3
-    returns-4)
+    returns-4
+    returns-5)
