@@ -2,25 +2,38 @@
 use Prim.Native.Nat.{ℕ, _+_, _*_, _^_, _≤_, _<_}
 use native.Mathlib.Omega.{arith}
 use mathlib.Core.Path.{_≡_, refl, sym, ap, ap₂, _∙_}
+use mathlib.Core.Bool.{Bool, true, false, cond}
 use mathlib.Core.List.{List, [], _∷_, _++_, append-assoc, append-nil}
-use lib.Dec.{T}
+use lib.Dec.{T, leb, eqb, leb→le}
 use lib.ListN.{length, drop, length-append}
+use borrow.Author.Tests.{eq-eqb, ne-eqb, eqb-true}
 use Rattle.utf8.specs.Form.{wellFormed}
 use Rattle.utf8.specs.Text.{chars}
 use Rattle.utf8.specs.Places.{Passes}
+use Rattle.utf8.proofs.Tests.{known}
 use Rattle.operation.specs.declared.core.Front.{Front}
 use Rattle.operation.specs.Layout.{recordsOf}
 use Rattle.operation.specs.Record.{Seq, ops, recordFault}
-use Rattle.operation.specs.Front.{frontOp, ahead, Stands, Loads}
-use Rattle.operation.proofs.Fronts.{some-ahead, ended-ahead, fault-few}
+use Rattle.operation.specs.Front.{frontOp, ahead, Place, Stands, Loads}
+use Rattle.operation.specs.Op.{retain}
+use Rattle.operation.proofs.Fronts.{some-ahead, ended-ahead, op-retain, begins-none, fault-few}
 use Rattle.operation.proofs.Records.{ops-length}
 use Rattle.operational_transform.specs.declared.core.Emitter.{Emitter}
 use Rattle.operational_transform.specs.Invert.{undoAll, invert}
-use Rattle.operational_transform.specs.Emit.{Under, nothing, Adds, Finishes, Done}
+use Rattle.operational_transform.specs.Emit.{Under, nothing, Adds, Retains, Finishes, Done}
 use Rattle.operational_transform.proofs.Adding.{adds-nil, adds-append, under-start, under-more}
 use Rattle.operational_transform.proofs.Delivering.{builds}
-use Rattle.invert.specs.Inverting.{taken, undone}
+use Rattle.invert.specs.Inverting.{taken, undone, lastRetain}
 use Rattle.invert.proofs.Passing.{taken-is, undone-is}
+
+-- ---- `is_last_retain`
+
+module _ (f : Front) (records : ℕ) where
+  pub retain-last : f .kind ≡ 1 → leb records (f .next) ≡ lastRetain f records
+  retain-last e = rw (eq-eqb (f .kind) 1 e)
+
+  pub no-retain : (f .kind ≡ 1 → ⊥) → false ≡ lastRetain f records
+  no-retain e = rw (ne-eqb (f .kind) 1 e)
 
 -- what was emitted, and what undoes all that lies ahead, undo the whole
 pub record Going (n : ℕ) (r t out : List ℕ) (f : Front) (at : ℕ) (e : Emitter) (o : List ℕ) : Type 0 where
@@ -48,12 +61,42 @@ module _ (n : ℕ) (r t out : List ℕ) (f : Front) (at : ℕ) (e : Emitter) (o 
   pub going-under : Under (2 ^ 39) e
   going-under = under-more (0 + 270000 * length (g .done)) (2 ^ 39) e (omega (arith, g .few)) (g .adds .under 0 under-start)
 
+  pub going-place : Place r (f .next) (f .to)
+  going-place = g .stands .place
+
+  pub going-small : f .left ≤ 65536
+  going-small = omega (arith, g .stands .small)
+
   pub going-done : f .kind ≡ 0 → (e′ : Emitter) (o′ : List ℕ) → Finishes n e o e′ o′ → Done n (invert (ops r) (chars t)) out e′ o′
   unfolding invert
   going-done k e′ o′ h =
       let p : g .done ≡ undoAll (ops r) (chars t) =
       sym (append-nil (g .done)) ∙ ap (λ s. g .done ++ undoAll s (chars (drop at t))) (sym (ended-ahead r f (g .stands) k)) ∙ g .all in
       rw (← p) (builds n out (g .done) refl (g .adds) h)
+
+  -- a last retain is repeated, wherever the text goes on
+  module _ (records : ℕ) (p : records ≡ recordsOf r) (v : Bool) (z : v ≡ lastRetain f records) (y : v ≡ true) where
+    last : ahead r f ≡ retain (f .left) ∷ []
+    last = go (eqb (f .kind) 1) refl (known (sym z ∙ y))
+      where
+        go : (b : Bool) → eqb (f .kind) 1 ≡ b → T (cond b (leb records (f .next)) false) → ahead r f ≡ retain (f .left) ∷ []
+        go true q h =
+            let k = eqb-true (f .kind) 1 q in
+            some-ahead r f (g .stands .some (omega arith)) ∙ ap₂ _∷_ (op-retain r f k) (begins-none r records (f .next) (f .to) p (leb→le records (f .next) h))
+        go false q h = absurd h
+
+    module _ (d : Emitter) (a : Retains (f .left) e d) where
+      last-adds : Adds n (g .done ++ (retain (f .left) ∷ [])) nothing out d o
+      last-adds = adds-append n (g .adds) (a .adds n o)
+
+      pub last-under : Under (2 ^ 39) d
+      last-under = under-more (0 + 270000 * length (g .done ++ (retain (f .left) ∷ []))) (2 ^ 39) d (omega (arith, g .few, ap length last, length-append (g .done) (retain (f .left) ∷ []))) (last-adds .under 0 under-start)
+
+      pub last-done : (e′ : Emitter) (o′ : List ℕ) → Finishes n d o e′ o′ → Done n (invert (ops r) (chars t)) out e′ o′
+      unfolding invert
+      last-done e′ o′ h =
+          let z : g .done ++ (retain (f .left) ∷ []) ≡ undoAll (ops r) (chars t) = ap (λ s. g .done ++ undoAll s (chars (drop at t))) (sym last) ∙ g .all in
+          rw (← z) (builds n out (g .done ++ (retain (f .left) ∷ [])) refl last-adds h)
 
   module _ (k : f .kind ≡ 0 → ⊥) (h : Front) (l : Loads r (f .next) (f .to) h) where
     next : ahead r f ≡ frontOp r f ∷ ahead r h

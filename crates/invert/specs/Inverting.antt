@@ -1,8 +1,8 @@
 -- What the functions below `invert` promise each other. No entry's contract cites this.
 use Prim.Native.Nat.{ℕ}
-use mathlib.Core.Bool.{cond}
+use mathlib.Core.Bool.{Bool, false, cond}
 use mathlib.Core.List.{List}
-use lib.Dec.{eqb}
+use lib.Dec.{leb, eqb}
 use lib.ListN.{take}
 use Rattle.utf8.specs.Text.{Char}
 use Rattle.operation.specs.declared.core.Front.{Front}
@@ -14,3 +14,7 @@ taken f = cond (eqb (f .kind) 2) 0 (f .left)
 
 abbrev pub undone : Front → List Char → Op Char
 undone f t = cond (eqb (f .kind) 1) (retain (f .left)) (cond (eqb (f .kind) 2) (delete (f .left)) (insert (take (f .left) t)))
+
+-- the front is a retain, the last of so many records
+abbrev pub lastRetain : Front → ℕ → Bool
+lastRetain f records = cond (eqb (f .kind) 1) (leb records (f .next)) false

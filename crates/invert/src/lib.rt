@@ -20,7 +20,7 @@ ghost use Rattle.operational_transform.specs.Invert.{invert as invertOf};
 ghost use Rattle.operational_transform.specs.Calls.{deliver, invertCall};
 ghost use Rattle.operational_transform.specs.Emit.{writtenOf, Under, Adds, Done, Writes, Staged};
 ghost use Rattle.operational_transform.specs.Given.{Gives};
-ghost use Rattle.invert.specs.Inverting.{taken, undone};
+ghost use Rattle.invert.specs.Inverting.{taken, undone, lastRetain};
 
 // The place in the text behind what the operation takes from it, or the end where the characters run out. The text has
 // `chars` characters: where that is its length in bytes each is one byte.
@@ -72,6 +72,16 @@ fn give(
     operational_transform::core::insert(out, n, e, text, at, to, num)
 }
 
+// Behind a last retain no character is asked for, so its own need not be passed.
+fn is_last_retain(f: Front, records: usize) -> bool
+    ensures { λ r. ⌜ r ≡ lastRetain f records ⌝ }
+{
+    if f.kind == 1 {
+        return records <= f.next;
+    }
+    false
+}
+
 // All of invert, for a result of n records.
 fn run(rec: &[u8], records: usize, text: &[u8], chars: usize, out: &mut [u8], n: usize) -> Emitter
     requires { ⌜ (recordFault (now rec) ≡ 0) × (records ≡ recordsOf (now rec)) × (records ≤ 1024) × T (wellFormed (now text)) × (chars ≡ numChars (now text)) × (n ≤ 2 ^ 40) ⌝ }
@@ -81,6 +91,10 @@ fn run(rec: &[u8], records: usize, text: &[u8], chars: usize, out: &mut [u8], n:
     let mut f = operation::core::first(rec, records);
     let mut at = 0;
     while f.kind != 0 {
+        if is_last_retain(f, records) {
+            let d = operational_transform::core::retain(e, f.left);
+            return operational_transform::core::finish(out, n, d);
+        }
         let to = past(text, chars, at, f);
         e = give(text, out, n, e, f, at, to);
         f = operation::core::load(rec, records, f.next, f.to);

@@ -10,7 +10,7 @@ use Rattle.operation.specs.Layout.{kindsStart, countsStart, textStart}
 use Rattle.operation.specs.Record.{Seq, inBytes, code, inserted}
 use Rattle.operation.proofs.Sequences.{inBytes-size}
 use Rattle.operational_transform.specs.declared.core.Emitter.{Emitter}
-use Rattle.operational_transform.specs.Emit.{over, bytes16, one, emitted, flushedRecords, flushed, opens, spilled, Under, kindsOf, countsOf, textsOf, laid, kept, group}
+use Rattle.operational_transform.specs.Emit.{over, bytes16, one, emitted, flushedRecords, flushedAt, flushed, opens, spilled, Under, kindsOf, countsOf, textsOf, laid, kept, group}
 use Rattle.operational_transform.proofs.Meaning.{ifZero-elim}
 use Rattle.operational_transform.proofs.Loops.{empty-bytes}
 use Rattle.operational_transform.proofs.Over.{over-none, over-join, over-swap, put-in, put16-both}
@@ -55,13 +55,13 @@ count-some k c z = omega (arith, one-some c (omega arith))
 
 -- ---- `flush`
 
-module _ (e : Emitter) {x y : ℕ} (p : x ≡ e .records + one (e .ins)) (q : y ≡ x + one (e .del)) where
-  pub count-all : {z : ℕ} → z ≡ y + one (e .ret) → z ≡ flushedRecords e
+module _ (records ins del ret : ℕ) {x y : ℕ} (p : x ≡ records + one ins) (q : y ≡ x + one del) where
+  pub count-all : {z : ℕ} → z ≡ y + one ret → z ≡ records + one ins + one del + one ret
   count-all r = simp (r, q, p)
 
-  pub flush-all : (n : ℕ) (o : List ℕ) {o₁ o₂ o₃ : List ℕ} → o₁ ≡ emitted n (e .records) 2 (e .ins) o → o₂ ≡ emitted n x 3 (e .del) o₁ → o₃ ≡ emitted n y 1 (e .ret) o₂
-      → o₃ ≡ flushed n e o
-  unfolding flushed
+  pub flush-all : (n : ℕ) (o : List ℕ) {o₁ o₂ o₃ : List ℕ} → o₁ ≡ emitted n records 2 ins o → o₂ ≡ emitted n x 3 del o₁ → o₃ ≡ emitted n y 1 ret o₂
+      → o₃ ≡ flushedAt n records ins del ret o
+  unfolding flushedAt
   flush-all n o f g h = simp (h, g, f, q, p)
 
 one-few : (c : ℕ) → one c ≤ 1
@@ -110,11 +110,11 @@ unfolding emitted
 emitted-over n k kind c = ifZero-elim (λ q. q ≡ []) c (λ _. refl) (λ _. simp over-none)
 
 pub spilled-none : (n : ℕ) (e : Emitter) → spilled n e [] ≡ []
-unfolding spilled flushed
+unfolding spilled flushedAt
 spilled-none n e = ifZero-elim (λ q. q ≡ []) (e .ret) (λ _. refl) (λ _. simp emitted-over)
 
 pub flushed-none : (n : ℕ) (e : Emitter) → flushed n e [] ≡ []
-unfolding flushed
+unfolding flushedAt
 flushed-none n e = simp emitted-over
 
 -- ---- the parts of a record
@@ -214,7 +214,7 @@ module _ (e : Emitter) (x : List Char) (s : Seq) (p : length s ≡ e .records) (
   group-length = rw (← length-s₂) (length-kept (retain (e .ret)) s₂)
 
   pub lay-group : (n : ℕ) (t out o : List ℕ) → flushedRecords e ≤ n → o ≡ laid n s t out → flushed n e o ≡ laid n (group x (e .del) (e .ret) s) t out
-  unfolding flushed inBytes
+  unfolding flushedAt inBytes
   lay-group n t out o h w =
       let a : emitted n (e .records) 2 (e .ins) o ≡ laid n s₁ t out = rw (w, ← p, ← q) (lay-kept (insert x) s n t out (omega (arith, ap one q))) in
       let b : emitted n (e .records + one (e .ins)) 3 (e .del) (laid n s₁ t out) ≡ laid n s₂ t out = rw (← length-s₁) (lay-kept (delete (e .del)) s₁ n t out (omega (arith, length-s₁))) in

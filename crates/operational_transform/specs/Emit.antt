@@ -52,18 +52,19 @@ emitted n k kind c o = ifZero c o (over (countsStart n + 2 * k) (bytes16 c) (ove
 abbrev pub flushedRecords : Emitter → ℕ
 flushedRecords e = e .records + one (e .ins) + one (e .del) + one (e .ret)
 
-unfoldable pub flushed : ℕ → Emitter → List ℕ → List ℕ
+unfoldable pub flushedAt : ℕ → ℕ → ℕ → ℕ → ℕ → List ℕ → List ℕ
 unfolding emitted
-flushed n e o =
-    emitted n (e .records + one (e .ins) + one (e .del)) 1 (e .ret)
-    (emitted n (e .records + one (e .ins)) 3 (e .del) (emitted n (e .records) 2 (e .ins) o))
+flushedAt n records ins del ret o = emitted n (records + one ins + one del) 1 ret (emitted n (records + one ins) 3 del (emitted n records 2 ins o))
+
+abbrev pub flushed : ℕ → Emitter → List ℕ → List ℕ
+flushed n e o = flushedAt n (e .records) (e .ins) (e .del) (e .ret) o
 
 -- a pending retain closes the group: what is added behind it begins another
 unfoldable pub opens : Emitter → Emitter
 opens e = ifZero (e .ret) e (record { ins = 0; del = 0; ret = 0; records = flushedRecords e; text = e .text; base = e .base; target = e .target })
 
 unfoldable pub spilled : ℕ → Emitter → List ℕ → List ℕ
-unfolding flushed
+unfolding flushedAt
 spilled n e o = ifZero (e .ret) o (flushed n e o)
 
 -- the numbers after an insert of `len` bytes and `num` characters, and after a delete of k characters

@@ -19,7 +19,7 @@ ghost use Rattle.utf8.specs.Text.{chars};
 ghost use Rattle.operation.specs.Layout.{textStart};
 ghost use Rattle.operation.specs.Op.{insert, delete, cut};
 ghost use Rattle.operation.specs.Front.{frontOp, Stands, Cut};
-ghost use Rattle.operational_transform.specs.Emit.{over, bytes16, one, emitted, flushed, flushedRecords, opens, spilled, insertedBy, deletedBy, Under, nothing, Adds, Retains, Finishes, headed, within, sizeIn, judged, settled};
+ghost use Rattle.operational_transform.specs.Emit.{over, bytes16, one, emitted, flushedAt, opens, spilled, insertedBy, deletedBy, Under, nothing, Adds, Retains, Finishes, headed, within, sizeIn, judged, settled};
 
 pub struct Emitter {
     // the pending group: bytes of the insert, characters of the delete and of the retain
@@ -104,14 +104,14 @@ fn emit(out: &mut [u8], n: usize, records: usize, kind: u8, count: usize) -> usi
     records + 1
 }
 
-// The pending group's records: the number of records afterwards.
-fn flush(out: &mut [u8], n: usize, e: Emitter) -> usize
-    requires { ⌜ (n ≤ 2 ^ 40) × Under (2 ^ 40) e ⌝ }
-    ensures { λ r. ⌜ (r ≡ flushedRecords e) × (r ≤ e .records + 3) × (now (out .exit) ≡ flushed n e (now (out .entry))) ⌝ }
+// A group's records, by numbers: a struct would go through memory. The number of records afterwards.
+fn flush(out: &mut [u8], n: usize, records: usize, ins: usize, del: usize, ret: usize) -> usize
+    requires { ⌜ (n ≤ 2 ^ 40) × (records ≤ 2 ^ 40) ⌝ }
+    ensures { λ r. ⌜ (r ≡ records + one ins + one del + one ret) × (r ≤ records + 3) × (now (out .exit) ≡ flushedAt n records ins del ret (now (out .entry))) ⌝ }
 {
-    let x = emit(out, n, e.records, 2, e.ins);
-    let y = emit(out, n, x, 3, e.del);
-    emit(out, n, y, 1, e.ret)
+    let x = emit(out, n, records, 2, ins);
+    let y = emit(out, n, x, 3, del);
+    emit(out, n, y, 1, ret)
 }
 
 // A pending retain closes the group: what is added behind it begins another.
@@ -120,7 +120,7 @@ fn spill(out: &mut [u8], n: usize, e: Emitter)
     ensures { λ _. ⌜ now (out .exit) ≡ spilled n e (now (out .entry)) ⌝ }
 {
     if 0 < e.ret {
-        flush(out, n, e);
+        flush(out, n, e.records, e.ins, e.del, e.ret);
     }
 }
 
@@ -298,7 +298,7 @@ pub fn finish(out: &mut [u8], n: usize, e: Emitter) -> Emitter
     requires { ⌜ (n ≤ 2 ^ 40) × Under (2 ^ 39) e ⌝ }
     ensures { λ r. ⌜ Finishes n e (now (out .entry)) r (now (out .exit)) ⌝ }
 {
-    let records = flush(out, n, e);
+    let records = flush(out, n, e.records, e.ins, e.del, e.ret);
     Emitter {
         ins: 0,
         del: 0,

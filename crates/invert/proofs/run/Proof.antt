@@ -1,7 +1,8 @@
 use mathlib.Core.Path.{_≡_}
 use lib.ListN.{length}
 use Rattle.operation.specs.Front.{ahead}
-use Rattle.invert.proofs.Undoing.{Going, going-start, going-under, going-done, going-less, going-more}
+use Rattle.invert.proofs.Undoing.{Going, going-start, going-under, going-place, going-small, going-done, going-less, going-more, last-under, last-done}
+use Rattle.invert.proofs.Passing.{under-room}
 use borrow.Author.Needs.{needs}
 use Rattle.invert.proofs.run.Statement.{statement}
 use Rattle.invert.proofs.run.Tie as tie
@@ -21,6 +22,21 @@ first-requires c κs = search needs
 loop-holds : tie.Need-loop-holds Inv-loop μ-loop
 loop-holds c = (search going-start, search needs)
 
+is-last-retain-requires : tie.Need-is-last-retain-requires Inv-loop μ-loop
+is-last-retain-requires c κs = search needs
+
+retain-requires : tie.Need-retain-requires Inv-loop μ-loop
+retain-requires c κs = (search going-small, search (under-room, going-under))
+
+finish-requires : tie.Need-finish-requires Inv-loop μ-loop
+finish-requires c κs = search (last-under, needs)
+
+same-length : tie.Need-same-length Inv-loop μ-loop
+same-length c = search needs
+
+returns : tie.Need-returns Inv-loop μ-loop
+returns c = last-done _ _ _ _ _ _ _ _ (c .before .before .before .before .before .before .before .before .before .loop .inv .0) _ (c .before .before .before .before .before .before .before .before .before .before .before .before .before .before .before .pre .1) _ (c .before .before .before .before .before .before .is-last-retain .ensures) (c .before .before .before .before .before .if2 .taken) _ (c .before .before .before .before .retain .ensures) _ _ (c .before .before .finish .ensures)
+
 past-requires : tie.Need-past-requires Inv-loop μ-loop
 past-requires c κs = search needs
 
@@ -28,7 +44,7 @@ give-requires : tie.Need-give-requires Inv-loop μ-loop
 give-requires c κs = search (going-under, needs)
 
 load-requires : tie.Need-load-requires Inv-loop μ-loop
-load-requires c κs = search needs
+load-requires c κs = (c .before .before .before .before .before .before .before .before .before .before .before .before .before .before .before .pre .1, search going-place)
 
 loop-less : tie.Need-loop-less Inv-loop μ-loop
 loop-less c = search going-less
@@ -36,14 +52,14 @@ loop-less c = search going-less
 loop-again : tie.Need-loop-again Inv-loop μ-loop
 loop-again c = (search going-more, search needs)
 
-finish-requires : tie.Need-finish-requires Inv-loop μ-loop
-finish-requires c κs = search (going-under, needs)
+finish-requires-2 : tie.Need-finish-requires-2 Inv-loop μ-loop
+finish-requires-2 c κs = search (going-under, needs)
 
-same-length : tie.Need-same-length Inv-loop μ-loop
-same-length c = search needs
+same-length-2 : tie.Need-same-length-2 Inv-loop μ-loop
+same-length-2 c = search needs
 
-returns : tie.Need-returns Inv-loop μ-loop
-returns c = search going-done
+returns-2 : tie.Need-returns-2 Inv-loop μ-loop
+returns-2 c = search going-done
 
 pub run-spec : {M : Type 1} → statement M
 run-spec =
@@ -54,11 +70,16 @@ run-spec =
     start-requires
     first-requires
     loop-holds
+    is-last-retain-requires
+    retain-requires
+    finish-requires
+    same-length
+    returns
     past-requires
     give-requires
     load-requires
     loop-less
     loop-again
-    finish-requires
-    same-length
-    returns)
+    finish-requires-2
+    same-length-2
+    returns-2)
