@@ -10,6 +10,7 @@ ghost use Rattle.utf8.specs.Chars.{isCont, numChars};
 ghost use Rattle.utf8.specs.Passed.{formOf, spans, Passed};
 
 mod ascii;
+mod block;
 pub mod core;
 
 // What a first byte asks for: how many bytes follow it, and the range of the second.
@@ -24,12 +25,17 @@ fn is_cont(b: u8) -> bool
     0x80 <= b && b <= 0xBF
 }
 
-// The number of bytes that aren't continuations: first a run of ASCII bytes, then each byte.
+// The number of bytes that aren't continuations, sixty-four bytes at a time.
 pub fn num_chars(bytes: &[u8]) -> usize
     ensures { λ r. ⌜ r ≡ numChars (now (bytes .entry)) ⌝ }
 {
-    let i = ascii::bulk(bytes, 0);
-    i + core::count(&bytes[i..])
+    let mut n = 0;
+    let mut i = 0;
+    while 64 <= bytes.len() - i {
+        n += block::few(&bytes[i..i + 64]) as usize;
+        i += 64;
+    }
+    n + block::few(&bytes[i..]) as usize
 }
 
 fn lead_of(b: u8) -> Lead
