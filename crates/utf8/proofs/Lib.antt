@@ -11,3 +11,4 @@ pub mod Bits
 pub mod Runs
 pub mod Steps
 pub mod Passed
+pub mod Window

@@ -151,13 +151,13 @@ fn due(text: &[u8], at: usize, more: usize, lo: u8, hi: u8) -> bool
 }
 
 // How far a text was gone through, and how many continuations were passed.
-struct Spot {
-    at: usize,
-    conts: usize,
+pub(crate) struct Spot {
+    pub at: usize,
+    pub conts: usize,
 }
 
-// Up to the last seven bytes or to an ill-formed character: many ASCII bytes at a time, or one other character, none of
-// which runs past the end.
+// Up to the last seven bytes or to an ill-formed character: many bytes at a time, ASCII or not, or one character, none
+// of which runs past the end.
 fn forward(text: &[u8], from: usize) -> Spot
     requires { ⌜ Passed (now text) from 0 ⌝ }
     ensures { λ s. ⌜ Passed (now (text .entry)) (s .at) (s .conts) ⌝ }
@@ -169,15 +169,21 @@ fn forward(text: &[u8], from: usize) -> Spot
         if b < 0x80 {
             i = ascii::pass(text, i);
         } else {
-            let Lead::Of { more, lo, hi } = lead_of(b) else {
-                return Spot { at: i, conts };
-            };
-            let at = i + 1;
-            if !stand(text, at, more, lo, hi) {
-                return Spot { at: i, conts };
+            let s = block::blocks(text, i, conts);
+            if i < s.at {
+                i = s.at;
+                conts = s.conts;
+            } else {
+                let Lead::Of { more, lo, hi } = lead_of(b) else {
+                    return Spot { at: i, conts };
+                };
+                let at = i + 1;
+                if !stand(text, at, more, lo, hi) {
+                    return Spot { at: i, conts };
+                }
+                i = at + more;
+                conts += more;
             }
-            i = at + more;
-            conts += more;
         }
     }
     Spot { at: i, conts }
