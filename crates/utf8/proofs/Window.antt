@@ -37,10 +37,6 @@ module _ (m p : ℕ) where
   bit-mono : (n : ℕ) → n ≤ m → bitOf (leb m p) ≤ bitOf (leb n p)
   bit-mono n l = ⊎-elim (λ h. omega (arith, bit-le (leb m p), ap bitOf (le-leb n p h))) (λ h. omega (arith, bit-no (omega arith))) (le-or-lt n p)
 
-bit-not : (b : Bool) → bitOf b ≡ 0 → b ≡ false
-bit-not true e = absurd (omega arith)
-bit-not false e = refl
-
 -- ---- one byte more
 
 -- b may stand behind p3 p2 p1
