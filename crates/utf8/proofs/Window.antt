@@ -37,7 +37,7 @@ module _ (m p : ℕ) where
   bit-mono : (n : ℕ) → n ≤ m → bitOf (leb m p) ≤ bitOf (leb n p)
   bit-mono n l = ⊎-elim (λ h. omega (arith, bit-le (leb m p), ap bitOf (le-leb n p h))) (λ h. omega (arith, bit-no (omega arith))) (le-or-lt n p)
 
--- ---- one byte more
+-- ---- what a byte that is not off tells
 
 -- b may stand behind p3 p2 p1
 record Fine (p3 p2 p1 b : ℕ) : Type 0 where
@@ -59,7 +59,11 @@ fine p3 p2 p1 b e =
     let z : x ≡ 0 = omega arith in
     record { due = equal (bitOf (isCont b)) (dueOf p3 p2 p1) z; begins = omega arith; fits = omega arith }
 
--- a byte that is no continuation, and in some text
+cont-bounds : (b : ℕ) → isCont b ≡ true → (0x80 ≤ b) × (b ≤ 0xBF)
+unfolding isCont
+cont-bounds b c = within-bounds 0x80 0xBF b (known c)
+
+-- a byte past the continuations that is in some text begins a character
 first-not : (b : ℕ) → neverOf b ≡ 0 → 0xC0 ≤ b → (0xC2 ≤ b) × (b ≤ 0xF4)
 unfolding neverOf
 first-not b e h =
@@ -85,16 +89,12 @@ record Opened (p b : ℕ) : Type 0 where
   fits : within lo hi b ≡ true
 
 module _ (p b : ℕ) (c : isCont b ≡ true) (o : outsideOf p b ≡ 0) where
-  cont-bounds : (0x80 ≤ b) × (b ≤ 0xBF)
-  unfolding isCont
-  cont-bounds = within-bounds 0x80 0xBF b (known c)
-
   opened-by : (n lo hi : ℕ) → Of (suc n) lo hi ≡ leadOf p → n ≡ bitOf (leb 0xE0 p) + bitOf (leb 0xF0 p) → lo ≤ b → b ≤ hi → Opened p b
   opened-by n lo hi e m l h = record { lo = lo; hi = hi; lead = sym e ∙ ap (λ k. Of (suc k) lo hi) m; fits = inside lo hi b l h }
 
   of-two : 0xC2 ≤ p → p ≤ 0xDF → Opened p b
   unfolding rows
-  of-two l h = opened-by 0 0x80 0xBF (lead-row 1 0xC2 0xDF tt l h) (omega (arith, bit-no 0xE0 p (omega arith), bit-no 0xF0 p (omega arith))) (cont-bounds .0) (cont-bounds .1)
+  of-two l h = opened-by 0 0x80 0xBF (lead-row 1 0xC2 0xDF tt l h) (omega (arith, bit-no 0xE0 p (omega arith), bit-no 0xF0 p (omega arith))) (cont-bounds b c .0) (cont-bounds b c .1)
 
   -- of three
   module _ (l : 0xE0 ≤ p) (h : p ≤ 0xEF) where
@@ -105,13 +105,13 @@ module _ (p b : ℕ) (c : isCont b ≡ true) (o : outsideOf p b ≡ 0) where
     unfolding rows outsideOf
     first-three e =
         let z : bitOf (leb b 0x9F) ≡ 0 = omega (arith, rw e at o) in
-        three 0xA0 0xBF (lead-row 2 0xE0 0xE0 tt (omega arith) (omega arith)) (bit-under b 0x9F z) (cont-bounds .1)
+        three 0xA0 0xBF (lead-row 2 0xE0 0xE0 tt (omega arith) (omega arith)) (bit-under b 0x9F z) (cont-bounds b c .1)
 
     surrogate : p ≡ 0xED → Opened p b
     unfolding rows outsideOf
     surrogate e =
         let z : bitOf (leb 0xA0 b) ≡ 0 = omega (arith, rw e at o) in
-        three 0x80 0x9F (lead-row 5 0xED 0xED tt (omega arith) (omega arith)) (cont-bounds .0) (omega (arith, bit-under 0xA0 b z))
+        three 0x80 0x9F (lead-row 5 0xED 0xED tt (omega arith) (omega arith)) (cont-bounds b c .0) (omega (arith, bit-under 0xA0 b z))
 
     of-three : Opened p b
     unfolding rows
@@ -119,10 +119,10 @@ module _ (p b : ℕ) (c : isCont b ≡ true) (o : outsideOf p b ≡ 0) where
         ⊎-elim
         (λ x. ⊎-elim
         (λ y. ⊎-elim
-        (λ z. three 0x80 0xBF (lead-row 4 0xEE 0xEF tt z h) (cont-bounds .0) (cont-bounds .1))
+        (λ z. three 0x80 0xBF (lead-row 4 0xEE 0xEF tt z h) (cont-bounds b c .0) (cont-bounds b c .1))
         (λ z. surrogate (omega arith))
         (le-or-lt 0xEE p))
-        (λ y. three 0x80 0xBF (lead-row 3 0xE1 0xEC tt x (omega arith)) (cont-bounds .0) (cont-bounds .1))
+        (λ y. three 0x80 0xBF (lead-row 3 0xE1 0xEC tt x (omega arith)) (cont-bounds b c .0) (cont-bounds b c .1))
         (le-or-lt 0xED p))
         (λ x. first-three (omega arith))
         (le-or-lt 0xE1 p)
@@ -136,13 +136,13 @@ module _ (p b : ℕ) (c : isCont b ≡ true) (o : outsideOf p b ≡ 0) where
     unfolding rows outsideOf
     first-four e =
         let z : bitOf (leb b 0x8F) ≡ 0 = omega (arith, rw e at o) in
-        four 0x90 0xBF (lead-row 6 0xF0 0xF0 tt (omega arith) (omega arith)) (bit-under b 0x8F z) (cont-bounds .1)
+        four 0x90 0xBF (lead-row 6 0xF0 0xF0 tt (omega arith) (omega arith)) (bit-under b 0x8F z) (cont-bounds b c .1)
 
     last-four : p ≡ 0xF4 → Opened p b
     unfolding rows outsideOf
     last-four e =
         let z : bitOf (leb 0x90 b) ≡ 0 = omega (arith, rw e at o) in
-        four 0x80 0x8F (lead-row 8 0xF4 0xF4 tt (omega arith) (omega arith)) (cont-bounds .0) (omega (arith, bit-under 0x90 b z))
+        four 0x80 0x8F (lead-row 8 0xF4 0xF4 tt (omega arith) (omega arith)) (cont-bounds b c .0) (omega (arith, bit-under 0x90 b z))
 
     of-four : Opened p b
     unfolding rows
@@ -150,7 +150,7 @@ module _ (p b : ℕ) (c : isCont b ≡ true) (o : outsideOf p b ≡ 0) where
         ⊎-elim
         (λ x. ⊎-elim
         (λ y. last-four (omega arith))
-        (λ y. four 0x80 0xBF (lead-row 7 0xF1 0xF3 tt x (omega arith)) (cont-bounds .0) (cont-bounds .1))
+        (λ y. four 0x80 0xBF (lead-row 7 0xF1 0xF3 tt x (omega arith)) (cont-bounds b c .0) (cont-bounds b c .1))
         (le-or-lt 0xF4 p))
         (λ x. first-four (omega arith))
         (le-or-lt 0xF1 p)
@@ -187,7 +187,7 @@ module _ (p3 p2 p1 b : ℕ) (f : Fine p3 p2 p1 b) where
       let d = f .due in
       let e : bitOf (isCont b) ≡ 1 = ap bitOf c in
       let m = bit-mono 0xF0 p2 0xE0 (omega arith) in
-      let below = cont-bounds p1 b c (f .fits) .1 in
+      let below = cont-bounds b c .1 in
       ⊎-elim
       (λ h.
       let o = opened p1 b c (f .fits) g h in
@@ -230,7 +230,7 @@ module _ (p3 p2 p1 b : ℕ) (f : Fine p3 p2 p1 b) where
   apart = go (isCont b) refl
     where
       go : (c : Bool) → isCont b ≡ c → bitOf (leb 0xC0 b) + bitOf c ≤ 1
-      go true e = omega (arith, bit-no 0xC0 b (omega (arith, cont-bounds p1 b e (f .fits))))
+      go true e = omega (arith, bit-no 0xC0 b (omega (arith, cont-bounds b e)))
       go false e = omega (arith, bit-le (leb 0xC0 b))
 
   single-on : dueOf p2 p1 b ≤ 1
