@@ -3,6 +3,7 @@ pub mod Tests
 pub mod Walk
 pub mod Leads
 pub mod Chars
+pub mod Counted
 pub mod Cuts
 pub mod Texts
 pub mod Places
@@ -10,3 +11,4 @@ pub mod Bits
 pub mod Runs
 pub mod Steps
 pub mod Passed
+pub mod Window

@@ -8,7 +8,7 @@ use mathlib.Core.Bool.{Bool, true, false, _&&_}
 use mathlib.Core.List.{List, [], _∷_}
 use lib.Dec.{eqb, lit<, lit≤}
 use lib.ListN.{length, getD, take, drop, length-take, length-drop}
-use lib.Seq.{take-all, take-add, drop-drop, getD-drop}
+use lib.Seq.{take-add, drop-drop, getD-drop}
 use lib.Pow as Pow
 use lib.Bits.{bitAnd, bitOr, and-block, and-high, or-shifted-r}
 use borrow.Author.Tests.{lt-ltb, le-ltb, ltb-true, ne-eqb}
@@ -181,6 +181,3 @@ runs-num t at to r =
     let b = r .below in
     let z : at + (to - at) ≡ to = omega arith in
     omega (arith, ap (λ j. numChars (drop j t)) z, ap numChars (drop-drop (to - at) at t), ascii-num (to - at) (drop at t) (omega (arith, length-drop at t)) (holds (allOf isAscii (take (to - at) (drop at t))) (r .plain)))
-
-pub runs-count : (t : List ℕ) (to n : ℕ) → Runs t 0 to → n ≡ numChars (take (length t - to) (drop to t)) → to + n ≡ numChars t
-runs-count t to n r e = omega (arith, ap numChars (take-all (length t - to) (drop to t) (omega (arith, length-drop to t))), runs-num t 0 to r)

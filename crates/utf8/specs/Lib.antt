@@ -6,3 +6,4 @@ pub mod Order
 pub mod Places
 pub mod Ascii
 pub mod Passed
+pub mod Block

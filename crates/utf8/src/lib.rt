@@ -10,6 +10,7 @@ ghost use Rattle.utf8.specs.Chars.{isCont, numChars};
 ghost use Rattle.utf8.specs.Passed.{formOf, spans, Passed};
 
 mod ascii;
+mod block;
 pub mod core;
 
 // What a first byte asks for: how many bytes follow it, and the range of the second.
@@ -24,12 +25,17 @@ fn is_cont(b: u8) -> bool
     0x80 <= b && b <= 0xBF
 }
 
-// The number of bytes that aren't continuations: first a run of ASCII bytes, then each byte.
+// The number of bytes that aren't continuations, sixty-four bytes at a time.
 pub fn num_chars(bytes: &[u8]) -> usize
     ensures { λ r. ⌜ r ≡ numChars (now (bytes .entry)) ⌝ }
 {
-    let i = ascii::bulk(bytes, 0);
-    i + core::count(&bytes[i..])
+    let mut n = 0;
+    let mut i = 0;
+    while 64 <= bytes.len() - i {
+        n += block::few(&bytes[i..i + 64]) as usize;
+        i += 64;
+    }
+    n + block::few(&bytes[i..]) as usize
 }
 
 fn lead_of(b: u8) -> Lead
@@ -145,13 +151,13 @@ fn due(text: &[u8], at: usize, more: usize, lo: u8, hi: u8) -> bool
 }
 
 // How far a text was gone through, and how many continuations were passed.
-struct Spot {
-    at: usize,
-    conts: usize,
+pub(crate) struct Spot {
+    pub at: usize,
+    pub conts: usize,
 }
 
-// Up to the last seven bytes or to an ill-formed character: many ASCII bytes at a time, or one other character, none of
-// which runs past the end.
+// Up to the last seven bytes or to an ill-formed character: many bytes at a time, ASCII or not, or one character, none
+// of which runs past the end.
 fn forward(text: &[u8], from: usize) -> Spot
     requires { ⌜ Passed (now text) from 0 ⌝ }
     ensures { λ s. ⌜ Passed (now (text .entry)) (s .at) (s .conts) ⌝ }
@@ -163,15 +169,21 @@ fn forward(text: &[u8], from: usize) -> Spot
         if b < 0x80 {
             i = ascii::pass(text, i);
         } else {
-            let Lead::Of { more, lo, hi } = lead_of(b) else {
-                return Spot { at: i, conts };
-            };
-            let at = i + 1;
-            if !stand(text, at, more, lo, hi) {
-                return Spot { at: i, conts };
+            let s = block::blocks(text, i, conts);
+            if i < s.at {
+                i = s.at;
+                conts = s.conts;
+            } else {
+                let Lead::Of { more, lo, hi } = lead_of(b) else {
+                    return Spot { at: i, conts };
+                };
+                let at = i + 1;
+                if !stand(text, at, more, lo, hi) {
+                    return Spot { at: i, conts };
+                }
+                i = at + more;
+                conts += more;
             }
-            i = at + more;
-            conts += more;
         }
     }
     Spot { at: i, conts }

@@ -31,6 +31,15 @@ loop-less c = omega arith
 loop-again : tie.Need-loop-again Inv-loop μ-loop
 loop-again c = search passed-run
 
+blocks-requires : tie.Need-blocks-requires Inv-loop μ-loop
+blocks-requires c κs = search needs
+
+loop-less-2 : tie.Need-loop-less-2 Inv-loop μ-loop
+loop-less-2 c = search needs
+
+loop-again-2 : tie.Need-loop-again-2 Inv-loop μ-loop
+loop-again-2 c = search needs
+
 lead-of-requires : tie.Need-lead-of-requires Inv-loop μ-loop
 lead-of-requires c κs = search needs
 
@@ -48,7 +57,7 @@ add-at c = search needs
 
 stand-requires : tie.Need-stand-requires Inv-loop μ-loop
 stand-requires c κs =
-    let h : c .before .before .before .before .before .before .before .loop .i < length (c .before .before .before .before .before .before .before .before .before .args .text .now) = omega arith in
+    let h : c .before .before .before .before .before .before .before .before .before .before .loop .i < length (c .before .before .before .before .before .before .before .before .before .before .before .before .args .text .now) = omega arith in
     let few : c .before .more .given .0 .0 ≤ 3 = search lead-few in
     (omega arith, few)
 
@@ -56,8 +65,8 @@ returns-2 : tie.Need-returns-2 Inv-loop μ-loop
 returns-2 c = search needs
 
 -- a character is passed
-past : (c : tie.Else2 Inv-loop μ-loop) → Passed (c .before .before .before .before .before .before .before .before .before .before .before .args .text .now) (c .before .before .before .before .before .before .before .before .before .loop .i + 1 + c .before .before .before .more .given .0 .0) (c .before .before .before .before .before .before .before .before .before .loop .conts + c .before .before .before .more .given .0 .0)
-past c = let h : c .before .before .before .before .before .before .before .before .before .loop .i < length (c .before .before .before .before .before .before .before .before .before .before .before .args .text .now) = omega arith in search past-due
+past : (c : tie.Else3 Inv-loop μ-loop) → Passed (c .before .before .before .before .before .before .before .before .before .before .before .before .before .before .args .text .now) (c .before .before .before .before .before .before .before .before .before .before .before .before .loop .i + 1 + c .before .before .before .more .given .0 .0) (c .before .before .before .before .before .before .before .before .before .before .before .before .loop .conts + c .before .before .before .more .given .0 .0)
+past c = let h : c .before .before .before .before .before .before .before .before .before .before .before .before .loop .i < length (c .before .before .before .before .before .before .before .before .before .before .before .before .before .before .args .text .now) = omega arith in search past-due
 
 add-i : tie.Need-add-i Inv-loop μ-loop
 add-i c = let h = past c in omega arith
@@ -65,11 +74,11 @@ add-i c = let h = past c in omega arith
 add-conts : tie.Need-add-conts Inv-loop μ-loop
 add-conts c = let h = past c in omega arith
 
-loop-less-2 : tie.Need-loop-less-2 Inv-loop μ-loop
-loop-less-2 c = let h = past c in omega arith
+loop-less-3 : tie.Need-loop-less-3 Inv-loop μ-loop
+loop-less-3 c = let h = past c in omega arith
 
-loop-again-2 : tie.Need-loop-again-2 Inv-loop μ-loop
-loop-again-2 c = past c
+loop-again-3 : tie.Need-loop-again-3 Inv-loop μ-loop
+loop-again-3 c = past c
 
 returns-3 : tie.Need-returns-3 Inv-loop μ-loop
 returns-3 c = search needs
@@ -86,6 +95,9 @@ forward-spec =
     pass-requires
     loop-less
     loop-again
+    blocks-requires
+    loop-less-2
+    loop-again-2
     lead-of-requires
     enum-known-more
     enum-told
@@ -95,6 +107,6 @@ forward-spec =
     returns-2
     add-i
     add-conts
-    loop-less-2
-    loop-again-2
+    loop-less-3
+    loop-again-3
     returns-3)
