@@ -80,11 +80,20 @@ fn go_through(log: &[u8], count: usize, start: usize, r: u64) -> Scanned
     })
 }
 
-// Revision r is the one to be remembered.
+// Revision r is the one to be remembered. (By its numbers: a struct chosen whole is read before its parts are stored.)
 fn marked(k: usize, r: u64, here: Spot, mark: Spot) -> Spot
     ensures { λ x. ⌜ x ≡ cond (eqb k r) here mark ⌝ }
 {
-    if k as u64 == r { here } else { mark }
+    if k as u64 == r {
+        return Spot {
+            at: here.at,
+            len: here.len,
+        };
+    }
+    Spot {
+        at: mark.at,
+        len: mark.len,
+    }
 }
 
 // Past the record that stands here.
