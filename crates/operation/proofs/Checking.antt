@@ -92,11 +92,15 @@ module _ (r : List ℕ) (k kind count : ℕ) (q : kind ≡ kindAt r k) (c : coun
       }
       )
 
--- the neighbours at k and behind it, as the code finds them
-pub apart-more : (r : List ℕ) (k last kind p a : ℕ) (b : Bool) → last ≡ kindAt r k → kind ≡ kindAt r (k + 1) → b ≡ mayFollow last kind → p ≡ picked (not b) 1 → a ≡ sumFrom (apartAt r) 0 k
-    → a + p ≡ sumFrom (apartAt r) 0 (k + 1)
-apart-more r k last kind p a b e f g h i =
-    ap₂ _+_ i (h ∙ ap (λ x. picked (not x) 1) (g ∙ ap₂ mayFollow e (f ∙ ap (kindAt r) (add-one k)))) ∙ sym (sum-more (apartAt r) k)
+-- the neighbours before k and at k, as the code finds them
+pub apart-more : (r : List ℕ) (k last kind p a : ℕ) (b : Bool) → 1 ≤ k → last ≡ kindAt r (k - 1) → kind ≡ kindAt r k → b ≡ mayFollow last kind → p ≡ picked (not b) 1 → a ≡ sumFrom (apartAt r) 0 (k - 1)
+    → a + p ≡ sumFrom (apartAt r) 0 (k + 1 - 1)
+apart-more r k last kind p a b l e f g h i =
+    let x : k ≡ suc (k - 1) = omega arith in
+    let y : k - 1 + 1 ≡ k + 1 - 1 = omega arith in
+    ap₂ _+_ i (h ∙ ap (λ x. picked (not x) 1) (g ∙ ap₂ mayFollow e (f ∙ ap (kindAt r) x)))
+    ∙ sym (sum-more (apartAt r) (k - 1))
+    ∙ ap (sumFrom (apartAt r) 0) y
 
 -- ---- what the sums are of
 

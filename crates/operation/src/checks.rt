@@ -127,10 +127,10 @@ fn apart(rec: &[u8], n: usize) -> u32
     ensures { λ r. ⌜ r ≡ sumFrom (apartAt (now (rec .entry))) 0 (n - 1) ⌝ }
 {
     let mut apart: u32 = 0;
-    let mut k = 0;
-    while k + 1 < n {
-        let last = crate::layout::kind(rec, k);
-        let kind = crate::layout::kind(rec, k + 1);
+    let mut k = 1;
+    while k < n {
+        let last = crate::layout::kind(rec, k - 1);
+        let kind = crate::layout::kind(rec, k);
         apart += pick(!may_follow(last, kind), 1);
         k += 1;
     }

@@ -8,22 +8,19 @@ use Rattle.operation.proofs.checks.apart.Statement.{statement}
 use Rattle.operation.proofs.checks.apart.Tie as tie
 
 abbrev Inv-loop : tie.InvT-loop
-Inv-loop rec n apart₀ k₀ apart k = (k ≤ n - 1) × (apart ≤ k) × (apart ≡ sumFrom (apartAt rec) 0 k)
+Inv-loop rec n apart₀ k₀ apart k = (1 ≤ k) × (k - 1 ≤ n - 1) × (apart ≤ k - 1) × (apart ≡ sumFrom (apartAt rec) 0 (k - 1))
 
 abbrev μ-loop : tie.MeasureT-loop
 μ-loop rec n apart₀ k₀ apart k = n - k
 
 loop-holds : tie.Need-loop-holds Inv-loop μ-loop
-loop-holds c = (search needs, search needs, refl)
+loop-holds c = (search needs, search needs, search needs, refl)
 
-add-loop : tie.Need-add-loop Inv-loop μ-loop
-add-loop c = search needs
+sub-kind : tie.Need-sub-kind Inv-loop μ-loop
+sub-kind c = search needs
 
 kind-requires : tie.Need-kind-requires Inv-loop μ-loop
 kind-requires c κs = search needs
-
-add-kind : tie.Need-add-kind Inv-loop μ-loop
-add-kind c = search needs
 
 kind-requires-2 : tie.Need-kind-requires-2 Inv-loop μ-loop
 kind-requires-2 c κs = search needs
@@ -44,10 +41,10 @@ loop-less : tie.Need-loop-less Inv-loop μ-loop
 loop-less c = search needs
 
 loop-again : tie.Need-loop-again Inv-loop μ-loop
-loop-again c = (search needs, search needs, search apart-more)
+loop-again c = (search needs, search needs, search needs, search apart-more)
 
 returns : tie.Need-returns Inv-loop μ-loop
-returns c = let e : c .before .loop .k ≡ c .before .before .before .args .n - 1 = omega arith in rw (← e) (c .before .loop .inv .2)
+returns c = let e : c .before .loop .k - 1 ≡ c .before .before .before .args .n - 1 = omega arith in rw (← e) (c .before .loop .inv .3)
 
 pub apart-spec : {M : Type 1} → statement M
 apart-spec =
@@ -56,9 +53,8 @@ apart-spec =
     Inv-loop
     μ-loop
     loop-holds
-    add-loop
+    sub-kind
     kind-requires
-    add-kind
     kind-requires-2
     may-follow-requires
     pick-requires
