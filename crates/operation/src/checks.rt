@@ -121,7 +121,7 @@ fn may_follow(last: u8, kind: u8) -> bool
     true
 }
 
-// How many neighbours may not stand so.
+// How many neighbours may not stand so. From 1 on: from 0 on, with k + 1, was measured to be slower.
 fn apart(rec: &[u8], n: usize) -> u32
     requires { ⌜ (n ≡ recordsOf (now rec)) × (n ≤ 1024) × (textStart n ≤ length (now rec)) ⌝ }
     ensures { λ r. ⌜ r ≡ sumFrom (apartAt (now (rec .entry))) 0 (n - 1) ⌝ }
