@@ -27,12 +27,12 @@ use Rattle.operation.specs.Built.{chained}
 use Rattle.operation.specs.Layout.{recordsOf, textBytesOf, baseOf, targetOf, textStart, sizeOf, kindAt, countAt}
 use Rattle.operation.specs.Record.{Seq, ByteSeq, inChars, inserted, entries, textOf, byteOps, ops, inLimits, soundEntry, insertBytes, sound, wellInserted, givesChars, adds, recordFault}
 use Rattle.operation.specs.Front.{byteOpsLeft}
-use Rattle.operation.specs.Checks.{summed, nothing, entriesOf, insertedOf, Sound, Reached}
+use Rattle.operation.specs.Checks.{sumsOf, entriesOf, insertedOf, Sound, Reached}
 use Rattle.operation.specs.Calls.{checkCall, baseCall, targetCall, noEffect, noopCall, textCall, textFrom}
 use Rattle.operation.proofs.Faults.{InLimits, limits, faultless}
 use Rattle.operation.proofs.Records.{byteOps-length, ops-length}
 use Rattle.operation.proofs.Walks.{left-all, left-done, left-retain, left-insert, left-delete, inserts-more, inserts-all}
-use Rattle.operation.proofs.Checking.{sum-inserts, Found, found, reached-room, Reach, reach}
+use Rattle.operation.proofs.Checking.{Found, found, reached-room, Reach, reach}
 
 -- which enum's case is found by a test
 unsound : (b : Bool) (x : Sums) (e : Entries) → e ≡ cond b (Of x) Unsound → e ≡ Unsound → b ≡ false
@@ -92,23 +92,23 @@ module _ (r : List ℕ) (a : Bool) (pa : a ≡ inLimits r) where
     module _ (t : ℕ) (pt : t ≡ textBytesOf r) (e : Entries) (pe : e ≡ entriesOf r) where
       pub check-2 : e ≡ Unsound → refused 2 ≡ checkCall r
       unfolding checkCall recordFault sound entriesOf
-      check-2 u = rw (limited, unsound (allOf soundEntry (entries r)) (summed nothing (entries r)) e pe u)
+      check-2 u = rw (limited, unsound (allOf soundEntry (entries r)) (sumsOf r) e pe u)
 
       module _ (q : Sums) (pq : e ≡ Of q) where
-        given : (allOf soundEntry (entries r) ≡ true) × (summed nothing (entries r) ≡ q)
+        given : (allOf soundEntry (entries r) ≡ true) × (sumsOf r ≡ q)
         unfolding entriesOf
-        given = summing (allOf soundEntry (entries r)) (summed nothing (entries r)) q e pe pq
+        given = summing (allOf soundEntry (entries r)) (sumsOf r) q e pe pq
 
-        inserts : q .inserts ≡ insertBytes (entries r)
-        inserts = rw (given .1) at (sum-inserts r (known (given .0)))
+        sums : Found r q
+        sums = rw (given .1) at (found r)
 
         pub check-2′ : (q .inserts ≡ t → ⊥) → refused 2 ≡ checkCall r
         unfolding checkCall recordFault sound
-        check-2′ u = rw (limited, given .0, ne-eqb (insertBytes (entries r)) (textBytesOf r) (λ z. u (inserts ∙ z ∙ sym pt)))
+        check-2′ u = rw (limited, given .0, ne-eqb (insertBytes (entries r)) (textBytesOf r) (λ z. u (sums .inserts ∙ z ∙ sym pt)))
 
         module _ (st : q .inserts ≡ t) where
           adds-up : insertBytes (entries r) ≡ textBytesOf r
-          adds-up = sym inserts ∙ st ∙ pt
+          adds-up = sym (sums .inserts) ∙ st ∙ pt
 
           is-sound : sound r ≡ true
           unfolding sound
@@ -116,9 +116,6 @@ module _ (r : List ℕ) (a : Bool) (pa : a ≡ inLimits r) where
 
           pub sounds : Sound r
           sounds = record { few = bounds .records; short = bounds .text-bytes; room = bounds .whole; entries-sound = known (given .0); adds-up = adds-up }
-
-          sums : Found r q
-          sums = rw (given .1) at (found r (known (given .0)) adds-up)
 
           module _ (o : Inserted) (po : o ≡ insertedOf r) where
             pub check-3 : o ≡ IllFormed → refused 3 ≡ checkCall r
@@ -148,7 +145,7 @@ module _ (r : List ℕ) (a : Bool) (pa : a ≡ inLimits r) where
                       texts = texts .0;
                       chain = sym (sums .linked) ∙ not-false (q .linked) ml;
                       base-is = sym (sums .base-is) ∙ mb ∙ pb;
-                      target-is = rw (texts .1) at (sums .target-is);
+                      target-is = rw (texts .1) at (sums .target-is adds-up);
                       records = pn;
                       text-bytes = pt;
                       few = omega (arith, bounds);

@@ -5,33 +5,32 @@ use native.Mathlib.Numerals.{add-one}
 use native.Mathlib.Omega.{arith}
 use mathlib.Core.Path.{_≡_, refl, sym, ap, ap₂, _∙_}
 use mathlib.Core.Logic.{_⊎_, inl, inr}
-use mathlib.Core.Bool.{Bool, true, false, cond, not, _&&_, and-assoc, and-true, and-false}
-use mathlib.Core.List.{List, [], _∷_, _++_}
+use mathlib.Core.Bool.{Bool, true, false, cond, not, _&&_, and-true, and-false}
+use mathlib.Core.List.{List, [], _∷_}
 use lib.Dec.{T, leb, eqb, leb→le}
-use lib.ListN.{length, getD, take, drop, length-append, length-take, length-drop}
+use lib.ListN.{length, getD, take, drop, length-drop}
 use lib.Seq.{drop-drop, take-add, getD-drop, length-take-le, take-take}
-use borrow.Author.Tests.{le-leb, lt-leb, eq-eqb, ne-eqb, eqb-true, eqb-false, not-true, not-false}
+use borrow.Author.Tests.{eq-eqb, ne-eqb, eqb-true, eqb-false, not-true, not-false}
 use Rattle.utf8.specs.declared.core.Form.{Form}
 use Rattle.utf8.specs.declared.core.Form.the-variants as form
 use Rattle.utf8.specs.Form.{within, wellFormed}
 use Rattle.utf8.specs.Passed.{formOf}
 use Rattle.utf8.specs.Chars.{isCont, numChars, loose, allOf}
-use Rattle.utf8.proofs.Tests.{both, holds, known}
+use Rattle.utf8.proofs.Tests.{both, known}
 use Rattle.utf8.proofs.Leads.{inside, under, over}
 use Rattle.utf8.proofs.Chars.{split, num-le, num-append}
 use Rattle.utf8.proofs.Passed.{form-ill, form-well, form-num}
 use Rattle.utf8.proofs.Cuts.{well-join, loose-first, well-first, plain-first}
 use Rattle.operation.specs.declared.checks.Sums.{Sums}
-use Rattle.operation.specs.declared.checks.Entries.{Entries}
+use Rattle.operation.specs.declared.checks.Tally.{Tally}
 use Rattle.operation.specs.declared.checks.Entries.the-variants.{Unsound, Of}
-use Rattle.operation.specs.declared.checks.Inserted.{Inserted}
 use Rattle.operation.specs.declared.checks.Inserted.the-variants.{IllFormed, Chars}
-use Rattle.operation.specs.Op.{Op, retain, insert, delete, total, base}
+use Rattle.operation.specs.Op.{Op, retain, insert, delete, takes, total, base}
 use Rattle.operation.specs.Built.{kind, follows, chained}
-use Rattle.operation.specs.Layout.{recordsOf, textBytesOf, textStart, sizeOf, kindAt, countAt}
-use Rattle.operation.specs.Record.{ByteSeq, code, Entry, entryAt, entriesFrom, entries, textOf, operations, byteOps, soundEntry, insertBytes, wellInserted, givesChars}
+use Rattle.operation.specs.Layout.{recordsOf, textBytesOf, textStart, kindAt, countAt}
+use Rattle.operation.specs.Record.{ByteSeq, code, Entry, entryAt, entriesFrom, entries, textOf, operation, operations, byteOps, soundEntry, insertBytes, wellInserted, givesChars}
 use Rattle.operation.specs.Front.{entriesLeft, byteOpsLeft}
-use Rattle.operation.specs.Checks.{entry, mayFollow, added, summed, nothing, entriesOf, startWell, insertedOf, Sound, Reached}
+use Rattle.operation.specs.Checks.{entry, sumFrom, picked, odd, ofKind, sumOf, tallied, Tallied, mayFollow, apartAt, keeps, sumsOf, entriesOf, startWell, insertedOf, Sound, Reached}
 use Rattle.operation.proofs.Records.{sound-kind}
 use Rattle.operation.proofs.Walks.{entries-next, entries-done, left-insert, inserts-more, inserts-same, left-other, sound-next, left-all}
 
@@ -47,50 +46,68 @@ module _ (k n : ℕ) where
   pub sound-count : (k ≡ 0 → ⊥) → k ≤ 3 → leb 1 n ≡ soundEntry (entry k n)
   sound-count z h = rw (inside 1 3 k (omega arith) h)
 
-module _ (s : Sums) (k n : ℕ) (l : Bool) (p : l ≡ (s .linked && mayFollow (s .last) k)) where
-  pub add-insert : k ≡ 2 → record { inserts = s .inserts + n; last = k; linked = l; base = s .base; kept = s .kept } ≡ added s (entry k n)
-  unfolding added
-  add-insert z = rw (p, z)
+  pub count-one : (t : Tally) (b : Bool) (o i j : ℕ) → b ≡ soundEntry (entry k n) → o ≡ picked (not b) 1 → i ≡ picked (eqb k 2) n → j ≡ picked (eqb k 1) n
+      → record { odd = t .odd + o; inserts = t .inserts + i; all = t .all + n; kept = t .kept + j } ≡ tallied t (entry k n)
+  unfolding tallied
+  count-one t b o i j p q u v = rw (q, u, v, p)
 
-  pub add-retain : (k ≡ 2 → ⊥) → k ≡ 1 → record { inserts = s .inserts; last = k; linked = l; base = s .base + n; kept = s .kept + n } ≡ added s (entry k n)
-  unfolding added
-  add-retain y z = rw (p, z)
-
-  pub add-delete : (k ≡ 2 → ⊥) → (k ≡ 1 → ⊥) → record { inserts = s .inserts; last = k; linked = l; base = s .base + n; kept = s .kept } ≡ added s (entry k n)
-  unfolding added
-  add-delete y z = rw (p, ne-eqb k 2 y, ne-eqb k 1 z)
+picked-le : (b : Bool) (n : ℕ) → picked b n ≤ n
+picked-le true n = omega arith
+picked-le false n = omega arith
 
 -- ---- all entries
 
-abbrev comes : Sums → List Entry → Entries
-comes s es = cond (allOf soundEntry es) (Of (summed s es)) Unsound
+sum-last : (f : ℕ → ℕ) (i n : ℕ) → sumFrom f i (suc n) ≡ sumFrom f i n + f (i + n)
+sum-last f i zero = omega (arith, ap f (add-zero i))
+sum-last f i (suc n) = let e : suc i + n ≡ i + suc n = omega arith in omega (arith, sum-last f (suc i) n, ap f e)
 
--- from record k on, with the sums so far
-unfoldable pub sumLeft : List ℕ → ℕ → Sums → Entries
-sumLeft r k s = comes s (entriesLeft r k)
+-- one place more
+sum-more : (f : ℕ → ℕ) (k : ℕ) → sumFrom f 0 (k + 1) ≡ sumFrom f 0 k + f k
+sum-more f k = ap (sumFrom f 0) (add-one k) ∙ sum-last f 0 k ∙ ap (λ j. sumFrom f 0 k + f j) (zero-add k)
 
-pub sum-start : (r : List ℕ) → sumLeft r 0 nothing ≡ entriesOf r
-unfolding sumLeft entriesOf entries
-sum-start r = ap (λ n. comes nothing (entriesFrom r 0 n)) (sub-zero (recordsOf r))
-
-pub sum-end : (r : List ℕ) (n k : ℕ) (s : Sums) {e : Entries} → n ≤ k → n ≡ recordsOf r → sumLeft r k s ≡ e → Of s ≡ e
-unfolding sumLeft
-sum-end r n k s h p i = sym (ap (comes s) (entries-done r k (omega arith))) ∙ i
+pub tally-none : (r : List ℕ) → Tallied r 0 (record { odd = 0; inserts = 0; all = 0; kept = 0 })
+tally-none r = record { odds = refl; inserted = refl; counts = refl; retained = refl; few = omega arith; less = omega arith; fewer = omega arith; small = omega arith }
 
 -- the record at k, as the code finds it
-module _ (r : List ℕ) (n k kind count : ℕ) (s : Sums) (b : Bool) {e : Entries} (h : k < n) (p : n ≡ recordsOf r) (q : kind ≡ kindAt r k) (c : count ≡ countAt r k) (f : b ≡ soundEntry (entry kind count)) (i : sumLeft r k s ≡ e) where
-  next : comes s (entry kind count ∷ entriesLeft r (k + 1)) ≡ e
-  unfolding sumLeft
-  next = ap₂ (λ x y. comes s (entry x y ∷ entriesLeft r (k + 1))) q c ∙ sym (ap (comes s) (entries-next r k (omega arith))) ∙ i
+module _ (r : List ℕ) (k kind count : ℕ) (q : kind ≡ kindAt r k) (c : count ≡ countAt r k) where
+  more : (f : Entry → ℕ) {x : ℕ} → x ≡ sumOf f r k → x + f (entry kind count) ≡ sumOf f r (k + 1)
+  more f e = ap₂ _+_ e (ap₂ (λ x y. f (entry x y)) q c) ∙ sym (sum-more (λ j. f (entryAt r j)) k)
 
-  pub sum-unsound : not b ≡ true → Unsound ≡ e
-  sum-unsound z = rw (sym f ∙ not-true b z) at next
+  pub tally-more : (t u : Tally) → Tallied r k t → count < 65536 → u ≡ tallied t (entry kind count) → Tallied r (k + 1) u
+  unfolding tallied
+  tally-more t u g h v =
+      let o = picked-le (not (soundEntry (entry kind count))) 1 in
+      let i = picked-le (eqb kind 2) count in
+      let j = picked-le (eqb kind 1) count in
+      rw v (
+      record {
+        odds = more odd (g .odds);
+        inserted = more (ofKind 2) (g .inserted);
+        counts = more (λ e. e .count) (g .counts);
+        retained = more (ofKind 1) (g .retained);
+        few = omega (arith, g .few);
+        less = omega (arith, g .less);
+        fewer = omega (arith, g .fewer);
+        small = omega (arith, g .small);
+      }
+      )
 
-  pub sum-on : (u : Sums) → u ≡ added s (entry kind count) → not b ≡ false → sumLeft r (k + 1) u ≡ e
-  unfolding sumLeft
-  sum-on u v z = ap (λ w. comes w (entriesLeft r (k + 1))) v ∙ rw (sym f ∙ not-false b z) at next
+-- the neighbours before k and at k, as the code finds them
+pub apart-more : (r : List ℕ) (k last kind p a : ℕ) (b : Bool) → 1 ≤ k → last ≡ kindAt r (k - 1) → kind ≡ kindAt r k → b ≡ mayFollow last kind → p ≡ picked (not b) 1 → a ≡ sumFrom (apartAt r) 0 (k - 1)
+    → a + p ≡ sumFrom (apartAt r) 0 (k + 1 - 1)
+apart-more r k last kind p a b l e f g h i =
+    let x : k ≡ suc (k - 1) = omega arith in
+    let y : k - 1 + 1 ≡ k + 1 - 1 = omega arith in
+    ap₂ _+_ i (h ∙ ap (λ x. picked (not x) 1) (g ∙ ap₂ mayFollow e (f ∙ ap (kindAt r) x)))
+    ∙ sym (sum-more (apartAt r) (k - 1))
+    ∙ ap (sumFrom (apartAt r) 0) y
 
 -- ---- what the sums are of
+
+-- nothing is counted where every test holds
+holds-all : (b : Bool) (x : ℕ) → eqb (picked (not b) 1 + x) 0 ≡ (b && eqb x 0)
+holds-all true x = ap (λ y. eqb y 0) (zero-add x)
+holds-all false x = ne-eqb (1 + x) 0 (λ z. absurd (omega arith))
 
 may-follow : (o p : Op ℕ) → mayFollow (code o) (code p) ≡ follows (kind o) (kind p)
 unfolding mayFollow
@@ -104,101 +121,136 @@ may-follow (delete n) (retain m) = refl
 may-follow (delete n) (insert y) = refl
 may-follow (delete n) (delete m) = refl
 
--- behind an operation of kind `last`
-abbrev pub linkedFrom : ℕ → ByteSeq → Bool
-linkedFrom last [] = true
-linkedFrom last (o ∷ s) = mayFollow last (code o) && chained (o ∷ s)
+code-of : (k n : ℕ) (t : List ℕ) → (k ≡ 1) ⊎ ((k ≡ 2) ⊎ (k ≡ 3)) → code (operation k n t) ≡ k
+code-of k n t (inl p) = rw p
+code-of k n t (inr (inl p)) = rw p
+code-of k n t (inr (inr p)) = rw p
 
-linked-next : (o : Op ℕ) (s : ByteSeq) → linkedFrom (code o) s ≡ chained (o ∷ s)
-linked-next o [] = refl
-linked-next o (p ∷ s) = ap (λ b. b && chained (p ∷ s)) (may-follow o p)
+kinds-follow : (k l n m : ℕ) (t u : List ℕ) → T (soundEntry (entry k n)) → T (soundEntry (entry l m)) → mayFollow k l ≡ follows (kind (operation k n t)) (kind (operation l m u))
+kinds-follow k l n m t u a b =
+    let p = code-of k n t (sound-kind k (both (within 1 3 k) _ .0 a .0)) in
+    let q = code-of l m u (sound-kind l (both (within 1 3 l) _ .0 b .0)) in
+    ap₂ mayFollow (sym p) (sym q) ∙ may-follow (operation k n t) (operation l m u)
 
-linked-first : (s : ByteSeq) → linkedFrom 0 s ≡ chained s
-unfolding mayFollow
-linked-first [] = refl
-linked-first (retain n ∷ s) = refl
-linked-first (insert x ∷ s) = refl
-linked-first (delete n ∷ s) = refl
+module _ (r : List ℕ) where
+  odd-none : (i n : ℕ) → eqb (sumFrom (λ k. odd (entryAt r k)) i n) 0 ≡ allOf soundEntry (entriesFrom r i n)
+  odd-none i zero = refl
+  odd-none i (suc n) = holds-all (soundEntry (entryAt r i)) _ ∙ ap (λ b. soundEntry (entryAt r i) && b) (odd-none (suc i) n)
 
--- the sums of entries are those of their operations, whatever the text
-pub record Sum (s q : Sums) (es : List Entry) (t : List ℕ) : Type 0 where
-  pub inserts : q .inserts ≡ s .inserts + insertBytes es
-  pub linked : q .linked ≡ (s .linked && linkedFrom (s .last) (operations es t))
-  pub base-is : q .base ≡ s .base + base (operations es t)
-  pub target-is : q .kept + numChars (take (insertBytes es) t) ≡ s .kept + total givesChars (operations es t)
-  pub less : q .kept + s .base ≤ q .base + s .kept
+  apart-none : (i n : ℕ) (t : List ℕ) → T (allOf soundEntry (entriesFrom r i (suc n))) → eqb (sumFrom (apartAt r) i n) 0 ≡ chained (operations (entriesFrom r i (suc n)) t)
+  apart-none i zero t h = refl
+  apart-none i (suc n) t h =
+      let (a, h₁) = both (soundEntry (entryAt r i)) (allOf soundEntry (entriesFrom r (suc i) (suc n))) .0 h in
+      let (b, h₂) = both (soundEntry (entryAt r (suc i))) (allOf soundEntry (entriesFrom r (suc (suc i)) n)) .0 h₁ in
+      let u = cond (eqb (kindAt r i) 2) (drop (countAt r i) t) t in
+      holds-all (mayFollow (kindAt r i) (kindAt r (suc i))) _
+      ∙ ap₂ _&&_ (kinds-follow (kindAt r i) (kindAt r (suc i)) (countAt r i) (countAt r (suc i)) t u a b) (apart-none (suc i) n u h₁)
+
+  inserts-sum : (i n : ℕ) → sumFrom (λ k. ofKind 2 (entryAt r k)) i n ≡ insertBytes (entriesFrom r i n)
+  inserts-sum i zero = refl
+  inserts-sum i (suc n) = go (eqb (kindAt r i) 2) (countAt r i) (inserts-sum (suc i) n)
+    where
+      go : (b : Bool) (c : ℕ) {x y : ℕ} → x ≡ y → picked b c + x ≡ cond b (c + y) y
+      go true c h = omega arith
+      go false c h = omega arith
+
+  -- whatever the text
+  kept-sum : (i n : ℕ) (t : List ℕ) → sumFrom (λ k. ofKind 1 (entryAt r k)) i n ≡ total keeps (operations (entriesFrom r i n) t)
+  kept-sum i zero t = refl
+  kept-sum i (suc n) t = go (eqb (kindAt r i) 1) (eqb (kindAt r i) 2) (countAt r i) (kept-sum (suc i) n _)
+    where
+      go : (a b : Bool) (c : ℕ) {x y : ℕ} → x ≡ y → picked a c + x ≡ keeps (cond a (retain c) (cond b (insert (take c t)) (delete c))) + y
+      go true b c h = omega arith
+      go false true c h = omega arith
+      go false false c h = omega arith
+
+  base-sum : (i n : ℕ) (t : List ℕ) → sumFrom (countAt r) i n ≡ insertBytes (entriesFrom r i n) + base (operations (entriesFrom r i n) t)
+  base-sum i zero t = refl
+  base-sum i (suc n) t =
+      let u = cond (eqb (kindAt r i) 2) (drop (countAt r i) t) t in
+      go (eqb (kindAt r i) 1) (eqb (kindAt r i) 2) refl refl (countAt r i) (insertBytes (entriesFrom r (suc i) n)) (base (operations (entriesFrom r (suc i) n) u)) (base-sum (suc i) n u)
+    where
+      go : (a b : Bool) → eqb (kindAt r i) 1 ≡ a → eqb (kindAt r i) 2 ≡ b → (c y z : ℕ) {x : ℕ} → x ≡ y + z → c + x ≡ cond b (c + y) y + (takes (cond a (retain c) (cond b (insert (take c t)) (delete c))) + z)
+      go true true p q c y z h = absurd (omega (arith, eqb-true (kindAt r i) 1 p, eqb-true (kindAt r i) 2 q))
+      go true false p q c y z h = omega arith
+      go false true p q c y z h = omega arith
+      go false false p q c y z h = omega arith
+
+-- the two passes, as the code finds them
+module _ (r : List ℕ) (n : ℕ) (t : Tally) (e : n ≡ recordsOf r) (g : Tallied r n t) where
+  none-odd : eqb (t .odd) 0 ≡ allOf soundEntry (entries r)
+  unfolding entries
+  none-odd = ap (λ x. eqb x 0) (g .odds) ∙ odd-none r 0 n ∙ ap (λ m. allOf soundEntry (entriesFrom r 0 m)) e
+
+  pub sums-unsound : (t .odd ≡ 0 → ⊥) → Unsound ≡ entriesOf r
+  unfolding entriesOf
+  sums-unsound z = rw (sym none-odd ∙ ne-eqb (t .odd) 0 z)
+
+  module _ (z : t .odd ≡ 0) where
+    all-sound : allOf soundEntry (entries r) ≡ true
+    all-sound = sym none-odd ∙ eq-eqb (t .odd) 0 z
+
+    none-apart : eqb (sumFrom (apartAt r) 0 (n - 1)) 0 ≡ chained (byteOps r)
+    unfolding byteOps entries
+    none-apart = go n e (known all-sound)
+      where
+        go : (m : ℕ) → m ≡ recordsOf r → T (allOf soundEntry (entriesFrom r 0 (recordsOf r))) → eqb (sumFrom (apartAt r) 0 (m - 1)) 0 ≡ chained (operations (entriesFrom r 0 (recordsOf r)) (textOf r))
+        go zero p h = rw (← p)
+        go (suc m) p h =
+            let q : suc m - 1 ≡ m = omega arith in
+            ap (λ j. eqb (sumFrom (apartAt r) 0 j) 0) q
+            ∙ apart-none r 0 m (textOf r) (rw (← p) at h)
+            ∙ ap (λ j. chained (operations (entriesFrom r 0 j) (textOf r))) p
+
+    pub sums-found : (a : ℕ) → a ≡ sumFrom (apartAt r) 0 (n - 1) → Of (record { inserts = t .inserts; linked = eqb a 0; base = t .all - t .inserts; kept = t .kept }) ≡ entriesOf r
+    unfolding entriesOf sumsOf entries byteOps
+    sums-found a p =
+        let x : t .inserts ≡ insertBytes (entries r) = g .inserted ∙ inserts-sum r 0 n ∙ ap (λ m. insertBytes (entriesFrom r 0 m)) e in
+        let y : t .all ≡ insertBytes (entries r) + base (byteOps r) = g .counts ∙ base-sum r 0 n (textOf r) ∙ ap (λ m. insertBytes (entriesFrom r 0 m) + base (operations (entriesFrom r 0 m) (textOf r))) e in
+        let w : t .all - t .inserts ≡ base (byteOps r) = omega arith in
+        let v : t .kept ≡ total keeps (byteOps r) = g .retained ∙ kept-sum r 0 n (textOf r) ∙ ap (λ m. total keeps (operations (entriesFrom r 0 m) (textOf r))) e in
+        rw (all-sound) (λ i. Of (record { inserts = x i; linked = (ap (λ j. eqb j 0) p ∙ none-apart) i; base = w i; kept = v i }))
 
 chars-part : (n m : ℕ) (t : List ℕ) → numChars (take (n + m) t) ≡ numChars (take n t) + numChars (take m (drop n t))
 chars-part n m t = ap numChars (take-add n m t) ∙ num-append (take n t) (take m (drop n t))
 
-sum-step : (k n : ℕ) (es : List Entry) (t : List ℕ) (s : Sums) → ((u : List ℕ) (v : Sums) → Sum v (summed v es) es u) → (k ≡ 1) ⊎ ((k ≡ 2) ⊎ (k ≡ 3))
-    → Sum s (summed s (entry k n ∷ es)) (entry k n ∷ es) t
-unfolding added
-sum-step k n es t s ih (inl p) =
-    rw p (
-    let j = ih t (added s (entry 1 n)) in
-    record {
-      inserts = j .inserts;
-      linked = j .linked ∙ ap (λ b. (s .linked && mayFollow (s .last) 1) && b) (linked-next (retain n) (operations es t)) ∙ and-assoc (s .linked) (mayFollow (s .last) 1) _;
-      base-is = omega (arith, j .base-is);
-      target-is = omega (arith, j .target-is);
-      less = omega (arith, j .less);
-    }
-    )
-sum-step k n es t s ih (inr (inl p)) =
-    rw p (
-    let j = ih (drop n t) (added s (entry 2 n)) in
-    record {
-      inserts = omega (arith, j .inserts);
-      linked = j .linked ∙ ap (λ b. (s .linked && mayFollow (s .last) 2) && b) (linked-next (insert (take n t)) (operations es (drop n t))) ∙ and-assoc (s .linked) (mayFollow (s .last) 2) _;
-      base-is = omega (arith, j .base-is);
-      target-is = omega (arith, j .target-is, chars-part n (insertBytes es) t);
-      less = omega (arith, j .less);
-    }
-    )
-sum-step k n es t s ih (inr (inr p)) =
-    rw p (
-    let j = ih t (added s (entry 3 n)) in
-    record {
-      inserts = j .inserts;
-      linked = j .linked ∙ ap (λ b. (s .linked && mayFollow (s .last) 3) && b) (linked-next (delete n) (operations es t)) ∙ and-assoc (s .linked) (mayFollow (s .last) 3) _;
-      base-is = omega (arith, j .base-is);
-      target-is = omega (arith, j .target-is);
-      less = omega (arith, j .less);
-    }
-    )
+keeps-less : (s : ByteSeq) → total keeps s ≤ base s
+keeps-less [] = omega arith
+keeps-less (retain n ∷ s) = omega (arith, keeps-less s)
+keeps-less (insert t ∷ s) = omega (arith, keeps-less s)
+keeps-less (delete n ∷ s) = omega (arith, keeps-less s)
 
-sum-of : (es : List Entry) (t : List ℕ) (s : Sums) → T (allOf soundEntry es) → Sum s (summed s es) es t
-sum-of [] t s h =
-    record { inserts = omega arith; linked = sym (and-true (s .linked)); base-is = omega arith; target-is = omega arith; less = omega arith }
-sum-of (e ∷ es) t s h =
-    let (a, b) = both (soundEntry e) (allOf soundEntry es) .0 h in
-    sum-step (e .kind) (e .count) es t s (λ u v. sum-of es u v b) (sound-kind (e .kind) (both (within 1 3 (e .kind)) _ .0 a .0))
+-- kept and inserted characters are those of the text after the edit
+kept-target : (es : List Entry) (t : List ℕ) → total keeps (operations es t) + numChars (take (insertBytes es) t) ≡ total givesChars (operations es t)
+kept-target [] t = refl
+kept-target (e ∷ es) t = go (eqb (e .kind) 1) (eqb (e .kind) 2) refl refl (λ u. kept-target es u)
+  where
+    go : (a b : Bool) → eqb (e .kind) 1 ≡ a → eqb (e .kind) 2 ≡ b → ((u : List ℕ) → total keeps (operations es u) + numChars (take (insertBytes es) u) ≡ total givesChars (operations es u))
+        → (keeps (cond a (retain (e .count)) (cond b (insert (take (e .count) t)) (delete (e .count)))) + total keeps (operations es (cond b (drop (e .count) t) t))) + numChars (take (cond b (e .count + insertBytes es) (insertBytes es)) t)
+        ≡ givesChars (cond a (retain (e .count)) (cond b (insert (take (e .count) t)) (delete (e .count)))) + total givesChars (operations es (cond b (drop (e .count) t) t))
+    go true true p q ih = absurd (omega (arith, eqb-true (e .kind) 1 p, eqb-true (e .kind) 2 q))
+    go true false p q ih = omega (arith, ih t)
+    go false true p q ih = omega (arith, ih (drop (e .count) t), chars-part (e .count) (insertBytes es) t)
+    go false false p q ih = omega (arith, ih t)
 
-pub sum-inserts : (r : List ℕ) → T (allOf soundEntry (entries r)) → summed nothing (entries r) .inserts ≡ insertBytes (entries r)
-sum-inserts r h = sum-of (entries r) [] nothing h .inserts ∙ zero-add _
+pub target-found : (r : List ℕ) → insertBytes (entries r) ≡ textBytesOf r → total keeps (byteOps r) + numChars (textOf r) ≡ total givesChars (byteOps r)
+unfolding textOf byteOps
+target-found r e =
+    let t = take (textBytesOf r) (drop (textStart (recordsOf r)) r) in
+    let z : take (insertBytes (entries r)) t ≡ t = ap (λ n. take n t) e ∙ take-take (textBytesOf r) (textBytesOf r) (drop (textStart (recordsOf r)) r) (omega arith) in
+    ap (λ l. total keeps (operations (entries r) t) + numChars l) (sym z) ∙ kept-target (entries r) t
 
 -- the whole record's
 pub record Found (r : List ℕ) (q : Sums) : Type 0 where
   pub inserts : q .inserts ≡ insertBytes (entries r)
   pub linked : q .linked ≡ chained (byteOps r)
   pub base-is : q .base ≡ base (byteOps r)
-  pub target-is : q .kept + numChars (textOf r) ≡ total givesChars (byteOps r)
+  pub target-is : insertBytes (entries r) ≡ textBytesOf r → q .kept + numChars (textOf r) ≡ total givesChars (byteOps r)
   pub less : q .kept ≤ q .base
 
-pub found : (r : List ℕ) → T (allOf soundEntry (entries r)) → insertBytes (entries r) ≡ textBytesOf r → Found r (summed nothing (entries r))
-unfolding textOf byteOps
-found r h e =
-    let t = take (textBytesOf r) (drop (textStart (recordsOf r)) r) in
-    let j = sum-of (entries r) t nothing h in
-    let z : take (insertBytes (entries r)) t ≡ t = ap (λ n. take n t) e ∙ take-take (textBytesOf r) (textBytesOf r) (drop (textStart (recordsOf r)) r) (omega arith) in
-    record {
-      inserts = j .inserts ∙ zero-add _;
-      linked = j .linked ∙ linked-first (operations (entries r) t);
-      base-is = j .base-is ∙ zero-add _;
-      target-is = ap (λ l. summed nothing (entries r) .kept + numChars l) (sym z) ∙ j .target-is ∙ zero-add _;
-      less = omega (arith, j .less);
-    }
+pub found : (r : List ℕ) → Found r (sumsOf r)
+unfolding sumsOf
+found r = record { inserts = refl; linked = refl; base-is = refl; target-is = target-found r; less = keeps-less (byteOps r) }
 
 -- ---- texts
 

@@ -1,5 +1,5 @@
 -- What the parts of the check promise each other. No entry's contract cites this.
-use Prim.Native.Nat.{ℕ, _+_, _≤_}
+use Prim.Native.Nat.{ℕ, zero, suc, _+_, _*_, _≤_}
 use mathlib.Core.Path.{_≡_}
 use mathlib.Core.Bool.{Bool, true, false, cond, not, _&&_}
 use mathlib.Core.List.{List, [], _∷_}
@@ -7,43 +7,79 @@ use lib.Dec.{T, eqb}
 use lib.ListN.{length, getD, drop}
 use Rattle.utf8.specs.Chars.{isCont, numChars, allOf}
 use Rattle.operation.specs.declared.checks.Sums.{Sums}
+use Rattle.operation.specs.declared.checks.Tally.{Tally}
 use Rattle.operation.specs.declared.checks.Entries.{Entries}
 use Rattle.operation.specs.declared.checks.Entries.the-variants.{Unsound, Of}
 use Rattle.operation.specs.declared.checks.Inserted.{Inserted}
 use Rattle.operation.specs.declared.checks.Inserted.the-variants.{IllFormed, Chars}
-use Rattle.operation.specs.Layout.{recordsOf, textBytesOf, textStart, sizeOf}
-use Rattle.operation.specs.Record.{Entry, entries, textOf, byteOps, soundEntry, insertBytes, wellInserted}
+use Rattle.operation.specs.Op.{Op, retain, insert, delete, total, base}
+use Rattle.operation.specs.Built.{chained}
+use Rattle.operation.specs.Layout.{recordsOf, textBytesOf, sizeOf, kindAt}
+use Rattle.operation.specs.Record.{Entry, entryAt, entries, textOf, byteOps, soundEntry, insertBytes, wellInserted}
 use Rattle.operation.specs.Front.{entriesLeft, byteOpsLeft}
 
 abbrev pub entry : ℕ → ℕ → Entry
 entry k n = record { kind = k; count = n }
 
--- the neighbours' rule on kinds as they are written; 0 is none
+-- ---- the sums of the entries
+
+-- f at i, and at the places behind it: n in all
+abbrev pub sumFrom : (ℕ → ℕ) → ℕ → ℕ → ℕ
+sumFrom f i zero = 0
+sumFrom f i (suc n) = f i + sumFrom f (suc i) n
+
+abbrev pub picked : Bool → ℕ → ℕ
+picked b n = cond b n 0
+
+-- what one entry adds
+abbrev pub odd : Entry → ℕ
+odd e = picked (not (soundEntry e)) 1
+
+abbrev pub ofKind : ℕ → Entry → ℕ
+ofKind k e = picked (eqb (e .kind) k) (e .count)
+
+abbrev pub sumOf : (Entry → ℕ) → List ℕ → ℕ → ℕ
+sumOf f r = sumFrom (λ k. f (entryAt r k)) 0
+
+unfoldable pub tallied : Tally → Entry → Tally
+tallied t e =
+    record {
+      odd = t .odd + odd e;
+      inserts = t .inserts + ofKind 2 e;
+      all = t .all + e .count;
+      kept = t .kept + ofKind 1 e;
+    }
+
+-- the first n entries
+pub record Tallied (r : List ℕ) (n : ℕ) (t : Tally) : Type 0 where
+  pub odds : t .odd ≡ sumOf odd r n
+  pub inserted : t .inserts ≡ sumOf (ofKind 2) r n
+  pub counts : t .all ≡ sumOf (λ e. e .count) r n
+  pub retained : t .kept ≡ sumOf (ofKind 1) r n
+  pub few : t .odd ≤ n
+  pub less : t .inserts ≤ t .all
+  pub fewer : t .kept ≤ t .all
+  pub small : t .all ≤ 65536 * n
+
+-- the neighbours' rule on kinds as they are written
 unfoldable pub mayFollow : ℕ → ℕ → Bool
 mayFollow last kind = cond (eqb last kind) false (cond (eqb last 3) (not (eqb kind 2)) true)
 
--- one entry more
-unfoldable pub added : Sums → Entry → Sums
-unfolding mayFollow
-added s e =
-    record {
-      inserts = cond (eqb (e .kind) 2) (s .inserts + e .count) (s .inserts);
-      last = e .kind;
-      linked = s .linked && mayFollow (s .last) (e .kind);
-      base = cond (eqb (e .kind) 2) (s .base) (s .base + e .count);
-      kept = cond (eqb (e .kind) 1) (s .kept + e .count) (s .kept);
-    }
+abbrev pub apartAt : List ℕ → ℕ → ℕ
+apartAt r k = picked (not (mayFollow (kindAt r k) (kindAt r (suc k)))) 1
 
-abbrev pub summed : Sums → List Entry → Sums
-summed s [] = s
-summed s (e ∷ es) = summed (added s e) es
+abbrev pub keeps : Op ℕ → ℕ
+keeps (retain n) = n
+keeps (insert t) = 0
+keeps (delete n) = 0
 
-abbrev pub nothing : Sums
-nothing = record { inserts = 0; last = 0; linked = true; base = 0; kept = 0 }
+unfoldable pub sumsOf : List ℕ → Sums
+unfolding entries byteOps
+sumsOf r = record { inserts = insertBytes (entries r); linked = chained (byteOps r); base = base (byteOps r); kept = total keeps (byteOps r) }
 
 unfoldable pub entriesOf : List ℕ → Entries
-unfolding entries
-entriesOf r = cond (allOf soundEntry (entries r)) (Of (summed nothing (entries r))) Unsound
+unfolding entries sumsOf
+entriesOf r = cond (allOf soundEntry (entries r)) (Of (sumsOf r)) Unsound
 
 -- no insert begins with a continuation
 abbrev pub startWell : List Entry → List ℕ → Bool

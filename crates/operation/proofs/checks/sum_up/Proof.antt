@@ -1,60 +1,33 @@
-use Prim.Native.Nat.{_*_, _-_, _≤_}
-use mathlib.Core.Path.{_≡_}
-use Rattle.operation.specs.Checks.{entriesOf}
-use Rattle.operation.proofs.Checking.{sumLeft, sum-start, sum-end, sum-unsound, sum-on}
+use Rattle.operation.proofs.Checking.{sums-unsound, sums-found}
 use borrow.Author.Needs.{needs}
 use Rattle.operation.proofs.checks.sum_up.Statement.{statement}
 use Rattle.operation.proofs.checks.sum_up.Tie as tie
 
-abbrev Inv-loop : tie.InvT-loop
-Inv-loop rec n s₀ k₀ s k = (k ≤ n) × (s .inserts ≤ 65536 * k) × (s .base ≤ 65536 * k) × (s .kept ≤ 65536 * k) × (sumLeft rec k s ≡ entriesOf rec)
+count-up-requires : tie.Need-count-up-requires
+count-up-requires c κs = search needs
 
-abbrev μ-loop : tie.MeasureT-loop
-μ-loop rec n s₀ k₀ s k = n - k
+returns : tie.Need-returns
+returns c = search sums-unsound
 
-loop-holds : tie.Need-loop-holds Inv-loop μ-loop
-loop-holds c = (search needs, search needs, search needs, search needs, sum-start _)
+cast-t5 : tie.Need-cast-t5
+cast-t5 c = search needs
 
-kind-requires : tie.Need-kind-requires Inv-loop μ-loop
-kind-requires c κs = search needs
+apart-requires : tie.Need-apart-requires
+apart-requires c κs = search needs
 
-count-requires : tie.Need-count-requires Inv-loop μ-loop
-count-requires c κs = search needs
+sub-t7 : tie.Need-sub-t7
+sub-t7 c = search needs
 
-is-sound-requires : tie.Need-is-sound-requires Inv-loop μ-loop
-is-sound-requires c κs = search needs
+cast-t8 : tie.Need-cast-t8
+cast-t8 c = search needs
 
-returns : tie.Need-returns Inv-loop μ-loop
-returns c = search sum-unsound
+cast-t9 : tie.Need-cast-t9
+cast-t9 c = search needs
 
-add-requires : tie.Need-add-requires Inv-loop μ-loop
-add-requires c κs = search needs
-
-add-k : tie.Need-add-k Inv-loop μ-loop
-add-k c = search needs
-
-loop-less : tie.Need-loop-less Inv-loop μ-loop
-loop-less c = search needs
-
-loop-again : tie.Need-loop-again Inv-loop μ-loop
-loop-again c = (search needs, search needs, search needs, search needs, search sum-on)
-
-returns-2 : tie.Need-returns-2 Inv-loop μ-loop
-returns-2 c = search sum-end
+returns-2 : tie.Need-returns-2
+returns-2 c = search sums-found
 
 pub sum-up-spec : {M : Type 1} → statement M
 sum-up-spec =
     tie.close
-    (tie.spec
-    Inv-loop
-    μ-loop
-    loop-holds
-    kind-requires
-    count-requires
-    is-sound-requires
-    returns
-    add-requires
-    add-k
-    loop-less
-    loop-again
-    returns-2)
+    (tie.spec count-up-requires returns cast-t5 apart-requires sub-t7 cast-t8 cast-t9 returns-2)
