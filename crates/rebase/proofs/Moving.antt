@@ -4,10 +4,10 @@ use native.Mathlib.Omega.{arith}
 use mathlib.Core.Path.{_≡_, refl, sym, ap, ap₂, _∙_, subst}
 use mathlib.Core.Bool.{Bool, true, false, not, _&&_, and-eq-true-iff, true≢false}
 use mathlib.Core.List.{List, [], _∷_, _++_, append-assoc, append-nil}
-use lib.Dec.{leb, eqb, eqb→eq}
+use lib.Dec.{eqb, eqb→eq}
 use lib.ListN.{length, take, drop, length-append, length-drop}
 use lib.Seq.{take-at, drop-at, drop-drop}
-use borrow.Author.Tests.{not-true, not-false, leb-true, le-leb}
+use borrow.Author.Tests.{not-true, not-false, le-leb}
 use Rattle.utf8.specs.Order.{order}
 use Rattle.utf8.proofs.Tests.{both, holds}
 use Rattle.utf8.specs.Text.{Char}
@@ -22,13 +22,15 @@ use Rattle.operational_transform.specs.Emit.{Sizes, within}
 use Rattle.operational_transform.specs.Output.{atFront}
 use Rattle.operational_transform.proofs.Delivering.{sized-fits}
 use Rattle.transform.specs.declared.core.Pair.{Pair}
+use Rattle.transform.specs.Both.{StagedBoth, placed}
+use Rattle.transform.proofs.Placing.{few-left, few-right, room-left, room-right}
 use Rattle.log.specs.Log.{encodeAll, editsIn, readableFrom}
 use Rattle.log.proofs.Logs.{encodeAll-append}
 use Rattle.log.proofs.Scanning.{to-end}
 use Rattle.session.specs.Rows.{rule, Moved, rebase}
 use Rattle.rebase.specs.declared.core.Spot.{Spot}
 use Rattle.rebase.specs.declared.core.Run.the-variants as outcome
-use Rattle.rebase.specs.Running.{Lie, Holds, placed, Fit, StagedSides, Ready, GoesOn, Runs}
+use Rattle.rebase.specs.Running.{Lie, Holds, Fit, Ready, GoesOn, Runs}
 use Rattle.rebase.proofs.Passing.{within-fits}
 
 -- ---- records end to end
@@ -111,7 +113,7 @@ module _ (e : Seq) (l : List ℕ) (from n left : ℕ) (spot : Spot) (cur parts�
         ap (λ i. rebase (ops cur) (editsIn i (drop at l))) k
         ∙ ap (λ r. let m = rebase (rule (ops cur) (ops r) .left) (editsIn (left - 1) (drop (sizeOf r) (drop at l))) in record { edit = m .edit; counterparts = rule (ops cur) (ops r) .right ∷ m .counterparts; kept = fits (rule (ops cur) (ops r) .left) && (fits (rule (ops cur) (ops r) .right) && m .kept) }) (sym rec-is)
 
-    module _ (slots : ℕ) (p : Pair) (next side : List ℕ) (d : StagedSides slots s p next side) (v : Bool) (q : v ≡ (within (p .e) && within (p .f))) where
+    module _ (slots : ℕ) (p : Pair) (next side : List ℕ) (d : StagedBoth slots s p next side) (v : Bool) (q : v ≡ (within (p .e) && within (p .f))) where
       abbrev sized-left : Sizes (s .left) (p .e)
       sized-left = d .left .done .sizes
 
@@ -141,16 +143,13 @@ module _ (e : Seq) (l : List ℕ) (from n left : ℕ) (spot : Spot) (cur parts�
 
           pub moving-ready : not u ≡ false → Ready slots s p room next side
           moving-ready z =
-              let (a, b) = and-eq-true-iff (placed (p .e) slots room) (placed (p .f) slots room) .0 (sym t ∙ not-false u z) in
-              let (x, y) = and-eq-true-iff (leb (p .e .records) slots) (leb (textStart slots + p .e .text) room) .0 a in
-              let (x′, y′) = and-eq-true-iff (leb (p .f .records) slots) (leb (textStart slots + p .f .text) room) .0 b in
               record {
                 staged = d;
                 fit = moving-fit;
-                few-left = leb-true (p .e .records) slots x;
-                few-right = leb-true (p .f .records) slots x′;
-                room-left = leb-true (textStart slots + p .e .text) room y;
-                room-right = leb-true (textStart slots + p .f .text) room y′;
+                few-left = few-left slots p room room u t z;
+                few-right = few-right slots p room room u t z;
+                room-left = room-left slots p room room u t z;
+                room-right = room-right slots p room room u t z;
               }
 
           -- what moving-fit the limits has a place in long stages

@@ -38,9 +38,6 @@ front-holds s buffer g =
 
 -- ---- from a stage to a place
 
-pub places : (slots : ℕ) (e : Emitter) (stage out o₁ o₂ : List ℕ) → o₁ ≡ settled slots (e .records) (e .records) (e .text) stage out → o₂ ≡ headed e o₁ → o₂ ≡ headed e (settled slots (e .records) (e .records) (e .text) stage out)
-places slots e stage out o₁ o₂ p q = q ∙ ap (headed e) p
-
 module _ (slots : ℕ) (s : Seq) (e : Emitter) (stage : List ℕ) (g : Staged slots s e stage) (few : e .records ≤ slots) (room : textStart slots + e .text ≤ length stage) (f : T (fits s)) where
   staged-front : (out out′ : List ℕ) → sizeIn e ≤ length out → out′ ≡ headed e (settled slots (e .records) (e .records) (e .text) stage out) → out′ ≡ atFront (encode s) out
   staged-front out out′ space p =

@@ -1,28 +1,22 @@
 -- What the functions of `rebase` promise each other, and `accept`. No entry's contract cites this.
-use Prim.Native.Nat.{ℕ, _+_, _*_, _≤_}
+use Prim.Native.Nat.{ℕ, _+_, _≤_}
 use mathlib.Core.Path.{_≡_}
-use mathlib.Core.Bool.{Bool, true, false, _&&_}
+use mathlib.Core.Bool.{true, false}
 use mathlib.Core.List.{List, _++_}
-use lib.Dec.{T, leb}
+use lib.Dec.{T}
 use lib.ListN.{length, take, drop}
 use Rattle.utf8.specs.Text.{Char}
 use Rattle.operation.specs.declared.Refusal.the-variants.{Limit}
 use Rattle.operation.specs.Layout.{sizeOf, textStart}
 use Rattle.operation.specs.Record.{Seq, encode, fits, ops, recordFault}
-use Rattle.utf8.specs.Order.{order}
-use Rattle.operation.specs.Op.{cut}
-use Rattle.operation.specs.Front.{frontOp}
 use Rattle.operational_transform.specs.declared.core.Emitter.{Emitter}
-use Rattle.operational_transform.specs.Transform.{Sides, transformTurn, past, keepBoth, lefts}
-use Rattle.operational_transform.specs.Emit.{Adds, Staged}
+use Rattle.operational_transform.specs.Transform.{Sides}
+use Rattle.operational_transform.specs.Emit.{Staged}
 use Rattle.operational_transform.specs.Output.{atFront}
-use Rattle.turns.specs.declared.core.State.{State}
-use Rattle.turns.specs.Turns.{Begun, Went}
-use Rattle.transform.specs.Sides.{FirstWent, SecondWent, BothWent}
+use Rattle.transform.specs.Both.{StagedBoth}
 use Rattle.transform.specs.declared.core.Pair.{Pair}
 use Rattle.log.specs.Log.{encodeAll, readableFrom}
 use Rattle.session.specs.Rows.{rebase}
-use Rattle.rebase.specs.declared.core.Both.{Both}
 use Rattle.rebase.specs.declared.core.Spot.{Spot}
 use Rattle.rebase.specs.declared.core.Run.{Run}
 use Rattle.rebase.specs.declared.core.Run.the-variants as outcome
@@ -40,56 +34,14 @@ pub record Holds (e : Seq) (cur : List ℕ) : Type 0 where
 
 -- ---- past one revision
 
--- the edit past the revision, and the revision past the edit
-abbrev pub mine : Both → State
-mine b = record { x = b .x; y = b .y; e = b .e }
-
-abbrev pub theirs : Both → State
-theirs b = record { x = b .y; y = b .x; e = b .f }
-
-pub record BegunBoth (a b : List ℕ) (s : Both) : Type 0 where
-  pub edit : Begun a b (mine s)
-  pub counterpart : Begun b a (theirs s)
-
--- the edit's operation went by itself, or the revision's
-pub record FirstBoth (n : ℕ) (a : List ℕ) (s : Both) (o : List ℕ) (r : Both) (o′ : List ℕ) : Type 0 where
-  pub edit : FirstWent n a (mine s) o (mine r) o′
-  pub counterpart : SecondWent a (theirs s) (theirs r)
-
-pub record SecondBoth (n : ℕ) (b : List ℕ) (s : Both) (w : List ℕ) (r : Both) (w′ : List ℕ) : Type 0 where
-  pub edit : SecondWent b (mine s) (mine r)
-  pub counterpart : FirstWent n b (theirs s) w (theirs r) w′
-
--- what stays of k characters of both
-pub record Meets (n : ℕ) (a b : List ℕ) (s : Both) (k : ℕ) (o w : List ℕ) (p : Pair) (o′ w′ : List ℕ) : Type 0 where
-  pub edit : Adds n (past keepBoth (cut k (frontOp b (s .y))) (cut k (frontOp a (s .x)))) (s .e) o (p .e) o′
-  pub counterpart : Adds n (past keepBoth (cut k (frontOp a (s .x))) (cut k (frontOp b (s .y)))) (s .f) w (p .f) w′
-
-pub record TogetherBoth (n : ℕ) (a b : List ℕ) (s : Both) (o w : List ℕ) (r : Both) (o′ w′ : List ℕ) : Type 0 where
-  pub edit : BothWent n a b (mine s) o (mine r) o′
-  pub counterpart : BothWent n b a (theirs s) w (theirs r) w′
-
-pub record WentBoth (n : ℕ) (a b : List ℕ) (s : Both) (o w : List ℕ) (r : Both) (o′ w′ : List ℕ) : Type 0 where
-  pub edit : Went (transformTurn order) (lefts keepBoth) n a b (mine s) o (mine r) o′
-  pub counterpart : Went (transformTurn order) (lefts keepBoth) n b a (theirs s) w (theirs r) w′
-
--- what was emitted has a place in a stage of `room` bytes
-abbrev pub placed : Emitter → ℕ → ℕ → Bool
-placed e slots room = leb (e .records) slots && leb (textStart slots + e .text) room
-
 -- both sides keep the limits
 pub record Fit (s : Sides Char) : Type 0 where
   pub left : T (fits (s .left))
   pub right : T (fits (s .right))
 
--- both sides were written to stages
-pub record StagedSides (slots : ℕ) (s : Sides Char) (p : Pair) (next side : List ℕ) : Type 0 where
-  pub left : Staged slots (s .left) (p .e) next
-  pub right : Staged slots (s .right) (p .f) side
-
--- they keep the limits, and have places in stages of `room` bytes
+-- both sides, written to stages, keep the limits, and have places in stages of `room` bytes
 pub record Ready (slots : ℕ) (s : Sides Char) (p : Pair) (room : ℕ) (next side : List ℕ) : Type 0 where
-  pub staged : StagedSides slots s p next side
+  pub staged : StagedBoth slots s p next side
   pub fit : Fit s
   pub few-left : p .e .records ≤ slots
   pub few-right : p .f .records ≤ slots

@@ -1,8 +1,8 @@
 // An edit is moved past revisions. It stands in a buffer; what it and a revision become is written to two stages, by one run over both,
 // and goes from there to its place.
 use operation::Refusal;
-use operation::core::Front;
 use operational_transform::core::Emitter;
+use transform::core::Both;
 use transform::core::Pair;
 use turns::core::Turn;
 ghost use mathlib.Core.Path.{_≡_};
@@ -17,8 +17,9 @@ ghost use Rattle.operational_transform.specs.Transform.{transformTurn};
 ghost use Rattle.operational_transform.specs.Transform.{transform as transformOf};
 ghost use Rattle.operational_transform.specs.Emit.{Under, Finishes, within, sizeIn, headed, settled};
 ghost use Rattle.turns.specs.Turns.{liveIs, Chooses};
+ghost use Rattle.transform.specs.Both.{BegunBoth, FirstBoth, SecondBoth, Meets, TogetherBoth, WentBoth, placed};
 ghost use Rattle.log.specs.Log.{editsIn};
-ghost use Rattle.rebase.specs.Running.{Lie, Holds, BegunBoth, FirstBoth, SecondBoth, Meets, TogetherBoth, WentBoth, placed, Ready, Keeps, GoesOn, Runs};
+ghost use Rattle.rebase.specs.Running.{Lie, Holds, Ready, Keeps, GoesOn, Runs};
 
 // How many bytes the counterparts have, or why the run ended: a refusal, or stages that are too short for what is written.
 pub enum Run {
@@ -27,14 +28,7 @@ pub enum Run {
     Short,
 }
 
-// On the way past a revision: the edit's front record and the revision's, what was emitted of the edit's side, and of the counterpart.
-pub struct Both {
-    pub x: Front,
-    pub y: Front,
-    pub e: Emitter,
-    pub f: Emitter,
-}
-
+// Before the first step past a revision: of the edit's side and of the counterpart nothing was emitted.
 fn begin(cur: &[u8], na: usize, rec: &[u8], nb: usize) -> Both
     requires { ⌜ (na ≡ recordsOf (now cur)) × (na ≤ 1024) × (nb ≡ recordsOf (now rec)) × (nb ≤ 1024) × (recordFault (now cur) ≡ 0) × (recordFault (now rec) ≡ 0) ⌝ }
     ensures { λ r. ⌜ BegunBoth (now (cur .entry)) (now (rec .entry)) r ⌝ }
@@ -100,7 +94,7 @@ fn meet(
     k: usize,
 ) -> Pair
     requires { ⌜ (slots ≤ 2 ^ 40) × Under (2 ^ 38) (b .e) × Under (2 ^ 38) (b .f) × Stands (now cur) (b .x) × Stands (now rec) (b .y) × (0 < k) × (k ≤ b .x .left) × (k ≤ b .y .left) × Cut (now cur) (b .x) k (b .x .to) × Cut (now rec) (b .y) k (b .y .to) × Chooses (transformTurn order) (now cur) (now rec) (b .x) (b .y) Turn.Together ⌝ }
-    ensures { λ r. ⌜ Meets slots (now (cur .entry)) (now (rec .entry)) b k (now (next .entry)) (now (side .entry)) r (now (next .exit)) (now (side .exit)) ⌝ }
+    ensures { λ r. ⌜ Meets slots slots (now (cur .entry)) (now (rec .entry)) b k (now (next .entry)) (now (side .entry)) r (now (next .exit)) (now (side .exit)) ⌝ }
 {
     let x = b.x;
     let y = b.y;
@@ -142,7 +136,7 @@ fn together(
     b: Both,
 ) -> Both
     requires { ⌜ (na ≡ recordsOf (now cur)) × (nb ≡ recordsOf (now rec)) × (slots ≤ 2 ^ 40) × Under (2 ^ 38) (b .e) × Under (2 ^ 38) (b .f) × Stands (now cur) (b .x) × Stands (now rec) (b .y) × Chooses (transformTurn order) (now cur) (now rec) (b .x) (b .y) Turn.Together ⌝ }
-    ensures { λ r. ⌜ TogetherBoth slots (now (cur .entry)) (now (rec .entry)) b (now (next .entry)) (now (side .entry)) r (now (next .exit)) (now (side .exit)) ⌝ }
+    ensures { λ r. ⌜ TogetherBoth slots slots (now (cur .entry)) (now (rec .entry)) b (now (next .entry)) (now (side .entry)) r (now (next .exit)) (now (side .exit)) ⌝ }
 {
     let x = b.x;
     let y = b.y;
@@ -167,7 +161,7 @@ fn turn(
     b: Both,
 ) -> Both
     requires { ⌜ (na ≡ recordsOf (now cur)) × (nb ≡ recordsOf (now rec)) × (slots ≤ 2 ^ 40) × Under (2 ^ 38) (b .e) × Under (2 ^ 38) (b .f) × Stands (now cur) (b .x) × Stands (now rec) (b .y) × (liveIs (b .x) (b .y) ≡ true) ⌝ }
-    ensures { λ r. ⌜ WentBoth slots (now (cur .entry)) (now (rec .entry)) b (now (next .entry)) (now (side .entry)) r (now (next .exit)) (now (side .exit)) ⌝ }
+    ensures { λ r. ⌜ WentBoth slots slots (now (cur .entry)) (now (rec .entry)) b (now (next .entry)) (now (side .entry)) r (now (next .exit)) (now (side .exit)) ⌝ }
 {
     let x = b.x;
     let y = b.y;

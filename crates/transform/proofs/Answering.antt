@@ -1,9 +1,9 @@
 -- The answers of transform.
 use Prim.Native.Nat.{ℕ, suc, _≤_, _<_}
 use native.Mathlib.Omega.{arith}
-use mathlib.Core.Path.{_≡_, refl, sym, ap, ap₂, _∙_, subst}
+use mathlib.Core.Path.{_≡_, refl, sym, ap, _∙_}
 use mathlib.Core.Bool.{Bool, true, false, cond, not, _&&_, and-false, and-eq-true-iff}
-use mathlib.Core.List.{List, [], _∷_, reverse}
+use mathlib.Core.List.{List, [], _∷_}
 use lib.Dec.{leb, eqb}
 use lib.ListN.{length}
 use borrow.Author.Tests.{eq-eqb, ne-eqb, le-leb, lt-leb, leb-true, not-true, not-false}
@@ -15,22 +15,22 @@ use Rattle.operation.specs.declared.Fact.{Fact}
 use Rattle.operation.specs.declared.Fact.the-variants as fact
 use Rattle.operation.specs.Answer.{number, gives, refused, factOf, needs, first}
 use Rattle.operation.specs.Layout.{baseOf}
-use Rattle.operation.specs.Record.{Seq, encode, fits, ops, recordFault}
+use Rattle.operation.specs.Record.{encode, fits, ops, recordFault}
 use Rattle.operation.specs.Calls.{checkCall}
 use Rattle.utf8.proofs.Tests.{known}
 use Rattle.operation.proofs.Sequences.{fits-limits}
-use Rattle.operation.proofs.Answers.{Stopped, stopped}
+use Rattle.operation.proofs.Answers.{stopped}
 use Rattle.operational_transform.specs.declared.core.Emitter.{Emitter}
 use Rattle.operational_transform.specs.Output.{atFront, writingBoth}
 use Rattle.operational_transform.specs.Transform.{Sides, transform}
 use Rattle.operational_transform.specs.Calls.{recordsFault, transformCall}
-use Rattle.operational_transform.specs.Emit.{Sizes, Done, Writes, within, sizeIn}
+use Rattle.operational_transform.specs.Emit.{Sizes, within, sizeIn}
 use Rattle.operational_transform.proofs.Delivering.{sized-fits, sized-length, written-front}
 use Rattle.transform.specs.declared.WrittenPair.{WrittenPair}
 use Rattle.transform.specs.declared.WrittenPair.the-variants as written
-use Rattle.transform.specs.Pairs.{pairOf, judgedBoth, StagedBoth, Transforms}
+use Rattle.transform.specs.Pairs.{pairOf, judgedBoth, Transforms}
+use Rattle.transform.specs.Both.{WritesBoth, StagedBoth}
 use Rattle.transform.specs.declared.core.Pair.{Pair}
-use Rattle.transform.proofs.Looping.{right-is, write-right}
 
 -- ---- `judge`
 
@@ -72,12 +72,12 @@ module _ (a b x y : List ℕ) (za : recordFault a ≡ 0) (zb : recordFault b ≡
   pub transforms-lengths : (t ≡ s → ⊥) → Transforms a b x y (written.Refused IncompatibleLengths) x y
   transforms-lengths h = refuses a b x y IncompatibleLengths 7 refl (fault-is a b x y 7 (rw (za, zb, ne-eqb (baseOf a) (baseOf b) (λ z. h (pt ∙ z ∙ sym ps)))))
 
-module _ (a b x y : List ℕ) (za : recordFault a ≡ 0) (zb : recordFault b ≡ 0) (h : baseOf a ≡ baseOf b) (r : Pair) {n : ℕ} {q₁ q₂ : List ℕ} (d : StagedBoth n (ops a) (ops b) r q₁ q₂) (v : WrittenPair) (w : v ≡ judgedBoth (r .e) (r .f) (length x) (length y)) where
+module _ (a b x y : List ℕ) (za : recordFault a ≡ 0) (zb : recordFault b ≡ 0) (h : baseOf a ≡ baseOf b) (r : Pair) {n : ℕ} {q₁ q₂ : List ℕ} (d : StagedBoth n (transform order (ops a) (ops b)) r q₁ q₂) (v : WrittenPair) (w : v ≡ judgedBoth (r .e) (r .f) (length x) (length y)) where
   abbrev z₁ : Sizes (transform order (ops a) (ops b) .left) (r .e)
   z₁ = d .left .done .sizes
 
-  z₂ : Sizes (transform order (ops a) (ops b) .right) (r .f)
-  z₂ = subst (λ s. Sizes s (r .f)) (right-is (ops a) (ops b)) (d .right .done .sizes)
+  abbrev z₂ : Sizes (transform order (ops a) (ops b) .right) (r .f)
+  z₂ = d .right .done .sizes
 
   abbrev sides : Sides Char
   sides = transform order (ops a) (ops b)
@@ -120,14 +120,15 @@ module _ (a b x y : List ℕ) (za : recordFault a ≡ 0) (zb : recordFault b ≡
       go (stops u p q) = let k : u ≡ z = cc (p, e) in record { answer = ap (λ k. refused (number k)) (sym k) ∙ sym (ap (λ c. c .answer) q); out-a = sym (ap (λ c. c .outA) q); out-b = sym (ap (λ c. c .outB) q) }
       go (writes f g p q) = absurd (let k : _≡_ {A = ℕ} 0 1 = cc (p, e) in omega arith)
 
-  pub transforms-written : (k l : ℕ) (x′ y′ : List ℕ) → v ≡ written.Bytes k l → Writes (r .e .records) (transform order (ops a) (ops b) .left) x x′ → Writes (r .f .records) (transform order (ops b) (ops a) .left) y y′
+  pub transforms-written : (k l : ℕ) (x′ y′ : List ℕ) → v ≡ written.Bytes k l → WritesBoth (r .e .records) (r .f .records) (transform order (ops a) (ops b)) x y x′ y′
       → Transforms a b x y (written.Bytes k l) x′ y′
-  transforms-written k l x′ y′ e f u = go outcome
+  transforms-written k l x′ y′ e u = go outcome
     where
       go : Outcome → Transforms a b x y (written.Bytes k l) x′ y′
       go (stops s p q) = absurd (let z : _≡_ {A = ℕ} 0 1 = cc (p, e) in omega arith)
       go (writes m n p q) =
-          let g = write-right (r .f .records) (ops a) (ops b) y y′ u in
+          let f = u .left in
+          let g = u .right in
           let (fa, fb) = and-eq-true-iff (fits (sides .left)) (fits (sides .right)) .0 m in
           let (ra, rb) = and-eq-true-iff (leb (length (encode (sides .left))) (length x)) (leb (length (encode (sides .right))) (length y)) .0 n in
           record {

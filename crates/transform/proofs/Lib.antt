@@ -1,4 +1,6 @@
 -- transform
 pub mod Siding
+pub mod Stepping
 pub mod Looping
+pub mod Placing
 pub mod Answering

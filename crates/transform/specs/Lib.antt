@@ -1,3 +1,4 @@
 -- transform
 pub mod Pairs
 pub mod Sides
+pub mod Both

@@ -1,27 +1,25 @@
-// Transform over the fronts of two records that were checked: what the first becomes past the second. The other side is the same
-// with the two exchanged.
+// Transform over the fronts of two records that were checked: what either becomes past the other, by one run over both.
 use crate::WrittenPair;
 use operation::Refusal;
 use operation::core::Front;
 use operational_transform::core::Emitter;
-use turns::core::State;
 use turns::core::Turn;
 use utf8::core::Ordering;
 ghost use mathlib.Core.Path.{_≡_};
 ghost use mathlib.Core.Bool.{true, _&&_};
-ghost use Prim.Native.Nat.{_^_, _≤_, _<_};
+ghost use Prim.Native.Nat.{_+_, _^_, _≤_, _<_};
+ghost use lib.ListN.{length};
 ghost use Rattle.utf8.specs.Order.{byteOrder, order};
-ghost use Rattle.operation.specs.Layout.{recordsOf, baseOf};
-ghost use Rattle.operation.specs.Op.{cut};
+ghost use Rattle.operation.specs.Layout.{recordsOf, baseOf, textStart};
 ghost use Rattle.operation.specs.Record.{ops, recordFault};
-ghost use Rattle.operation.specs.Front.{frontText, frontOp, Stands, Cut};
-ghost use Rattle.operational_transform.specs.Transform.{transformTurn, keepBoth, lefts};
-ghost use Rattle.operational_transform.specs.Transform.{past as stays};
+ghost use Rattle.operation.specs.Front.{frontText, Stands, Cut};
+ghost use Rattle.operational_transform.specs.Transform.{transformTurn};
 ghost use Rattle.operational_transform.specs.Transform.{transform as transformOf};
-ghost use Rattle.operational_transform.specs.Emit.{Under, Adds, Done, Writes, Staged, within};
-ghost use Rattle.turns.specs.Turns.{liveIs, Chooses, Went};
-ghost use Rattle.transform.specs.Pairs.{judgedBoth, StagedBoth, Transforms};
-ghost use Rattle.transform.specs.Sides.{givesOf, FirstWent, SecondWent, BothWent};
+ghost use Rattle.operational_transform.specs.Emit.{Under, headed, settled};
+ghost use Rattle.turns.specs.Turns.{liveIs, Chooses};
+ghost use Rattle.transform.specs.Pairs.{judgedBoth, Transforms};
+ghost use Rattle.transform.specs.Sides.{givesOf};
+ghost use Rattle.transform.specs.Both.{BegunBoth, FirstBoth, SecondBoth, Meets, TogetherBoth, WentBoth, DoneBoth, WritesBoth, placed, StagedBoth};
 
 // Of two inserts that meet, the lesser by byte order goes first.
 fn rank(a: &[u8], b: &[u8], x: Front, y: Front) -> Ordering
@@ -72,119 +70,210 @@ pub fn gives(f: Front) -> usize
     f.left
 }
 
-// As many characters of both: what stays of mine past theirs. Equal inserts are both kept.
-fn past(
-    out: &mut [u8],
-    n: usize,
-    e: Emitter,
-    mine: &[u8],
-    f: Front,
-    i: usize,
-    theirs: &[u8],
-    g: Front,
-    j: usize,
-    k: usize,
-) -> Emitter
-    requires { ⌜ (n ≤ 2 ^ 40) × Under (2 ^ 38) e × Stands (now mine) f × Stands (now theirs) g × (0 < k) × (k ≤ f .left) × (k ≤ g .left) × Cut (now mine) f k i × Cut (now theirs) g k j ⌝ }
-    ensures { λ r. ⌜ Adds n (stays keepBoth (cut k (frontOp (now (theirs .entry)) g)) (cut k (frontOp (now (mine .entry)) f))) e (now (out .entry)) r (now (out .exit)) ⌝ }
-{
-    if g.kind == 1 {
-        return operational_transform::core::part(out, n, e, mine, f, k, i);
-    }
-    if g.kind == 2 {
-        let d = operational_transform::core::part(out, n, e, theirs, g, k, j);
-        return operational_transform::core::retain(d, k);
-    }
-    e
-}
-
-// The first's operation goes by itself.
-fn first(a: &[u8], na: usize, out: &mut [u8], n: usize, s: State) -> State
-    requires { ⌜ (na ≡ recordsOf (now a)) × (n ≤ 2 ^ 40) × Under (2 ^ 38) (s .e) × Stands (now a) (s .x) × (0 < s .x .kind) ⌝ }
-    ensures { λ r. ⌜ FirstWent n (now (a .entry)) s (now (out .entry)) r (now (out .exit)) ⌝ }
-{
-    let x = s.x;
-    let y = s.y;
-    let e = s.e;
-    let k = x.left;
-    let to = x.to;
-    let f = operational_transform::core::part(out, n, e, a, x, k, to);
-    let g = operation::core::rest(a, na, x, k, to);
-    State { x: g, y, e: f }
-}
-
-// The second's operation goes by itself: what it gives is retained.
-fn second(b: &[u8], nb: usize, s: State) -> State
-    requires { ⌜ (nb ≡ recordsOf (now b)) × Under (2 ^ 38) (s .e) × Stands (now b) (s .y) ⌝ }
-    ensures { λ r. ⌜ SecondWent (now (b .entry)) s r ⌝ }
-{
-    let x = s.x;
-    let y = s.y;
-    let e = s.e;
-    let k = y.left;
-    let to = y.to;
-    let f = operational_transform::core::retain(e, gives(y));
-    let h = operation::core::rest(b, nb, y, k, to);
-    State { x, y: h, e: f }
-}
-
-// As many characters of both. No insert is cut: two that go together are equal.
-fn together(a: &[u8], na: usize, b: &[u8], nb: usize, out: &mut [u8], n: usize, s: State) -> State
-    requires { ⌜ (na ≡ recordsOf (now a)) × (nb ≡ recordsOf (now b)) × (n ≤ 2 ^ 40) × Under (2 ^ 38) (s .e) × Stands (now a) (s .x) × Stands (now b) (s .y) × Chooses (transformTurn order) (now a) (now b) (s .x) (s .y) Turn.Together ⌝ }
-    ensures { λ r. ⌜ BothWent n (now (a .entry)) (now (b .entry)) s (now (out .entry)) r (now (out .exit)) ⌝ }
-{
-    let x = s.x;
-    let y = s.y;
-    let e = s.e;
-    let k = operational_transform::core::lesser(x.left, y.left);
-    let i = x.to;
-    let j = y.to;
-    let f = past(out, n, e, a, x, i, b, y, j, k);
-    let g = operation::core::rest(a, na, x, k, i);
-    let h = operation::core::rest(b, nb, y, k, j);
-    State { x: g, y: h, e: f }
-}
-
-// One step.
-fn turn(a: &[u8], na: usize, b: &[u8], nb: usize, out: &mut [u8], n: usize, s: State) -> State
-    requires { ⌜ (na ≡ recordsOf (now a)) × (nb ≡ recordsOf (now b)) × (n ≤ 2 ^ 40) × Under (2 ^ 38) (s .e) × Stands (now a) (s .x) × Stands (now b) (s .y) × (liveIs (s .x) (s .y) ≡ true) ⌝ }
-    ensures { λ r. ⌜ Went (transformTurn order) (lefts keepBoth) n (now (a .entry)) (now (b .entry)) s (now (out .entry)) r (now (out .exit)) ⌝ }
-{
-    let x = s.x;
-    let y = s.y;
-    match whose(a, b, x, y) {
-        Turn::First => first(a, na, out, n, s),
-        Turn::Second => second(b, nb, s),
-        Turn::Together => together(a, na, b, nb, out, n, s),
-    }
-}
-
-// All of one side, for a result of n records.
-fn run(a: &[u8], na: usize, b: &[u8], nb: usize, out: &mut [u8], n: usize) -> Emitter
-    requires { ⌜ (na ≡ recordsOf (now a)) × (na ≤ 1024) × (nb ≡ recordsOf (now b)) × (nb ≤ 1024) × (n ≤ 2 ^ 40) × (recordFault (now a) ≡ 0) × (recordFault (now b) ≡ 0) ⌝ }
-    ensures { λ r. ⌜ Done n (transformOf order (ops (now (a .entry))) (ops (now (b .entry))) .left) (now (out .entry)) r (now (out .exit)) ⌝ }
-{
-    let mut s = turns::core::begin(a, na, b, nb);
-    while turns::core::goes_on(s) {
-        s = turn(a, na, b, nb, out, n, s);
-    }
-    let last = s.e;
-    operational_transform::core::finish(out, n, last)
-}
-
 // What was emitted of both sides.
 pub struct Pair {
     pub e: Emitter,
     pub f: Emitter,
 }
 
-// The record of one side, of n records.
-fn write_side(a: &[u8], na: usize, b: &[u8], nb: usize, out: &mut [u8], n: usize)
-    requires { ⌜ (na ≡ recordsOf (now a)) × (na ≤ 1024) × (nb ≡ recordsOf (now b)) × (nb ≤ 1024) × (n ≤ 2 ^ 40) × (recordFault (now a) ≡ 0) × (recordFault (now b) ≡ 0) ⌝ }
-    ensures { λ _. ⌜ Writes n (transformOf order (ops (now (a .entry))) (ops (now (b .entry))) .left) (now (out .entry)) (now (out .exit)) ⌝ }
+// On the way: the front records of both, and what was emitted of what the first becomes, and of what the second becomes.
+pub struct Both {
+    pub x: Front,
+    pub y: Front,
+    pub e: Emitter,
+    pub f: Emitter,
+}
+
+fn begin(a: &[u8], na: usize, b: &[u8], nb: usize) -> Both
+    requires { ⌜ (na ≡ recordsOf (now a)) × (na ≤ 1024) × (nb ≡ recordsOf (now b)) × (nb ≤ 1024) × (recordFault (now a) ≡ 0) × (recordFault (now b) ≡ 0) ⌝ }
+    ensures { λ r. ⌜ BegunBoth (now (a .entry)) (now (b .entry)) r ⌝ }
 {
-    let e = run(a, na, b, nb, out, n);
-    operational_transform::core::header(out, e);
+    let s = turns::core::begin(a, na, b, nb);
+    let f = operational_transform::core::start();
+    let x = s.x;
+    let y = s.y;
+    let e = s.e;
+    Both { x, y, e, f }
+}
+
+fn goes_on(s: Both) -> bool
+    ensures { λ r. ⌜ r ≡ liveIs (s .x) (s .y) ⌝ }
+{
+    let x = s.x;
+    let y = s.y;
+    turns::core::live(x, y)
+}
+
+// The first's operation goes by itself: the other side retains what it gives.
+fn first(a: &[u8], na: usize, out: &mut [u8], m: usize, s: Both) -> Both
+    requires { ⌜ (na ≡ recordsOf (now a)) × (m ≤ 2 ^ 40) × Under (2 ^ 38) (s .e) × Under (2 ^ 38) (s .f) × Stands (now a) (s .x) × (0 < s .x .kind) ⌝ }
+    ensures { λ r. ⌜ FirstBoth m (now (a .entry)) s (now (out .entry)) r (now (out .exit)) ⌝ }
+{
+    let x = s.x;
+    let y = s.y;
+    let d = s.e;
+    let h = s.f;
+    let k = x.left;
+    let to = x.to;
+    let e = operational_transform::core::part(out, m, d, a, x, k, to);
+    let f = operational_transform::core::retain(h, gives(x));
+    let g = operation::core::rest(a, na, x, k, to);
+    Both { x: g, y, e, f }
+}
+
+// The second's.
+fn second(b: &[u8], nb: usize, out: &mut [u8], n: usize, s: Both) -> Both
+    requires { ⌜ (nb ≡ recordsOf (now b)) × (n ≤ 2 ^ 40) × Under (2 ^ 38) (s .e) × Under (2 ^ 38) (s .f) × Stands (now b) (s .y) × (0 < s .y .kind) ⌝ }
+    ensures { λ r. ⌜ SecondBoth n (now (b .entry)) s (now (out .entry)) r (now (out .exit)) ⌝ }
+{
+    let x = s.x;
+    let y = s.y;
+    let d = s.e;
+    let h = s.f;
+    let k = y.left;
+    let to = y.to;
+    let e = operational_transform::core::retain(d, gives(y));
+    let f = operational_transform::core::part(out, n, h, b, y, k, to);
+    let g = operation::core::rest(b, nb, y, k, to);
+    Both { x, y: g, e, f }
+}
+
+// What stays of k characters of both. Equal inserts are both kept; what either deletes, the other has no more.
+fn meet(
+    a: &[u8],
+    b: &[u8],
+    out_a: &mut [u8],
+    m: usize,
+    out_b: &mut [u8],
+    n: usize,
+    s: Both,
+    k: usize,
+) -> Pair
+    requires { ⌜ (m ≤ 2 ^ 40) × (n ≤ 2 ^ 40) × Under (2 ^ 38) (s .e) × Under (2 ^ 38) (s .f) × Stands (now a) (s .x) × Stands (now b) (s .y) × (0 < k) × (k ≤ s .x .left) × (k ≤ s .y .left) × Cut (now a) (s .x) k (s .x .to) × Cut (now b) (s .y) k (s .y .to) × Chooses (transformTurn order) (now a) (now b) (s .x) (s .y) Turn.Together ⌝ }
+    ensures { λ r. ⌜ Meets m n (now (a .entry)) (now (b .entry)) s k (now («out_a» .entry)) (now («out_b» .entry)) r (now («out_a» .exit)) (now («out_b» .exit)) ⌝ }
+{
+    let x = s.x;
+    let y = s.y;
+    let e = s.e;
+    let f = s.f;
+    let i = x.to;
+    let j = y.to;
+    if y.kind == 2 {
+        let d = operational_transform::core::part(out_a, m, e, b, y, k, j);
+        let h = operational_transform::core::part(out_b, n, f, a, x, k, i);
+        let d = operational_transform::core::retain(d, k);
+        let h = operational_transform::core::retain(h, k);
+        return Pair { e: d, f: h };
+    }
+    if y.kind == 1 {
+        let d = operational_transform::core::part(out_a, m, e, a, x, k, i);
+        if x.kind == 1 {
+            let h = operational_transform::core::part(out_b, n, f, b, y, k, j);
+            return Pair { e: d, f: h };
+        }
+        return Pair { e: d, f };
+    }
+    if x.kind == 1 {
+        let h = operational_transform::core::part(out_b, n, f, b, y, k, j);
+        return Pair { e, f: h };
+    }
+    Pair { e, f }
+}
+
+// As many characters of both. No insert is cut: two that go together are equal.
+fn together(
+    a: &[u8],
+    na: usize,
+    b: &[u8],
+    nb: usize,
+    out_a: &mut [u8],
+    m: usize,
+    out_b: &mut [u8],
+    n: usize,
+    s: Both,
+) -> Both
+    requires { ⌜ (na ≡ recordsOf (now a)) × (nb ≡ recordsOf (now b)) × (m ≤ 2 ^ 40) × (n ≤ 2 ^ 40) × Under (2 ^ 38) (s .e) × Under (2 ^ 38) (s .f) × Stands (now a) (s .x) × Stands (now b) (s .y) × Chooses (transformTurn order) (now a) (now b) (s .x) (s .y) Turn.Together ⌝ }
+    ensures { λ r. ⌜ TogetherBoth m n (now (a .entry)) (now (b .entry)) s (now («out_a» .entry)) (now («out_b» .entry)) r (now («out_a» .exit)) (now («out_b» .exit)) ⌝ }
+{
+    let x = s.x;
+    let y = s.y;
+    let k = operational_transform::core::lesser(x.left, y.left);
+    let p = meet(a, b, out_a, m, out_b, n, s, k);
+    let e = p.e;
+    let f = p.f;
+    let g = operation::core::rest(a, na, x, k, x.to);
+    let h = operation::core::rest(b, nb, y, k, y.to);
+    Both { x: g, y: h, e, f }
+}
+
+// One step.
+fn turn(
+    a: &[u8],
+    na: usize,
+    b: &[u8],
+    nb: usize,
+    out_a: &mut [u8],
+    m: usize,
+    out_b: &mut [u8],
+    n: usize,
+    s: Both,
+) -> Both
+    requires { ⌜ (na ≡ recordsOf (now a)) × (nb ≡ recordsOf (now b)) × (m ≤ 2 ^ 40) × (n ≤ 2 ^ 40) × Under (2 ^ 38) (s .e) × Under (2 ^ 38) (s .f) × Stands (now a) (s .x) × Stands (now b) (s .y) × (liveIs (s .x) (s .y) ≡ true) ⌝ }
+    ensures { λ r. ⌜ WentBoth m n (now (a .entry)) (now (b .entry)) s (now («out_a» .entry)) (now («out_b» .entry)) r (now («out_a» .exit)) (now («out_b» .exit)) ⌝ }
+{
+    let x = s.x;
+    let y = s.y;
+    match whose(a, b, x, y) {
+        Turn::First => first(a, na, out_a, m, s),
+        Turn::Second => second(b, nb, out_b, n, s),
+        Turn::Together => together(a, na, b, nb, out_a, m, out_b, n, s),
+    }
+}
+
+// All of both sides, for results of m and n records.
+fn run(
+    a: &[u8],
+    na: usize,
+    b: &[u8],
+    nb: usize,
+    out_a: &mut [u8],
+    m: usize,
+    out_b: &mut [u8],
+    n: usize,
+) -> Pair
+    requires { ⌜ (na ≡ recordsOf (now a)) × (na ≤ 1024) × (nb ≡ recordsOf (now b)) × (nb ≤ 1024) × (m ≤ 2 ^ 40) × (n ≤ 2 ^ 40) × (recordFault (now a) ≡ 0) × (recordFault (now b) ≡ 0) ⌝ }
+    ensures { λ r. ⌜ DoneBoth m n (transformOf order (ops (now (a .entry))) (ops (now (b .entry)))) (now («out_a» .entry)) (now («out_b» .entry)) r (now («out_a» .exit)) (now («out_b» .exit)) ⌝ }
+{
+    let mut s = begin(a, na, b, nb);
+    while goes_on(s) {
+        s = turn(a, na, b, nb, out_a, m, out_b, n, s);
+    }
+    let d = s.e;
+    let h = s.f;
+    let e = operational_transform::core::finish(out_a, m, d);
+    let f = operational_transform::core::finish(out_b, n, h);
+    Pair { e, f }
+}
+
+// The records of both sides, of m and n operations.
+fn write_both(
+    a: &[u8],
+    na: usize,
+    b: &[u8],
+    nb: usize,
+    out_a: &mut [u8],
+    m: usize,
+    out_b: &mut [u8],
+    n: usize,
+)
+    requires { ⌜ (na ≡ recordsOf (now a)) × (na ≤ 1024) × (nb ≡ recordsOf (now b)) × (nb ≤ 1024) × (m ≤ 2 ^ 40) × (n ≤ 2 ^ 40) × (recordFault (now a) ≡ 0) × (recordFault (now b) ≡ 0) ⌝ }
+    ensures { λ _. ⌜ WritesBoth m n (transformOf order (ops (now (a .entry))) (ops (now (b .entry)))) (now («out_a» .entry)) (now («out_b» .entry)) (now («out_a» .exit)) (now («out_b» .exit)) ⌝ }
+{
+    let p = run(a, na, b, nb, out_a, m, out_b, n);
+    let e = p.e;
+    let f = p.f;
+    operational_transform::core::header(out_a, e);
+    operational_transform::core::header(out_b, f);
 }
 
 // 9 where either side passes a limit, then 10 where either output is too short.
@@ -209,24 +298,24 @@ fn judge(e: Emitter, f: Emitter, room_a: usize, room_b: usize) -> WrittenPair
     WrittenPair::Bytes(p, q)
 }
 
-// One side from a stage, if all of it has a place there; else by a run of its own.
-fn place(
-    a: &[u8],
-    na: usize,
-    b: &[u8],
-    nb: usize,
-    stage: &[u8],
-    slots: usize,
-    e: Emitter,
-    out: &mut [u8],
-)
-    requires { ⌜ (na ≡ recordsOf (now a)) × (na ≤ 1024) × (nb ≡ recordsOf (now b)) × (nb ≤ 1024) × (recordFault (now a) ≡ 0) × (recordFault (now b) ≡ 0) × (slots ≤ 2048) × Under (2 ^ 40) e × Staged slots (transformOf order (ops (now a)) (ops (now b)) .left) e (now stage) ⌝ }
-    ensures { λ _. ⌜ Writes (e .records) (transformOf order (ops (now (a .entry))) (ops (now (b .entry))) .left) (now (out .entry)) (now (out .exit)) ⌝ }
+// Whether both sides have a place in their stages.
+fn have_places(p: Pair, slots: usize, room_a: usize, room_b: usize) -> bool
+    requires { ⌜ (slots ≤ 2 ^ 40) × Under (2 ^ 40) (p .e) × Under (2 ^ 40) (p .f) ⌝ }
+    ensures { λ r. ⌜ r ≡ (placed (p .e) slots «room_a» && placed (p .f) slots «room_b») ⌝ }
 {
-    if !operational_transform::core::has_place(e, slots, stage.len()) {
-        write_side(a, na, b, nb, out, e.records);
-        return;
+    let e = p.e;
+    let f = p.f;
+    if !operational_transform::core::has_place(e, slots, room_a) {
+        return false;
     }
+    operational_transform::core::has_place(f, slots, room_b)
+}
+
+// What was staged, as a record of its own.
+fn place(out: &mut [u8], stage: &[u8], slots: usize, e: Emitter)
+    requires { ⌜ (slots ≤ 2 ^ 40) × (e .records ≤ slots) × (textStart slots + e .text ≤ length (now stage)) × Under (2 ^ 40) e ⌝ }
+    ensures { λ _. ⌜ now (out .exit) ≡ headed e (settled slots (e .records) (e .records) (e .text) (now (stage .entry)) (now (out .entry))) ⌝ }
+{
     operational_transform::core::settle(out, e.records, stage, slots, e.records, e.text);
     operational_transform::core::header(out, e);
 }
@@ -242,13 +331,12 @@ fn stage_both(
     slots: usize,
 ) -> Pair
     requires { ⌜ (na ≡ recordsOf (now a)) × (na ≤ 1024) × (nb ≡ recordsOf (now b)) × (nb ≤ 1024) × (recordFault (now a) ≡ 0) × (recordFault (now b) ≡ 0) × (slots ≤ 2048) ⌝ }
-    ensures { λ r. ⌜ StagedBoth slots (ops (now (a .entry))) (ops (now (b .entry))) r (now («stage_a» .exit)) (now («stage_b» .exit)) ⌝ }
+    ensures { λ r. ⌜ StagedBoth slots (transformOf order (ops (now (a .entry))) (ops (now (b .entry)))) r (now («stage_a» .exit)) (now («stage_b» .exit)) ⌝ }
 {
-    let e = run(a, na, b, nb, stage_a, slots);
-    let f = run(b, nb, a, na, stage_b, slots);
-    Pair { e, f }
+    run(a, na, b, nb, stage_a, slots, stage_b, slots)
 }
 
+// Both sides from their stages, if they have places there; else by a run of its own.
 fn place_both(
     a: &[u8],
     na: usize,
@@ -261,13 +349,17 @@ fn place_both(
     out_a: &mut [u8],
     out_b: &mut [u8],
 )
-    requires { ⌜ (na ≡ recordsOf (now a)) × (na ≤ 1024) × (nb ≡ recordsOf (now b)) × (nb ≤ 1024) × (recordFault (now a) ≡ 0) × (recordFault (now b) ≡ 0) × (slots ≤ 2048) × StagedBoth slots (ops (now a)) (ops (now b)) p (now «stage_a») (now «stage_b») ⌝ }
-    ensures { λ _. ⌜ Writes (p .e .records) (transformOf order (ops (now (a .entry))) (ops (now (b .entry))) .left) (now («out_a» .entry)) (now («out_a» .exit)) × Writes (p .f .records) (transformOf order (ops (now (b .entry))) (ops (now (a .entry))) .left) (now («out_b» .entry)) (now («out_b» .exit)) ⌝ }
+    requires { ⌜ (na ≡ recordsOf (now a)) × (na ≤ 1024) × (nb ≡ recordsOf (now b)) × (nb ≤ 1024) × (recordFault (now a) ≡ 0) × (recordFault (now b) ≡ 0) × (slots ≤ 2048) × StagedBoth slots (transformOf order (ops (now a)) (ops (now b))) p (now «stage_a») (now «stage_b») ⌝ }
+    ensures { λ _. ⌜ WritesBoth (p .e .records) (p .f .records) (transformOf order (ops (now (a .entry))) (ops (now (b .entry)))) (now («out_a» .entry)) (now («out_b» .entry)) (now («out_a» .exit)) (now («out_b» .exit)) ⌝ }
 {
     let e = p.e;
     let f = p.f;
-    place(a, na, b, nb, stage_a, slots, e, out_a);
-    place(b, nb, a, na, stage_b, slots, f, out_b);
+    if !have_places(p, slots, stage_a.len(), stage_b.len()) {
+        write_both(a, na, b, nb, out_a, e.records, out_b, f.records);
+        return;
+    }
+    place(out_a, stage_a, slots, e);
+    place(out_b, stage_b, slots, f);
 }
 
 // Of two records whose lengths agree: both sides are written to stages, judged, and moved to the outputs.

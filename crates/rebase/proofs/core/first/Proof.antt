@@ -1,5 +1,5 @@
 use Rattle.transform.proofs.Siding.{whole-cut, left-live}
-use Rattle.rebase.proofs.Turning.{first-both}
+use Rattle.transform.proofs.Stepping.{first-both}
 use borrow.Author.Needs.{needs}
 use Rattle.rebase.proofs.core.first.Statement.{statement}
 use Rattle.rebase.proofs.core.first.Tie as tie

@@ -1,5 +1,5 @@
 use borrow.Author.Needs.{needs}
-use Rattle.rebase.proofs.Stages.{keep-first, keep-both}
+use Rattle.transform.proofs.Placing.{keep-first, keep-both}
 use Rattle.rebase.proofs.core.have_places.Statement.{statement}
 use Rattle.rebase.proofs.core.have_places.Tie as tie
 

@@ -1,7 +1,7 @@
 use native.Mathlib.Omega.{arith}
 use Rattle.operational_transform.proofs.Adding.{under-more}
 use Rattle.transform.proofs.Siding.{under-part}
-use Rattle.rebase.proofs.Turning.{meets-insert, meets-retain, meets-first, meets-second, meets-delete}
+use Rattle.transform.proofs.Stepping.{meets-insert, meets-retain, meets-first, meets-second, meets-delete}
 use borrow.Author.Needs.{needs}
 use Rattle.rebase.proofs.core.meet.Statement.{statement}
 use Rattle.rebase.proofs.core.meet.Tie as tie
@@ -37,7 +37,7 @@ returns c =
     let at-part = at-part2 .before .before .before .before in
     let at-if1 = at-part .before .before in
     let start = at-if1 .before .before .before .before .before .before .before .before .before .before in
-    meets-insert _ _ _ _ _ _ _ (start .pre .3) (start .pre .4) (start .pre .10) (at-if1 .if1 .taken) (start .pre .6) (start .pre .7) _ _ _ (at-part .part .ensures) (at-retain .retain .ensures) _ _ _ (at-part2 .part2 .ensures) (c .retain2 .ensures)
+    meets-insert _ _ _ _ _ _ _ _ (start .pre .3) (start .pre .4) (start .pre .10) (at-if1 .if1 .taken) (start .pre .6) (start .pre .7) _ _ _ (at-part .part .ensures) (at-retain .retain .ensures) _ _ _ (at-part2 .part2 .ensures) (c .retain2 .ensures)
 
 part-requires-3 : tie.Need-part-requires-3
 part-requires-3 c κs = search needs
@@ -60,7 +60,7 @@ returns-2 c =
     let at-part3 = at-if3 .before .before .before .before in
     let at-if2 = at-part3 .before .before in
     let start = at-if2 .before .before .before .before .before .before .before .before .before .before .before .before in
-    meets-retain _ _ _ _ _ _ _ (start .pre .3) (start .pre .4) (start .pre .10) (at-if2 .if2 .taken) (at-if3 .if3 .taken) _ _ (at-part3 .part3 .ensures) _ _ (at-part4 .part4 .ensures)
+    meets-retain _ _ _ _ _ _ _ _ (start .pre .3) (start .pre .4) (start .pre .10) (at-if2 .if2 .taken) (at-if3 .if3 .taken) _ _ (at-part3 .part3 .ensures) _ _ (at-part4 .part4 .ensures)
 
 same-length-5 : tie.Need-same-length-5
 same-length-5 c = search needs

@@ -1,4 +1,4 @@
-use Rattle.rebase.proofs.Passing.{places}
+use Rattle.transform.proofs.Placing.{places}
 use borrow.Author.Needs.{needs}
 use Rattle.rebase.proofs.core.place.Statement.{statement}
 use Rattle.rebase.proofs.core.place.Tie as tie

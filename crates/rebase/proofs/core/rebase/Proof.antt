@@ -1,17 +1,18 @@
 use Prim.Native.Nat.{_+_}
 use native.Mathlib.Omega.{arith}
-use mathlib.Core.Path.{_≡_, _∙_}
+use mathlib.Core.Path.{_≡_}
 use lib.ListN.{length}
 use borrow.Author.Needs.{needs}
 use Rattle.operation.specs.Record.{ops}
 use Rattle.operation.specs.Front.{ahead}
-use Rattle.rebase.proofs.Stages.{GoingBoth, both-start, edit-under, counterpart-under, both-more, staged-run, passed, went-less}
+use Rattle.transform.proofs.Looping.{GoingBoth, both-start, left-under, right-under, both-more, went-less}
+use Rattle.rebase.proofs.Stages.{staged-run, passed}
 use Rattle.rebase.proofs.Moving.{Moving, moving-start, moving-small, moving-place, moving-end, moving-record, moving-stop, moving-fit, moving-ready, moving-short, moving-next}
 use Rattle.rebase.proofs.core.rebase.Statement.{statement}
 use Rattle.rebase.proofs.core.rebase.Tie as tie
 
 abbrev Inv-loop : tie.InvT-loop
-Inv-loop log from n cur next₀ side₀ parts slots spot left at rec na nb b₀ next side b = GoingBoth slots cur rec next₀ side₀ b next side × (length next ≡ length next₀) × (length side ≡ length side₀)
+Inv-loop log from n cur next₀ side₀ parts slots spot left at rec na nb b₀ next side b = GoingBoth slots slots cur rec next₀ side₀ b next side × (length next ≡ length next₀) × (length side ≡ length side₀)
 
 abbrev μ-loop : tie.MeasureT-loop
 μ-loop log from n cur next₀ side₀ parts slots spot left at rec na nb b₀ next side b = length (ahead cur (b .x)) + length (ahead rec (b .y))
@@ -54,7 +55,7 @@ end-requires : tie.Need-end-requires Inv-loop μ-loop Inv-run μ-run
 end-requires c κs =
     let at-loop = c .before .before .before .before in
     let start = at-loop .before .before .before .before .before .before .before .before .before .before .before .before .before .before in
-    (start .pre .6, edit-under _ _ _ _ _ (at-loop .loop .b) _ _ (at-loop .loop .inv .0), counterpart-under _ _ _ _ _ (at-loop .loop .b) _ _ (at-loop .loop .inv .0))
+    (start .pre .6, left-under _ _ _ _ _ _ (at-loop .loop .b) _ _ (at-loop .loop .inv .0), right-under _ _ _ _ _ _ (at-loop .loop .b) _ _ (at-loop .loop .inv .0))
 
 keep-limits-requires : tie.Need-keep-limits-requires Inv-loop μ-loop Inv-run μ-run
 keep-limits-requires c κs = search needs
@@ -79,7 +80,7 @@ turn-requires c κs =
     let at-records2 = at-loop .before .before .before in
     let at-records = at-records2 .before in
     let start = at-records .before .before .before .before .before .before .before .before .before .before in
-    (at-records .records .ensures .0, at-records2 .records2 .ensures .0, start .pre .6, edit-under _ _ _ _ _ (at-loop .loop .b) _ _ (at-loop .loop .inv .0), counterpart-under _ _ _ _ _ (at-loop .loop .b) _ _ (at-loop .loop .inv .0), at-loop .loop .inv .0 .edit .stands-x, at-loop .loop .inv .0 .edit .stands-y, passed _ _ (at-goes-on .goes-on .ensures) (at-if2 .if2 .left))
+    (at-records .records .ensures .0, at-records2 .records2 .ensures .0, start .pre .6, left-under _ _ _ _ _ _ (at-loop .loop .b) _ _ (at-loop .loop .inv .0), right-under _ _ _ _ _ _ (at-loop .loop .b) _ _ (at-loop .loop .inv .0), at-loop .loop .inv .0 .left .stands-x, at-loop .loop .inv .0 .left .stands-y, passed _ _ (at-goes-on .goes-on .ensures) (at-if2 .if2 .left))
 
 loop-less : tie.Need-loop-less Inv-loop μ-loop Inv-run μ-run
 loop-less c = search went-less

@@ -1,5 +1,5 @@
 use Rattle.transform.proofs.Siding.{whole-cut, left-live}
-use Rattle.rebase.proofs.Turning.{second-both}
+use Rattle.transform.proofs.Stepping.{second-both}
 use borrow.Author.Needs.{needs}
 use Rattle.rebase.proofs.core.second.Statement.{statement}
 use Rattle.rebase.proofs.core.second.Tie as tie

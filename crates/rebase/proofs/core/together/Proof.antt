@@ -1,5 +1,5 @@
 use Rattle.transform.proofs.Siding.{uncut-x, uncut-y, both-some}
-use Rattle.rebase.proofs.Turning.{together-both}
+use Rattle.transform.proofs.Stepping.{together-both}
 use borrow.Author.Needs.{needs}
 use Rattle.rebase.proofs.core.together.Statement.{statement}
 use Rattle.rebase.proofs.core.together.Tie as tie

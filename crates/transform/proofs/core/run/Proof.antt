@@ -3,46 +3,49 @@ use mathlib.Core.Path.{_≡_}
 use lib.ListN.{length}
 use borrow.Author.Needs.{needs}
 use Rattle.operation.specs.Front.{ahead}
-use Rattle.utf8.specs.Order.{order}
-use Rattle.operational_transform.specs.Transform.{transformTurn, keepBoth, lefts}
 use Rattle.turns.proofs.Turning.{live-is}
-use Rattle.turns.proofs.Going.{Going, going-start, going-under, going-more}
-use Rattle.transform.proofs.Looping.{going-done}
+use Rattle.transform.proofs.Looping.{GoingBoth, both-start, left-under, right-under, both-more, both-done, went-less}
 use Rattle.transform.proofs.core.run.Statement.{statement}
 use Rattle.transform.proofs.core.run.Tie as tie
 
 abbrev Inv-loop : tie.InvT-loop
-Inv-loop a na b nb out₀ n s₀ out s = Going (transformTurn order) (lefts keepBoth) n a b out₀ s out × (length out ≡ length out₀)
+Inv-loop a na b nb out-a₀ m out-b₀ n s₀ out-a out-b s = GoingBoth m n a b out-a₀ out-b₀ s out-a out-b × (length out-a ≡ length out-a₀) × (length out-b ≡ length out-b₀)
 
 abbrev μ-loop : tie.MeasureT-loop
-μ-loop a na b nb out₀ n s₀ out s = length (ahead a (s .x)) + length (ahead b (s .y))
+μ-loop a na b nb out-a₀ m out-b₀ n s₀ out-a out-b s = length (ahead a (s .x)) + length (ahead b (s .y))
 
 begin-requires : tie.Need-begin-requires Inv-loop μ-loop
 begin-requires c κs = search needs
 
 loop-holds : tie.Need-loop-holds Inv-loop μ-loop
-loop-holds c = (search going-start, search needs)
+loop-holds c = (search both-start, search needs, search needs)
 
 goes-on-requires : tie.Need-goes-on-requires Inv-loop μ-loop
 goes-on-requires c κs = search needs
 
 turn-requires : tie.Need-turn-requires Inv-loop μ-loop
-turn-requires c κs = search (going-under, live-is, needs)
+turn-requires c κs = search (left-under, right-under, live-is, needs)
 
 loop-less : tie.Need-loop-less Inv-loop μ-loop
-loop-less c = c .before .before .turn .ensures .less
+loop-less c = search went-less
 
 loop-again : tie.Need-loop-again Inv-loop μ-loop
-loop-again c = (search going-more, search needs)
+loop-again c = (search both-more, search needs, search needs)
 
 finish-requires : tie.Need-finish-requires Inv-loop μ-loop
-finish-requires c κs = search (going-under, needs)
+finish-requires c κs = search (left-under, needs)
+
+finish-requires-2 : tie.Need-finish-requires-2 Inv-loop μ-loop
+finish-requires-2 c κs = search (right-under, needs)
 
 same-length : tie.Need-same-length Inv-loop μ-loop
 same-length c = search needs
 
+same-length-2 : tie.Need-same-length-2 Inv-loop μ-loop
+same-length-2 c = search needs
+
 returns : tie.Need-returns Inv-loop μ-loop
-returns c = search going-done
+returns c = search both-done
 
 pub run-spec : {M : Type 1} → statement M
 run-spec =
@@ -57,5 +60,7 @@ run-spec =
     loop-less
     loop-again
     finish-requires
+    finish-requires-2
     same-length
+    same-length-2
     returns)

@@ -1,5 +1,6 @@
+use Rattle.transform.proofs.Siding.{first-live, together-as}
+use Rattle.transform.proofs.Stepping.{second-live, turned-first, turned-second, turned-together}
 use borrow.Author.Needs.{needs}
-use Rattle.transform.proofs.Siding.{first-live, together-as, went-first, went-second, went-together}
 use Rattle.transform.proofs.core.turn.Statement.{statement}
 use Rattle.transform.proofs.core.turn.Tie as tie
 
@@ -16,7 +17,7 @@ enum-told-2 : tie.Need-enum-told-2
 enum-told-2 c = search needs
 
 second-requires : tie.Need-second-requires
-second-requires c κs = search needs
+second-requires c κs = search (second-live, needs)
 
 enum-told-3 : tie.Need-enum-told-3
 enum-told-3 c = search needs
@@ -28,16 +29,37 @@ same-length : tie.Need-same-length
 same-length c = search needs
 
 returns : tie.Need-returns
-returns c = search went-first
-
-returns-2 : tie.Need-returns-2
-returns-2 c = search went-second
+returns c =
+    let at-first = c .before .before in
+    let at-enum-told = at-first .before .before in
+    let at-whose = at-enum-told .before .before in
+    let start = at-whose .before .before .before .before .before .before .before in
+    turned-first _ _ _ _ _ _ _ _ (at-whose .whose .ensures) (start .pre .6) (start .pre .7) _ (at-enum-told .enum-told .given .1) _ (at-first .first .ensures)
 
 same-length-2 : tie.Need-same-length-2
 same-length-2 c = search needs
 
+returns-2 : tie.Need-returns-2
+returns-2 c =
+    let at-second = c .before .before in
+    let at-enum-told2 = at-second .before .before in
+    let at-whose = at-enum-told2 .before .before in
+    let start = at-whose .before .before .before .before .before .before .before in
+    turned-second _ _ _ _ _ _ _ _ (at-whose .whose .ensures) (start .pre .6) (start .pre .7) _ (at-enum-told2 .enum-told2 .given .1) _ (at-second .second .ensures)
+
+same-length-3 : tie.Need-same-length-3
+same-length-3 c = search needs
+
+same-length-4 : tie.Need-same-length-4
+same-length-4 c = search needs
+
 returns-3 : tie.Need-returns-3
-returns-3 c = search went-together
+returns-3 c =
+    let at-together = c .before .before .before .before in
+    let at-enum-told3 = at-together .before .before .before in
+    let at-whose = at-enum-told3 .before .before in
+    let start = at-whose .before .before .before .before .before .before .before in
+    turned-together _ _ _ _ _ _ _ _ (at-whose .whose .ensures) (start .pre .6) (start .pre .7) _ (at-enum-told3 .enum-told3 .given .1) _ _ (at-together .together .ensures)
 
 pub turn-spec : {M : Type 1} → statement M
 turn-spec =
@@ -52,6 +74,8 @@ turn-spec =
     together-requires
     same-length
     returns
-    returns-2
     same-length-2
+    returns-2
+    same-length-3
+    same-length-4
     returns-3)

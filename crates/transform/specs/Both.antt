@@ -1,0 +1,74 @@
+-- What the functions below `transform` and `rebase` promise each other of both sides, which one run writes: one with places for m
+-- operations, the other for n. No entry's contract cites this.
+use Prim.Native.Nat.{ℕ, _+_}
+use mathlib.Core.Bool.{Bool, _&&_}
+use mathlib.Core.List.{List}
+use lib.Dec.{leb}
+use Rattle.utf8.specs.Text.{Char}
+use Rattle.utf8.specs.Order.{order}
+use Rattle.operation.specs.Layout.{textStart}
+use Rattle.operation.specs.Op.{cut}
+use Rattle.operation.specs.Front.{frontOp}
+use Rattle.operational_transform.specs.declared.core.Emitter.{Emitter}
+use Rattle.operational_transform.specs.Transform.{Sides, transformTurn, past, keepBoth, lefts}
+use Rattle.operational_transform.specs.Emit.{Adds, Done, Writes, Staged}
+use Rattle.turns.specs.declared.core.State.{State}
+use Rattle.turns.specs.Turns.{Begun, Went}
+use Rattle.transform.specs.declared.core.Both.{Both}
+use Rattle.transform.specs.declared.core.Pair.{Pair}
+use Rattle.transform.specs.Sides.{FirstWent, SecondWent, BothWent}
+
+-- the first past the second, and the second past the first
+abbrev pub mine : Both → State
+mine s = record { x = s .x; y = s .y; e = s .e }
+
+abbrev pub theirs : Both → State
+theirs s = record { x = s .y; y = s .x; e = s .f }
+
+pub record BegunBoth (a b : List ℕ) (s : Both) : Type 0 where
+  pub left : Begun a b (mine s)
+  pub right : Begun b a (theirs s)
+
+-- ---- a step
+
+-- the first's operation went by itself, or the second's
+pub record FirstBoth (m : ℕ) (a : List ℕ) (s : Both) (o : List ℕ) (r : Both) (o′ : List ℕ) : Type 0 where
+  pub left : FirstWent m a (mine s) o (mine r) o′
+  pub right : SecondWent a (theirs s) (theirs r)
+
+pub record SecondBoth (n : ℕ) (b : List ℕ) (s : Both) (w : List ℕ) (r : Both) (w′ : List ℕ) : Type 0 where
+  pub left : SecondWent b (mine s) (mine r)
+  pub right : FirstWent n b (theirs s) w (theirs r) w′
+
+-- what stays of k characters of both
+pub record Meets (m n : ℕ) (a b : List ℕ) (s : Both) (k : ℕ) (o w : List ℕ) (p : Pair) (o′ w′ : List ℕ) : Type 0 where
+  pub left : Adds m (past keepBoth (cut k (frontOp b (s .y))) (cut k (frontOp a (s .x)))) (s .e) o (p .e) o′
+  pub right : Adds n (past keepBoth (cut k (frontOp a (s .x))) (cut k (frontOp b (s .y)))) (s .f) w (p .f) w′
+
+pub record TogetherBoth (m n : ℕ) (a b : List ℕ) (s : Both) (o w : List ℕ) (r : Both) (o′ w′ : List ℕ) : Type 0 where
+  pub left : BothWent m a b (mine s) o (mine r) o′
+  pub right : BothWent n b a (theirs s) w (theirs r) w′
+
+pub record WentBoth (m n : ℕ) (a b : List ℕ) (s : Both) (o w : List ℕ) (r : Both) (o′ w′ : List ℕ) : Type 0 where
+  pub left : Went (transformTurn order) (lefts keepBoth) m a b (mine s) o (mine r) o′
+  pub right : Went (transformTurn order) (lefts keepBoth) n b a (theirs s) w (theirs r) w′
+
+-- ---- all
+
+-- both sides are written but for their sizes
+pub record DoneBoth (m n : ℕ) (s : Sides Char) (o w : List ℕ) (p : Pair) (o′ w′ : List ℕ) : Type 0 where
+  pub left : Done m (s .left) o (p .e) o′
+  pub right : Done n (s .right) w (p .f) w′
+
+pub record WritesBoth (m n : ℕ) (s : Sides Char) (o w o′ w′ : List ℕ) : Type 0 where
+  pub left : Writes m (s .left) o o′
+  pub right : Writes n (s .right) w w′
+
+-- both sides were written to stages
+pub record StagedBoth (slots : ℕ) (s : Sides Char) (p : Pair) (x y : List ℕ) : Type 0 where
+  pub left : Staged slots (s .left) (p .e) x
+  pub right : Staged slots (s .right) (p .f) y
+
+-- what was emitted has a place in a stage of `room` bytes
+abbrev pub placed : Emitter → ℕ → ℕ → Bool
+placed e slots room = leb (e .records) slots && leb (textStart slots + e .text) room
