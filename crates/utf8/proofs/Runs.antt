@@ -4,14 +4,14 @@ use native.Mathlib.Nat.{zero-add}
 use native.Mathlib.Omega.{arith}
 use mathlib.Core.Path.{_≡_, refl, sym, ap, ap₂, _∙_}
 use mathlib.Core.Logic.{⊎-elim}
-use mathlib.Core.Bool.{Bool, true, false, _&&_}
+use mathlib.Core.Bool.{Bool, true, false, not, _&&_}
 use mathlib.Core.List.{List, [], _∷_}
 use lib.Dec.{eqb, lit<, lit≤}
 use lib.ListN.{length, getD, take, drop, length-take, length-drop}
 use lib.Seq.{take-add, drop-drop, getD-drop}
 use lib.Pow as Pow
 use lib.Bits.{bitAnd, bitOr, and-block, and-high, or-shifted-r}
-use borrow.Author.Tests.{lt-ltb, le-ltb, ltb-true, ne-eqb}
+use borrow.Author.Tests.{not-false, lt-ltb, le-ltb, ltb-true, ne-eqb}
 use Rattle.utf8.specs.declared.Lead.the-variants.{Of}
 use Rattle.utf8.specs.Form.{rows, leadOf, wellFormed}
 use Rattle.utf8.specs.Chars.{isCont, numChars, allOf}
@@ -144,6 +144,17 @@ module _ (t : List ℕ) (at : ℕ) where
   -- from `at` itself
   pub runs-eight : (to : ℕ) {b : Bool} → b ≡ allOf isAscii (take 8 (drop at t)) → b ≡ true → at + 8 ≤ length t → Runs t (at + 8) to → Runs t at to
   runs-eight to p e h r = runs-join (at + 8) to (runs-more at 8 (runs-none (omega arith)) p e h) r
+
+  -- the rest of the text, from inside its last eight bytes
+  pub runs-last : (from : ℕ) {b : Bool} → at ≤ length t → from ≡ length t - 8 → 8 ≤ length t → from ≤ at → b ≡ allOf isAscii (take 8 (drop from t)) → not b ≡ false → Runs t at (length t)
+  runs-last from {b} h f l a p e =
+      let k = at - from in
+      let x : k + (8 - k) ≡ 8 = omega arith in
+      let y : from + k ≡ at = omega arith in
+      let z : 8 - k ≡ length t - at = omega arith in
+      let q : (allOf isAscii (take k (drop from t)) && allOf isAscii (take (8 - k) (drop (from + k) t))) ≡ true =
+      sym (parts t from k (8 - k)) ∙ ap (λ j. allOf isAscii (take j (drop from t))) x ∙ sym p ∙ not-false b e in
+      record { above = h; below = omega arith; plain = known ((λ i. allOf isAscii (take (sym z i) (drop (sym y i) t))) ∙ split (allOf isAscii (take k (drop from t))) (allOf isAscii (take (8 - k) (drop (from + k) t))) q .1) }
 
   pub runs-one : at < length t → getD t at 0 < 0x80 → Runs t at (at + 1)
   runs-one h l = runs-more at 1 (runs-none (omega arith)) refl (rw (next t at h, ascii (getD t at 0) l)) (omega arith)

@@ -92,6 +92,24 @@ pub(crate) fn bulk(text: &[u8], at: usize) -> usize
     by_eight(text, by_sixty_four(text, at))
 }
 
+// The end of the text, where less than eight bytes are left of it and its last eight are ASCII.
+pub(crate) fn last(text: &[u8], at: usize) -> usize
+    requires { ⌜ at ≤ length (now text) ⌝ }
+    ensures { λ r. ⌜ Runs (now (text .entry)) at r ⌝ }
+{
+    if text.len() < 8 {
+        return at;
+    }
+    let from = text.len() - 8;
+    if at < from {
+        return at;
+    }
+    if !eight(text, from) {
+        return at;
+    }
+    text.len()
+}
+
 // Behind the ASCII byte at `at`, or as far as they go on where the eight bytes there are ASCII.
 pub(crate) fn pass(text: &[u8], at: usize) -> usize
     requires { ⌜ (at + 8 ≤ length (now text)) × (getD (now text) at 0 < 0x80) ⌝ }

@@ -35,6 +35,10 @@ pub fn form_of(text: &[u8]) -> Form
     if i == text.len() {
         return Form::Chars(i);
     }
+    let j = crate::ascii::last(text, i);
+    if j == text.len() {
+        return Form::Chars(j);
+    }
     crate::finish(text, crate::forward(text, i))
 }
 

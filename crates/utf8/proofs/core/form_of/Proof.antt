@@ -1,3 +1,4 @@
+use Rattle.utf8.proofs.Runs.{runs-join}
 use Rattle.utf8.proofs.Passed.{all-ascii, passed-first}
 use borrow.Author.Needs.{needs}
 use Rattle.utf8.proofs.core.form_of.Statement.{statement}
@@ -9,15 +10,21 @@ bulk-requires c κs = search needs
 returns : tie.Need-returns
 returns c = search all-ascii
 
+last-requires : tie.Need-last-requires
+last-requires c κs = search needs
+
+returns-2 : tie.Need-returns-2
+returns-2 c = search (all-ascii, runs-join)
+
 forward-requires : tie.Need-forward-requires
 forward-requires c κs = search passed-first
 
 finish-requires : tie.Need-finish-requires
 finish-requires c κs = search needs
 
-returns-2 : tie.Need-returns-2
-returns-2 c = search needs
+returns-3 : tie.Need-returns-3
+returns-3 c = search needs
 
 pub form-of-spec : {M : Type 1} → statement M
 form-of-spec =
-    tie.close (tie.spec bulk-requires returns forward-requires finish-requires returns-2)
+    tie.close (tie.spec bulk-requires returns last-requires returns-2 forward-requires finish-requires returns-3)
