@@ -3,8 +3,9 @@ use crate::Spot;
 ghost use mathlib.Core.Path.{_≡_};
 ghost use mathlib.Core.Bool.{_&&_};
 ghost use Prim.Native.Nat.{_+_, _≤_};
-ghost use lib.ListN.{length};
+ghost use lib.ListN.{length, getD};
 ghost use Rattle.utf8.specs.Chars.{numChars};
+ghost use Rattle.utf8.specs.Ascii.{isAscii};
 ghost use Rattle.utf8.specs.Passed.{Passed};
 ghost use Rattle.utf8.specs.Block.{bitOf, dueOf, heldOf, neverOf, outsideOf, offOf, before, Window, Goes};
 
@@ -113,7 +114,7 @@ fn back(text: &[u8], i: usize, conts: usize) -> Spot
     }
 }
 
-// Over blocks that go on well and aren't all ASCII.
+// Over blocks that go on well, as long as they aren't ASCII for the most part.
 fn pass(text: &[u8], from: usize, passed: usize) -> Spot
     requires { ⌜ Window (now text) from passed ⌝ }
     ensures { λ s. ⌜ Passed (now (text .entry)) (s .at) (s .conts) ⌝ }
@@ -125,16 +126,24 @@ fn pass(text: &[u8], from: usize, passed: usize) -> Spot
         if s.bad != 0 {
             return back(text, i, conts);
         }
-        if s.conts == 0 {
-            return back(text, i, conts);
-        }
         i += 16;
         conts += s.conts as usize;
+        if s.conts < 4 {
+            return back(text, i, conts);
+        }
     }
     back(text, i, conts)
 }
 
-// The same from the end of a character, where the three bytes before ask for nothing.
+// Whether a character of two bytes at `at` has ASCII behind it.
+fn lone(text: &[u8], at: usize) -> bool
+    requires { ⌜ at + 4 ≤ length (now text) ⌝ }
+    ensures { λ r. ⌜ r ≡ (isAscii (getD (now (text .entry)) (at + 2) 0) && isAscii (getD (now (text .entry)) (at + 3) 0)) ⌝ }
+{
+    text[at + 2] < 0x80 && text[at + 3] < 0x80
+}
+
+// The same from the end of a character, where the three bytes before ask for nothing; one such character is no matter for blocks.
 pub(crate) fn blocks(text: &[u8], from: usize, conts: usize) -> Spot
     requires { ⌜ Passed (now text) from conts ⌝ }
     ensures { λ s. ⌜ Passed (now (text .entry)) (s .at) (s .conts) ⌝ }
@@ -143,6 +152,9 @@ pub(crate) fn blocks(text: &[u8], from: usize, conts: usize) -> Spot
         return Spot { at: from, conts };
     }
     if text.len() - from < 16 {
+        return Spot { at: from, conts };
+    }
+    if lone(text, from) {
         return Spot { at: from, conts };
     }
     if held(text, from) != 0 {

@@ -1,4 +1,5 @@
 use Prim.Native.Nat.{_-_}
+use native.Mathlib.Omega.{arith}
 use lib.ListN.{length}
 use borrow.Author.Needs.{needs}
 use Rattle.utf8.specs.Block.{Window}
@@ -27,12 +28,6 @@ back-requires c κs = search needs
 returns : tie.Need-returns Inv-loop μ-loop
 returns c = search needs
 
-back-requires-2 : tie.Need-back-requires-2 Inv-loop μ-loop
-back-requires-2 c κs = search needs
-
-returns-2 : tie.Need-returns-2 Inv-loop μ-loop
-returns-2 c = search needs
-
 add-i : tie.Need-add-i Inv-loop μ-loop
 add-i c = search needs
 
@@ -41,6 +36,12 @@ cast-conts c = search needs
 
 add-conts : tie.Need-add-conts Inv-loop μ-loop
 add-conts c = search needs
+
+back-requires-2 : tie.Need-back-requires-2 Inv-loop μ-loop
+back-requires-2 c κs = goes-on _ _ _ _ _ _ (c .before .before .before .before .before .before .before .loop .inv) (c .before .before .before .before .before .seen .ensures) (omega arith)
+
+returns-2 : tie.Need-returns-2 Inv-loop μ-loop
+returns-2 c = search needs
 
 loop-less : tie.Need-loop-less Inv-loop μ-loop
 loop-less c = search needs
@@ -65,11 +66,11 @@ pass-spec =
     seen-requires
     back-requires
     returns
-    back-requires-2
-    returns-2
     add-i
     cast-conts
     add-conts
+    back-requires-2
+    returns-2
     loop-less
     loop-again
     back-requires-3
