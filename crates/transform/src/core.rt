@@ -76,7 +76,7 @@ pub struct Pair {
     pub f: Emitter,
 }
 
-// On the way: the front records of both, and what was emitted of what the first becomes, and of what the second becomes.
+// On the way: the two fronts, and what was emitted of either side.
 pub struct Both {
     pub x: Front,
     pub y: Front,
