@@ -214,22 +214,13 @@ pub struct Spot {
     pub bytes: usize,
 }
 
-// What was staged, as a record of its own.
-fn place(out: &mut [u8], stage: &[u8], slots: usize, e: Emitter)
-    requires { ⌜ (slots ≤ 2 ^ 40) × (e .records ≤ slots) × (textStart slots + e .text ≤ length (now stage)) × Under (2 ^ 40) e ⌝ }
-    ensures { λ _. ⌜ now (out .exit) ≡ headed e (settled slots (e .records) (e .records) (e .text) (now (stage .entry)) (now (out .entry))) ⌝ }
-{
-    operational_transform::core::settle(out, e.records, stage, slots, e.records, e.text);
-    operational_transform::core::header(out, e);
-}
-
 // A counterpart goes behind those before it, if there is room.
 fn keep(parts: &mut [u8], from: usize, to: usize, side: &[u8], slots: usize, f: Emitter)
     requires { ⌜ (to ≡ from + sizeIn f) × (slots ≤ 2 ^ 40) × (f .records ≤ slots) × (textStart slots + f .text ≤ length (now side)) × Under (2 ^ 40) f ⌝ }
     ensures { λ _. ⌜ Keeps slots f (now (side .entry)) from to (now (parts .entry)) (now (parts .exit)) ⌝ }
 {
     if to <= parts.len() {
-        place(&mut parts[from..], side, slots, f);
+        transform::core::place(&mut parts[from..], side, slots, f);
     }
 }
 
@@ -252,7 +243,7 @@ fn go_on(
     let from = spot.bytes;
     let at = spot.at + operation::core::size(rec);
     let bytes = from + operational_transform::core::size(f);
-    place(cur, next, slots, e);
+    transform::core::place(cur, next, slots, e);
     keep(parts, from, bytes, side, slots, f);
     Spot { at, bytes }
 }

@@ -312,7 +312,7 @@ fn have_places(p: Pair, slots: usize, room_a: usize, room_b: usize) -> bool
 }
 
 // What was staged, as a record of its own.
-fn place(out: &mut [u8], stage: &[u8], slots: usize, e: Emitter)
+pub fn place(out: &mut [u8], stage: &[u8], slots: usize, e: Emitter)
     requires { ⌜ (slots ≤ 2 ^ 40) × (e .records ≤ slots) × (textStart slots + e .text ≤ length (now stage)) × Under (2 ^ 40) e ⌝ }
     ensures { λ _. ⌜ now (out .exit) ≡ headed e (settled slots (e .records) (e .records) (e .text) (now (stage .entry)) (now (out .entry))) ⌝ }
 {

@@ -232,6 +232,22 @@ mod measured {
             }
         }
         println!();
+        println!("| call | bytes of German | ours, ns | the Rust, ns | ratio |");
+        println!("|---|---|---|---|---|");
+        for bytes in [40, 640] {
+            let mut text = "Geräte sperren, die nicht gelistet sind. ".repeat(bytes / 40 + 1).into_bytes();
+            text.truncate(bytes);
+            let (ours, theirs) = sides(
+                &mut || {
+                    black_box(ot::well_formed(black_box(&text)));
+                },
+                &mut || {
+                    black_box(std::str::from_utf8(black_box(&text)).is_ok());
+                },
+            );
+            println!("| well_formed | {bytes} | {} | {} | {:.2} |", show(ours), show(theirs), ours / theirs);
+        }
+        println!();
         println!("| call | revisions passed | ours, ns | the Rust, ns | ratio |");
         println!("|---|---|---|---|---|");
         for passed in [0usize, 1, 16, 255] {
