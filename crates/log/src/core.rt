@@ -81,8 +81,8 @@ fn go_through(log: &[u8], count: usize, start: usize, r: u64) -> Scanned
 }
 
 // Revision r is the one to be remembered. (By its numbers: a struct chosen whole is read before its parts are stored.)
-fn marked(k: usize, r: u64, here: Spot, mark: Spot) -> Spot
-    ensures { λ x. ⌜ x ≡ cond (eqb k r) here mark ⌝ }
+fn marked(k: usize, r: u64, here: Spot, kept: Spot) -> Spot
+    ensures { λ x. ⌜ x ≡ cond (eqb k r) here kept ⌝ }
 {
     if k as u64 == r {
         return Spot {
@@ -91,8 +91,8 @@ fn marked(k: usize, r: u64, here: Spot, mark: Spot) -> Spot
         };
     }
     Spot {
-        at: mark.at,
-        len: mark.len,
+        at: kept.at,
+        len: kept.len,
     }
 }
 
