@@ -67,6 +67,10 @@ pub record Agreed (r : List ℕ) (n t g : ℕ) : Type 0 where
   pub short : t ≤ 32768
   pub small : g < 2 ^ 32
 
+pub links : (r : List ℕ) (e : Entries) → e ≡ entriesOf r → (q : Sums) → e ≡ Of q → q .linked ≡ chained (byteOps r)
+unfolding entriesOf
+links r e p q u = ap (λ x. x .linked) (sym (summing (allOf soundEntry (entries r)) (sumsOf r) q e p u .1)) ∙ found r .linked
+
 module _ (r : List ℕ) (a : Bool) (pa : a ≡ inLimits r) where
   pub check-1 : not a ≡ true → refused 1 ≡ checkCall r
   unfolding checkCall recordFault

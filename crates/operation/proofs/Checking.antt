@@ -1,5 +1,5 @@
 -- What the passes of the check go by: from record k on, what the whole comes to.
-use Prim.Native.Nat.{ℕ, zero, suc, _+_, _-_, _≤_, _<_}
+use Prim.Native.Nat.{ℕ, zero, suc, _+_, _-_, _*_, _≤_, _<_}
 use native.Mathlib.Nat.{zero-add, add-zero, sub-zero}
 use native.Mathlib.Numerals.{add-one}
 use native.Mathlib.Omega.{arith}
@@ -10,7 +10,7 @@ use mathlib.Core.List.{List, [], _∷_}
 use lib.Dec.{T, leb, eqb, leb→le}
 use lib.ListN.{length, getD, take, drop, length-drop}
 use lib.Seq.{drop-drop, take-add, getD-drop, length-take-le, take-take}
-use borrow.Author.Tests.{eq-eqb, ne-eqb, eqb-true, eqb-false, not-true, not-false}
+use borrow.Author.Tests.{eq-eqb, ne-eqb, le-leb, leb-true, leb-false, eqb-true, eqb-false, not-true, not-false}
 use Rattle.utf8.specs.declared.core.Form.{Form}
 use Rattle.utf8.specs.declared.core.Form.the-variants as form
 use Rattle.utf8.specs.Form.{within, wellFormed}
@@ -23,6 +23,7 @@ use Rattle.utf8.proofs.Passed.{form-ill, form-well, form-num}
 use Rattle.utf8.proofs.Cuts.{well-join, loose-first, well-first, plain-first}
 use Rattle.operation.specs.declared.checks.Sums.{Sums}
 use Rattle.operation.specs.declared.checks.Tally.{Tally}
+use Rattle.operation.specs.declared.checks.Parts.{Parts}
 use Rattle.operation.specs.declared.checks.Entries.the-variants.{Unsound, Of}
 use Rattle.operation.specs.declared.checks.Inserted.the-variants.{IllFormed, Chars}
 use Rattle.operation.specs.Op.{Op, retain, insert, delete, takes, total, base}
@@ -30,7 +31,7 @@ use Rattle.operation.specs.Built.{kind, follows, chained}
 use Rattle.operation.specs.Layout.{recordsOf, textBytesOf, textStart, kindAt, countAt}
 use Rattle.operation.specs.Record.{ByteSeq, code, Entry, entryAt, entriesFrom, entries, textOf, operation, operations, byteOps, soundEntry, insertBytes, wellInserted, givesChars}
 use Rattle.operation.specs.Front.{entriesLeft, byteOpsLeft}
-use Rattle.operation.specs.Checks.{entry, sumFrom, picked, odd, ofKind, sumOf, tallied, Tallied, mayFollow, apartAt, keeps, sumsOf, entriesOf, startWell, insertedOf, Sound, Reached}
+use Rattle.operation.specs.Checks.{entry, sumFrom, picked, odd, ofKind, empty, sumOf, tallied, Tallied, Whole, partedBy, Parted, mayFollow, apartAt, keeps, sumsOf, entriesOf, startWell, insertedOf, Sound, Reached}
 use Rattle.operation.proofs.Records.{sound-kind}
 use Rattle.operation.proofs.Walks.{entries-next, entries-done, left-insert, inserts-more, inserts-same, left-other, sound-next, left-all}
 
@@ -46,14 +47,24 @@ module _ (k n : ℕ) where
   pub sound-count : (k ≡ 0 → ⊥) → k ≤ 3 → leb 1 n ≡ soundEntry (entry k n)
   sound-count z h = rw (inside 1 3 k (omega arith) h)
 
-  pub count-one : (t : Tally) (b : Bool) (o i j : ℕ) → b ≡ soundEntry (entry k n) → o ≡ picked (not b) 1 → i ≡ picked (eqb k 2) n → j ≡ picked (eqb k 1) n
-      → record { odd = t .odd + o; inserts = t .inserts + i; all = t .all + n; kept = t .kept + j } ≡ tallied t (entry k n)
+  pub count-one : (t : Tally) (b a : Bool) (o i j m : ℕ) → b ≡ soundEntry (entry k n) → o ≡ picked (not b) 1 → i ≡ picked (eqb k 2) n → j ≡ picked (eqb k 1) n → m ≡ picked a 1
+      → record { odd = t .odd + o; inserts = t .inserts + i; all = t .all + n; kept = t .kept + j; apart = t .apart + m } ≡ tallied t (entry k n) a
   unfolding tallied
-  count-one t b o i j p q u v = rw (q, u, v, p)
+  count-one t b a o i j m p q u v w = rw (q, u, v, w, p)
+
+  pub part-one : (p : Parts) (o i j m : ℕ) → o ≡ picked (eqb n 0) 1 → i ≡ picked (eqb k 2) n → j ≡ picked (eqb k 1) n → m ≡ picked (eqb k 3) n
+      → record { empty = p .empty + o; inserts = p .inserts + i; kept = p .kept + j; deleted = p .deleted + m } ≡ partedBy p (entry k n)
+  unfolding partedBy
+  part-one p o i j m q u v w = rw (q, u, v, w)
 
 picked-le : (b : Bool) (n : ℕ) → picked b n ≤ n
 picked-le true n = omega arith
 picked-le false n = omega arith
+
+-- a sum is 0 where both parts are
+none-both : (x y : ℕ) → eqb (x + y) 0 ≡ (eqb x 0 && eqb y 0)
+none-both zero y = ap (λ z. eqb z 0) (zero-add y)
+none-both (suc x) y = ne-eqb (suc x + y) 0 (λ z. absurd (omega arith)) ∙ sym (ap (λ b. b && eqb y 0) (ne-eqb (suc x) 0 (λ z. absurd (omega arith))))
 
 -- ---- all entries
 
@@ -65,42 +76,237 @@ sum-last f i (suc n) = let e : suc i + n ≡ i + suc n = omega arith in omega (a
 sum-more : (f : ℕ → ℕ) (k : ℕ) → sumFrom f 0 (k + 1) ≡ sumFrom f 0 k + f k
 sum-more f k = ap (sumFrom f 0) (add-one k) ∙ sum-last f 0 k ∙ ap (λ j. sumFrom f 0 k + f j) (zero-add k)
 
-pub tally-none : (r : List ℕ) → Tallied r 0 (record { odd = 0; inserts = 0; all = 0; kept = 0 })
-tally-none r = record { odds = refl; inserted = refl; counts = refl; retained = refl; few = omega arith; less = omega arith; fewer = omega arith; small = omega arith }
+-- some places more
+sum-join : (f : ℕ → ℕ) (i n m : ℕ) → sumFrom f i (n + m) ≡ sumFrom f i n + sumFrom f (i + n) m
+sum-join f i n zero = ap (sumFrom f i) (add-zero n) ∙ sym (add-zero (sumFrom f i n))
+sum-join f i n (suc m) =
+    let e : n + suc m ≡ suc (n + m) = omega arith in
+    let h : i + (n + m) ≡ i + n + m = omega arith in
+    ap (sumFrom f i) e ∙ omega (arith, sum-last f i (n + m), sum-last f (i + n) m, sum-join f i n m, ap f h)
+
+-- the places before k and at k have no more than all
+sum-under : (f : ℕ → ℕ) (k n : ℕ) → k < n → sumFrom f 0 k + f k ≤ sumFrom f 0 n
+sum-under f k n h =
+    let e : n ≡ k + 1 + (n - (k + 1)) = omega arith in
+    omega (arith, ap (sumFrom f 0) e, sum-join f 0 (k + 1) (n - (k + 1)), sum-more f k)
+
+tally-none : (r : List ℕ) → Tallied r 0 (record { odd = 0; inserts = 0; all = 0; kept = 0; apart = 0 })
+tally-none r =
+    record {
+      odds = refl;
+      inserted = refl;
+      counts = refl;
+      retained = refl;
+      neighbours = refl;
+      few = omega arith;
+      less = omega arith;
+      fewer = omega arith;
+      small = omega arith;
+      close = omega arith;
+    }
+
+-- the neighbours before k and at k, as the code finds them
+pub apart-more : (r : List ℕ) (from k last kind p a : ℕ) (b : Bool) → 1 ≤ from → from ≤ k → last ≡ kindAt r (k - 1) → kind ≡ kindAt r k → b ≡ mayFollow last kind → p ≡ picked (not b) 1 → a ≡ sumFrom (apartAt r) (from - 1) (k - from)
+    → a + p ≡ sumFrom (apartAt r) (from - 1) (k + 1 - from)
+apart-more r from k last kind p a b l m e f g h i =
+    let x : k ≡ suc (k - 1) = omega arith in
+    let y : suc (k - from) ≡ k + 1 - from = omega arith in
+    let z : k - 1 ≡ from - 1 + (k - from) = omega arith in
+    ap₂ _+_ i (h ∙ ap (λ x. picked (not x) 1) (g ∙ ap₂ mayFollow e (f ∙ ap (kindAt r) x)) ∙ ap (apartAt r) z)
+    ∙ sym (sum-last (apartAt r) (from - 1) (k - from))
+    ∙ ap (sumFrom (apartAt r) (from - 1)) y
+
+pub apart-none : (r : List ℕ) (from : ℕ) → 0 ≡ sumFrom (apartAt r) (from - 1) (from - from)
+apart-none r from = let x : 0 ≡ from - from = omega arith in ap (sumFrom (apartAt r) (from - 1)) x
+
+-- those before k, and those from k on before m
+pub apart-join : (r : List ℕ) (k m a b : ℕ) → 1 ≤ k → k - 1 ≤ m - 1 → a ≡ sumFrom (apartAt r) 0 (k - 1) → b ≡ sumFrom (apartAt r) (k - 1) (m - k) → a + b ≡ sumFrom (apartAt r) 0 (m - 1)
+apart-join r k m a b l h e f =
+    let x : k - 1 + (m - k) ≡ m - 1 = omega arith in
+    ap₂ _+_ e (f ∙ ap (λ i. sumFrom (apartAt r) i (m - k)) (sym (zero-add (k - 1))))
+    ∙ sym (sum-join (apartAt r) 0 (k - 1) (m - k))
+    ∙ ap (sumFrom (apartAt r) 0) x
+
+-- the counts of each kind are no more than all
+parts-le : (k n : ℕ) → picked (eqb k 2) n + picked (eqb k 1) n + picked (eqb k 3) n ≤ n
+parts-le k n = go (eqb k 2) (eqb k 1) (eqb k 3) refl refl refl
+  where
+    go : (a b c : Bool) → eqb k 2 ≡ a → eqb k 1 ≡ b → eqb k 3 ≡ c → picked a n + picked b n + picked c n ≤ n
+    go true true c p q s = absurd (omega (arith, eqb-true k 2 p, eqb-true k 1 q))
+    go true false true p q s = absurd (omega (arith, eqb-true k 2 p, eqb-true k 3 s))
+    go true false false p q s = omega arith
+    go false true true p q s = absurd (omega (arith, eqb-true k 1 q, eqb-true k 3 s))
+    go false true false p q s = omega arith
+    go false false true p q s = omega arith
+    go false false false p q s = omega arith
 
 -- the record at k, as the code finds it
 module _ (r : List ℕ) (k kind count : ℕ) (q : kind ≡ kindAt r k) (c : count ≡ countAt r k) where
   more : (f : Entry → ℕ) {x : ℕ} → x ≡ sumOf f r k → x + f (entry kind count) ≡ sumOf f r (k + 1)
   more f e = ap₂ _+_ e (ap₂ (λ x y. f (entry x y)) q c) ∙ sym (sum-more (λ j. f (entryAt r j)) k)
 
-  pub tally-more : (t u : Tally) → Tallied r k t → count < 65536 → u ≡ tallied t (entry kind count) → Tallied r (k + 1) u
+  more-none : (f : Entry → ℕ) (x : ℕ) → eqb x 0 ≡ eqb (sumOf f r k) 0 → eqb (x + f (entry kind count)) 0 ≡ eqb (sumOf f r (k + 1)) 0
+  more-none f x e =
+      none-both x (f (entry kind count))
+      ∙ ap (λ b. b && eqb (f (entry kind count)) 0) e
+      ∙ sym (none-both (sumOf f r k) (f (entry kind count)))
+      ∙ ap (λ x. eqb x 0) (more f refl)
+
+  tally-step : (t u : Tally) (b : Bool) → Tallied r k t → count < 65536 → u ≡ tallied t (entry kind count) b → t .apart + picked b 1 ≡ sumFrom (apartAt r) 0 (k + 1 - 1) → Tallied r (k + 1) u
   unfolding tallied
-  tally-more t u g h v =
+  tally-step t u b g h v w =
       let o = picked-le (not (soundEntry (entry kind count))) 1 in
       let i = picked-le (eqb kind 2) count in
       let j = picked-le (eqb kind 1) count in
+      let m = picked-le b 1 in
       rw v (
       record {
-        odds = more odd (g .odds);
+        odds = more-none odd (t .odd) (g .odds);
         inserted = more (ofKind 2) (g .inserted);
         counts = more (λ e. e .count) (g .counts);
         retained = more (ofKind 1) (g .retained);
+        neighbours = w;
         few = omega (arith, g .few);
         less = omega (arith, g .less);
         fewer = omega (arith, g .fewer);
         small = omega (arith, g .small);
+        close = omega (arith, g .close);
       }
       )
 
--- the neighbours before k and at k, as the code finds them
-pub apart-more : (r : List ℕ) (k last kind p a : ℕ) (b : Bool) → 1 ≤ k → last ≡ kindAt r (k - 1) → kind ≡ kindAt r k → b ≡ mayFollow last kind → p ≡ picked (not b) 1 → a ≡ sumFrom (apartAt r) 0 (k - 1)
-    → a + p ≡ sumFrom (apartAt r) 0 (k + 1 - 1)
-apart-more r k last kind p a b l e f g h i =
-    let x : k ≡ suc (k - 1) = omega arith in
-    let y : k - 1 + 1 ≡ k + 1 - 1 = omega arith in
-    ap₂ _+_ i (h ∙ ap (λ x. picked (not x) 1) (g ∙ ap₂ mayFollow e (f ∙ ap (kindAt r) x)))
-    ∙ sym (sum-more (apartAt r) (k - 1))
-    ∙ ap (sumFrom (apartAt r) 0) y
+  pub tally-more : (t u : Tally) (last : ℕ) (b : Bool) → Tallied r k t → count < 65536 → 1 ≤ k → last ≡ kindAt r (k - 1) → b ≡ mayFollow last kind → u ≡ tallied t (entry kind count) (not b) → Tallied r (k + 1) u
+  tally-more t u last b g h l e f v = tally-step t u (not b) g h v (apart-more r 1 k last kind (picked (not b) 1) (t .apart) b (omega arith) l e q f refl (g .neighbours))
+
+  pub part-more : (p u : Parts) → Parted r k p → u ≡ partedBy p (entry kind count) → Parted r (k + 1) u
+  unfolding partedBy
+  part-more p u g v =
+      let o = picked-le (eqb count 0) 1 in
+      let i = parts-le kind count in
+      let j : sumOf (λ e. e .count) r k + count ≡ sumOf (λ e. e .count) r (k + 1) = more (λ e. e .count) refl in
+      rw v (
+      record {
+        empties = more empty (g .empties);
+        inserted = more (ofKind 2) (g .inserted);
+        retained = more (ofKind 1) (g .retained);
+        dropped = more (ofKind 3) (g .dropped);
+        few = omega (arith, g .few);
+        less = omega (arith, g .less);
+      }
+      )
+
+  -- each part has room for the entry
+  pub part-room : (p : Parts) (n all : ℕ) → k < n → all < 65536 → Whole r n all → Parted r k p → p .inserts + p .kept + p .deleted + count < 65536
+  part-room p n all h l w g = omega (arith, g .less, w .counts l, sum-under (λ j. countAt r j) k n h, c)
+
+-- no record, and the first one
+module _ (r : List ℕ) where
+  pub tally-empty : (n : ℕ) → n ≡ 0 → Tallied r n (record { odd = 0; inserts = 0; all = 0; kept = 0; apart = 0 })
+  tally-empty n e = rw e (tally-none r)
+
+  pub tally-first : (kind count : ℕ) (u : Tally) → kind ≡ kindAt r 0 → count ≡ countAt r 0 → count < 65536 → u ≡ tallied (record { odd = 0; inserts = 0; all = 0; kept = 0; apart = 0 }) (entry kind count) false → Tallied r 1 u
+  tally-first kind count u q c h v = tally-step r 0 kind count q c (record { odd = 0; inserts = 0; all = 0; kept = 0; apart = 0 }) u false (tally-none r) h v refl
+
+-- all counts
+pub whole-few : (r : List ℕ) (n : ℕ) → Whole r n 65536
+whole-few r n = record { counts = λ h. absurd (omega arith) }
+
+pub whole-more : (r : List ℕ) (k count a : ℕ) → count ≡ countAt r k → a ≡ sumOf (λ e. e .count) r k → a + count ≡ sumOf (λ e. e .count) r (k + 1)
+whole-more r k count a c e = more r k (kindAt r k) count refl c (λ e. e .count) e
+
+pub whole-found : (r : List ℕ) (n k a : ℕ) → k ≤ n → n ≤ k → a ≡ sumOf (λ e. e .count) r k → Whole r n a
+whole-found r n k a h l e = let z : k ≡ n = omega arith in record { counts = λ u. e ∙ ap (sumOf (λ e. e .count) r) z }
+
+pub part-none : (r : List ℕ) → Parted r 0 (record { empty = 0; inserts = 0; kept = 0; deleted = 0 })
+part-none r = record { empties = refl; inserted = refl; retained = refl; dropped = refl; few = omega arith; less = omega arith }
+
+-- ---- what can't be, by the parts
+
+-- the count of an entry of no kind
+stray : Entry → ℕ
+stray e = e .count - (ofKind 2 e + ofKind 1 e + ofKind 3 e)
+
+odd-none-is : (k n : ℕ) (b : Bool) → b ≡ soundEntry (entry k n) → b ≡ eqb (odd (entry k n)) 0
+odd-none-is k n true e = rw (← e)
+odd-none-is k n false e = rw (← e)
+
+kind-sound : (k n : ℕ) → 1 ≤ k → k ≤ 3 → 1 ≤ n → true ≡ soundEntry (entry k n)
+kind-sound k n a b c = sym (le-leb 1 n c) ∙ sound-count k n (λ z. absurd (omega arith)) b
+
+-- an entry can be where its count isn't 0 and is of a kind
+stray-none : (k n : ℕ) → eqb (empty (entry k n) + stray (entry k n)) 0 ≡ eqb (odd (entry k n)) 0
+unfolding stray
+stray-none k n = go (eqb n 0) (eqb k 2) (eqb k 1) (eqb k 3) refl refl refl refl
+  where
+    other : (k ≡ 2 → ⊥) → (k ≡ 1 → ⊥) → (k ≡ 3 → ⊥) → (z : Bool) → eqb k 0 ≡ z → false ≡ soundEntry (entry k n)
+    other p q s true h = sound-low k n (eqb-true k 0 h)
+    other p q s false h = sound-high k n (omega (arith, eqb-false k 0 h))
+
+    go : (z a b c : Bool) → eqb n 0 ≡ z → eqb k 2 ≡ a → eqb k 1 ≡ b → eqb k 3 ≡ c → eqb (picked z 1 + (n - (picked a n + picked b n + picked c n))) 0 ≡ eqb (odd (entry k n)) 0
+    go true a b c y p q s =
+        ne-eqb (1 + (n - (picked a n + picked b n + picked c n))) 0 (λ z. absurd (omega arith))
+        ∙ odd-none-is k n false (sym (ap (λ m. within 1 3 k && leb 1 m) (eqb-true n 0 y) ∙ and-false (within 1 3 k)))
+    go false true b c y p q s =
+        eq-eqb (0 + (n - (n + picked b n + picked c n))) 0 (omega arith)
+        ∙ odd-none-is k n true (kind-sound k n (omega (arith, eqb-true k 2 p)) (omega (arith, eqb-true k 2 p)) (omega (arith, eqb-false n 0 y)))
+    go false false true c y p q s =
+        eq-eqb (0 + (n - (0 + n + picked c n))) 0 (omega arith)
+        ∙ odd-none-is k n true (kind-sound k n (omega (arith, eqb-true k 1 q)) (omega (arith, eqb-true k 1 q)) (omega (arith, eqb-false n 0 y)))
+    go false false false true y p q s =
+        eq-eqb (0 + (n - (0 + 0 + n))) 0 (omega arith)
+        ∙ odd-none-is k n true (kind-sound k n (omega (arith, eqb-true k 3 s)) (omega (arith, eqb-true k 3 s)) (omega (arith, eqb-false n 0 y)))
+    go false false false false y p q s =
+        ne-eqb (0 + (n - (0 + 0 + 0))) 0 (λ z. absurd (omega (arith, eqb-false n 0 y)))
+        ∙ odd-none-is k n false (other (eqb-false k 2 p) (eqb-false k 1 q) (eqb-false k 3 s) (eqb k 0) refl)
+
+module _ (r : List ℕ) where
+  parts-sum : (i n : ℕ)
+      → sumFrom (countAt r) i n ≡ sumFrom (λ j. ofKind 2 (entryAt r j)) i n + sumFrom (λ j. ofKind 1 (entryAt r j)) i n + sumFrom (λ j. ofKind 3 (entryAt r j)) i n + sumFrom (λ j. stray (entryAt r j)) i n
+  unfolding stray
+  parts-sum i zero = refl
+  parts-sum i (suc n) = omega (arith, parts-sum (suc i) n, parts-le (kindAt r i) (countAt r i))
+
+  strays-none : (i n : ℕ) → eqb (sumFrom (λ j. empty (entryAt r j)) i n + sumFrom (λ j. stray (entryAt r j)) i n) 0 ≡ eqb (sumFrom (λ j. odd (entryAt r j)) i n) 0
+  strays-none i zero = refl
+  strays-none i (suc n) =
+      let e = empty (entryAt r i) in
+      let x = stray (entryAt r i) in
+      let es = sumFrom (λ j. empty (entryAt r j)) (suc i) n in
+      let xs = sumFrom (λ j. stray (entryAt r j)) (suc i) n in
+      let w : e + es + (x + xs) ≡ e + x + (es + xs) = omega arith in
+      ap (λ y. eqb y 0) w
+      ∙ none-both (e + x) (es + xs)
+      ∙ ap₂ _&&_ (stray-none (kindAt r i) (countAt r i)) (strays-none (suc i) n)
+      ∙ sym (none-both (odd (entryAt r i)) (sumFrom (λ j. odd (entryAt r j)) (suc i) n))
+
+  module _ (n all : ℕ) (p : Parts) (l : all < 65536) (w : Whole r n all) (g : Parted r n p) where
+    pub parts-under : p .inserts + p .kept + p .deleted ≤ all
+    parts-under = omega (arith, g .less, w .counts l)
+
+    whole-small : all ≤ 65536 * n
+    whole-small = go n (w .counts l)
+      where
+        go : (m : ℕ) → all ≡ sumOf (λ e. e .count) r m → all ≤ 65536 * m
+        go zero e = omega arith
+        go (suc m) e = omega (arith, l)
+
+    pub tally-parts : (a : ℕ) → a ≡ sumFrom (apartAt r) 0 (n - 1) → a ≤ n
+        → Tallied r n (record { odd = p .empty + (all - p .inserts - p .kept - p .deleted); inserts = p .inserts; all = all; kept = p .kept; apart = a })
+    tally-parts a e h =
+        let u = parts-under in
+        let v = whole-small in
+        let x : all - p .inserts - p .kept - p .deleted ≡ sumOf stray r n = omega (arith, w .counts l, g .inserted, g .retained, g .dropped, parts-sum 0 n) in
+        record {
+          odds = ap₂ (λ x y. eqb (x + y) 0) (g .empties) x ∙ strays-none 0 n;
+          inserted = g .inserted;
+          counts = w .counts l;
+          retained = g .retained;
+          neighbours = e;
+          few = omega (arith, g .few);
+          less = omega arith;
+          fewer = omega arith;
+          small = v;
+          close = h;
+        }
 
 -- ---- what the sums are of
 
@@ -137,14 +343,14 @@ module _ (r : List ℕ) where
   odd-none i zero = refl
   odd-none i (suc n) = holds-all (soundEntry (entryAt r i)) _ ∙ ap (λ b. soundEntry (entryAt r i) && b) (odd-none (suc i) n)
 
-  apart-none : (i n : ℕ) (t : List ℕ) → T (allOf soundEntry (entriesFrom r i (suc n))) → eqb (sumFrom (apartAt r) i n) 0 ≡ chained (operations (entriesFrom r i (suc n)) t)
-  apart-none i zero t h = refl
-  apart-none i (suc n) t h =
+  chained-none : (i n : ℕ) (t : List ℕ) → T (allOf soundEntry (entriesFrom r i (suc n))) → eqb (sumFrom (apartAt r) i n) 0 ≡ chained (operations (entriesFrom r i (suc n)) t)
+  chained-none i zero t h = refl
+  chained-none i (suc n) t h =
       let (a, h₁) = both (soundEntry (entryAt r i)) (allOf soundEntry (entriesFrom r (suc i) (suc n))) .0 h in
       let (b, h₂) = both (soundEntry (entryAt r (suc i))) (allOf soundEntry (entriesFrom r (suc (suc i)) n)) .0 h₁ in
       let u = cond (eqb (kindAt r i) 2) (drop (countAt r i) t) t in
       holds-all (mayFollow (kindAt r i) (kindAt r (suc i))) _
-      ∙ ap₂ _&&_ (kinds-follow (kindAt r i) (kindAt r (suc i)) (countAt r i) (countAt r (suc i)) t u a b) (apart-none (suc i) n u h₁)
+      ∙ ap₂ _&&_ (kinds-follow (kindAt r i) (kindAt r (suc i)) (countAt r i) (countAt r (suc i)) t u a b) (chained-none (suc i) n u h₁)
 
   inserts-sum : (i n : ℕ) → sumFrom (λ k. ofKind 2 (entryAt r k)) i n ≡ insertBytes (entriesFrom r i n)
   inserts-sum i zero = refl
@@ -176,11 +382,32 @@ module _ (r : List ℕ) where
       go false true p q c y z h = omega arith
       go false false p q c y z h = omega arith
 
--- the two passes, as the code finds them
+none-apart : (r : List ℕ) (n : ℕ) → n ≡ recordsOf r → T (allOf soundEntry (entries r)) → eqb (sumFrom (apartAt r) 0 (n - 1)) 0 ≡ chained (byteOps r)
+unfolding byteOps entries
+none-apart r n e s = go n e s
+  where
+    go : (m : ℕ) → m ≡ recordsOf r → T (allOf soundEntry (entriesFrom r 0 (recordsOf r))) → eqb (sumFrom (apartAt r) 0 (m - 1)) 0 ≡ chained (operations (entriesFrom r 0 (recordsOf r)) (textOf r))
+    go zero p h = rw (← p)
+    go (suc m) p h =
+        let q : suc m - 1 ≡ m = omega arith in
+        ap (λ j. eqb (sumFrom (apartAt r) 0 j) 0) q
+        ∙ chained-none r 0 m (textOf r) (rw (← p) at h)
+        ∙ ap (λ j. chained (operations (entriesFrom r 0 j) (textOf r))) p
+
+-- where all neighbours may stand so, any two may
+linked-follow : (r : List ℕ) (n k : ℕ) → n ≡ recordsOf r → T (allOf soundEntry (entries r)) → chained (byteOps r) ≡ true → k + 1 < n → mayFollow (kindAt r k) (kindAt r (suc k)) ≡ true
+linked-follow r n k e s p h =
+    go (mayFollow (kindAt r k) (kindAt r (suc k))) refl (sum-under (apartAt r) k (n - 1) (omega arith)) (eqb-true (sumFrom (apartAt r) 0 (n - 1)) 0 (none-apart r n e s ∙ p))
+  where
+    go : (b : Bool) → mayFollow (kindAt r k) (kindAt r (suc k)) ≡ b → sumFrom (apartAt r) 0 k + picked (not b) 1 ≤ sumFrom (apartAt r) 0 (n - 1) → sumFrom (apartAt r) 0 (n - 1) ≡ 0 → b ≡ true
+    go true q l z = refl
+    go false q l z = absurd (omega arith)
+
+-- the passes, as the code finds them
 module _ (r : List ℕ) (n : ℕ) (t : Tally) (e : n ≡ recordsOf r) (g : Tallied r n t) where
   none-odd : eqb (t .odd) 0 ≡ allOf soundEntry (entries r)
   unfolding entries
-  none-odd = ap (λ x. eqb x 0) (g .odds) ∙ odd-none r 0 n ∙ ap (λ m. allOf soundEntry (entriesFrom r 0 m)) e
+  none-odd = g .odds ∙ odd-none r 0 n ∙ ap (λ m. allOf soundEntry (entriesFrom r 0 m)) e
 
   pub sums-unsound : (t .odd ≡ 0 → ⊥) → Unsound ≡ entriesOf r
   unfolding entriesOf
@@ -190,26 +417,14 @@ module _ (r : List ℕ) (n : ℕ) (t : Tally) (e : n ≡ recordsOf r) (g : Talli
     all-sound : allOf soundEntry (entries r) ≡ true
     all-sound = sym none-odd ∙ eq-eqb (t .odd) 0 z
 
-    none-apart : eqb (sumFrom (apartAt r) 0 (n - 1)) 0 ≡ chained (byteOps r)
-    unfolding byteOps entries
-    none-apart = go n e (known all-sound)
-      where
-        go : (m : ℕ) → m ≡ recordsOf r → T (allOf soundEntry (entriesFrom r 0 (recordsOf r))) → eqb (sumFrom (apartAt r) 0 (m - 1)) 0 ≡ chained (operations (entriesFrom r 0 (recordsOf r)) (textOf r))
-        go zero p h = rw (← p)
-        go (suc m) p h =
-            let q : suc m - 1 ≡ m = omega arith in
-            ap (λ j. eqb (sumFrom (apartAt r) 0 j) 0) q
-            ∙ apart-none r 0 m (textOf r) (rw (← p) at h)
-            ∙ ap (λ j. chained (operations (entriesFrom r 0 j) (textOf r))) p
-
-    pub sums-found : (a : ℕ) → a ≡ sumFrom (apartAt r) 0 (n - 1) → Of (record { inserts = t .inserts; linked = eqb a 0; base = t .all - t .inserts; kept = t .kept }) ≡ entriesOf r
+    pub sums-found : Of (record { inserts = t .inserts; linked = eqb (t .apart) 0; base = t .all - t .inserts; kept = t .kept }) ≡ entriesOf r
     unfolding entriesOf sumsOf entries byteOps
-    sums-found a p =
+    sums-found =
         let x : t .inserts ≡ insertBytes (entries r) = g .inserted ∙ inserts-sum r 0 n ∙ ap (λ m. insertBytes (entriesFrom r 0 m)) e in
         let y : t .all ≡ insertBytes (entries r) + base (byteOps r) = g .counts ∙ base-sum r 0 n (textOf r) ∙ ap (λ m. insertBytes (entriesFrom r 0 m) + base (operations (entriesFrom r 0 m) (textOf r))) e in
         let w : t .all - t .inserts ≡ base (byteOps r) = omega arith in
         let v : t .kept ≡ total keeps (byteOps r) = g .retained ∙ kept-sum r 0 n (textOf r) ∙ ap (λ m. total keeps (operations (entriesFrom r 0 m) (textOf r))) e in
-        rw (all-sound) (λ i. Of (record { inserts = x i; linked = (ap (λ j. eqb j 0) p ∙ none-apart) i; base = w i; kept = v i }))
+        rw (all-sound) (λ i. Of (record { inserts = x i; linked = (ap (λ j. eqb j 0) (g .neighbours) ∙ none-apart r n e (known all-sound)) i; base = w i; kept = v i }))
 
 chars-part : (n m : ℕ) (t : List ℕ) → numChars (take (n + m) t) ≡ numChars (take n t) + numChars (take m (drop n t))
 chars-part n m t = ap numChars (take-add n m t) ∙ num-append (take n t) (take m (drop n t))
@@ -422,6 +637,38 @@ module _ (r : List ℕ) (n k at kind : ℕ) {w : Bool} (h : k < n) (e : n ≡ re
             reached = reached-insert r n k at kind h e (g .reached) f count c z;
             same = rw x at first;
           }
+
+-- from record k on it comes to w, or there is none from k on
+pub record Began (r : List ℕ) (n k at : ℕ) (w : Bool) : Type 0 where
+  pub here : k ≤ n → Starting r k at w
+  pub past : n ≤ k → true ≡ w
+
+pub began : (r : List ℕ) (n k at : ℕ) {w : Bool} → n ≡ recordsOf r → Starting r k at w → Began r n k at w
+began r n k at e s = record { here = λ h. s; past = λ h. starting-end r n k at h e s }
+
+not-twice : (k l : ℕ) → mayFollow k l ≡ true → k ≡ 2 → l ≡ 2 → ⊥
+unfolding mayFollow
+not-twice k l f p q = absurd (known (sym (ap₂ mayFollow p q) ∙ f))
+
+-- behind an insert, where all neighbours may stand so, one record is passed without a look
+module _ (r : List ℕ) (n k at : ℕ) {w : Bool} (s : Sound r) (e : n ≡ recordsOf r) (z : kindAt r k ≡ 2) (g : Starting r (k + 1) at w) where
+  began-second : chained (byteOps r) ≡ true → k + 1 < n → Starting r (k + 1 + 1) at w
+  began-second p h =
+      let f = linked-follow r n k e (s .entries-sound) p h in
+      starting-other r n (k + 1) at (kindAt r (k + 1)) h e g refl (λ y. not-twice (kindAt r k) (kindAt r (suc k)) f z (ap (kindAt r) (sym (add-one k)) ∙ y))
+
+  pub began-behind : (b : Bool) (m : ℕ) → b ≡ chained (byteOps r) → m ≡ picked b 1 → Began r n (k + m + 1) at w
+  began-behind true m p q =
+      rw q
+      (record {
+        here = λ h. began-second (sym p) (omega arith);
+        past = λ h. go (leb n (k + 1)) refl h;
+      })
+    where
+      go : (b : Bool) → leb n (k + 1) ≡ b → n ≤ k + 1 + 1 → true ≡ w
+      go true u h = starting-end r n (k + 1) at (leb-true n (k + 1) u) e g
+      go false u h = starting-end r n (k + 1 + 1) at h e (began-second (sym p) (leb-false n (k + 1) u))
+  began-behind false m p q = rw (q, add-zero k) (began r n (k + 1) at e g)
 
 -- ---- all inserts at once
 

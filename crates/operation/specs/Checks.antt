@@ -1,5 +1,5 @@
 -- What the parts of the check promise each other. No entry's contract cites this.
-use Prim.Native.Nat.{ℕ, zero, suc, _+_, _*_, _≤_}
+use Prim.Native.Nat.{ℕ, zero, suc, _+_, _-_, _*_, _≤_, _<_}
 use mathlib.Core.Path.{_≡_}
 use mathlib.Core.Bool.{Bool, true, false, cond, not, _&&_}
 use mathlib.Core.List.{List, [], _∷_}
@@ -8,6 +8,7 @@ use lib.ListN.{length, getD, drop}
 use Rattle.utf8.specs.Chars.{isCont, numChars, allOf}
 use Rattle.operation.specs.declared.checks.Sums.{Sums}
 use Rattle.operation.specs.declared.checks.Tally.{Tally}
+use Rattle.operation.specs.declared.checks.Parts.{Parts}
 use Rattle.operation.specs.declared.checks.Entries.{Entries}
 use Rattle.operation.specs.declared.checks.Entries.the-variants.{Unsound, Of}
 use Rattle.operation.specs.declared.checks.Inserted.{Inserted}
@@ -41,25 +42,8 @@ ofKind k e = picked (eqb (e .kind) k) (e .count)
 abbrev pub sumOf : (Entry → ℕ) → List ℕ → ℕ → ℕ
 sumOf f r = sumFrom (λ k. f (entryAt r k)) 0
 
-unfoldable pub tallied : Tally → Entry → Tally
-tallied t e =
-    record {
-      odd = t .odd + odd e;
-      inserts = t .inserts + ofKind 2 e;
-      all = t .all + e .count;
-      kept = t .kept + ofKind 1 e;
-    }
-
--- the first n entries
-pub record Tallied (r : List ℕ) (n : ℕ) (t : Tally) : Type 0 where
-  pub odds : t .odd ≡ sumOf odd r n
-  pub inserted : t .inserts ≡ sumOf (ofKind 2) r n
-  pub counts : t .all ≡ sumOf (λ e. e .count) r n
-  pub retained : t .kept ≡ sumOf (ofKind 1) r n
-  pub few : t .odd ≤ n
-  pub less : t .inserts ≤ t .all
-  pub fewer : t .kept ≤ t .all
-  pub small : t .all ≤ 65536 * n
+abbrev pub empty : Entry → ℕ
+empty e = picked (eqb (e .count) 0) 1
 
 -- the neighbours' rule on kinds as they are written
 unfoldable pub mayFollow : ℕ → ℕ → Bool
@@ -67,6 +51,50 @@ mayFollow last kind = cond (eqb last kind) false (cond (eqb last 3) (not (eqb ki
 
 abbrev pub apartAt : List ℕ → ℕ → ℕ
 apartAt r k = picked (not (mayFollow (kindAt r k) (kindAt r (suc k)))) 1
+
+unfoldable pub tallied : Tally → Entry → Bool → Tally
+tallied t e apart =
+    record {
+      odd = t .odd + odd e;
+      inserts = t .inserts + ofKind 2 e;
+      all = t .all + e .count;
+      kept = t .kept + ofKind 1 e;
+      apart = t .apart + picked apart 1;
+    }
+
+-- the first n entries
+pub record Tallied (r : List ℕ) (n : ℕ) (t : Tally) : Type 0 where
+  pub odds : eqb (t .odd) 0 ≡ eqb (sumOf odd r n) 0
+  pub inserted : t .inserts ≡ sumOf (ofKind 2) r n
+  pub counts : t .all ≡ sumOf (λ e. e .count) r n
+  pub retained : t .kept ≡ sumOf (ofKind 1) r n
+  pub neighbours : t .apart ≡ sumFrom (apartAt r) 0 (n - 1)
+  pub few : t .odd ≤ 65537 * n
+  pub less : t .inserts ≤ t .all
+  pub fewer : t .kept ≤ t .all
+  pub small : t .all ≤ 65536 * n
+  pub close : t .apart ≤ n
+
+-- the counts of the first n entries, where they are under 65,536 together
+pub record Whole (r : List ℕ) (n all : ℕ) : Type 0 where
+  pub counts : all < 65536 → all ≡ sumOf (λ e. e .count) r n
+
+unfoldable pub partedBy : Parts → Entry → Parts
+partedBy p e =
+    record {
+      empty = p .empty + empty e;
+      inserts = p .inserts + ofKind 2 e;
+      kept = p .kept + ofKind 1 e;
+      deleted = p .deleted + ofKind 3 e;
+    }
+
+pub record Parted (r : List ℕ) (n : ℕ) (p : Parts) : Type 0 where
+  pub empties : p .empty ≡ sumOf empty r n
+  pub inserted : p .inserts ≡ sumOf (ofKind 2) r n
+  pub retained : p .kept ≡ sumOf (ofKind 1) r n
+  pub dropped : p .deleted ≡ sumOf (ofKind 3) r n
+  pub few : p .empty ≤ n
+  pub less : p .inserts + p .kept + p .deleted ≤ sumOf (λ e. e .count) r n
 
 abbrev pub keeps : Op ℕ → ℕ
 keeps (retain n) = n

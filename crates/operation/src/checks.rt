@@ -1,11 +1,12 @@
 // The parts of a record's check.
 use utf8::core::Form;
 ghost use mathlib.Core.Path.{_≡_};
-ghost use Prim.Native.Nat.{_-_, _^_, _≤_, _<_};
+ghost use Prim.Native.Nat.{_+_, _-_, _^_, _≤_, _<_};
 ghost use lib.ListN.{length, drop};
 ghost use Rattle.operation.specs.Layout.{recordsOf, textBytesOf, textStart};
-ghost use Rattle.operation.specs.Record.{entries, inLimits, soundEntry};
-ghost use Rattle.operation.specs.Checks.{entry, picked, tallied, Tallied, sumFrom, mayFollow, apartAt, entriesOf, startWell, insertedOf, Sound, Reached};
+ghost use Rattle.operation.specs.Built.{chained};
+ghost use Rattle.operation.specs.Record.{entries, byteOps, inLimits, soundEntry};
+ghost use Rattle.operation.specs.Checks.{entry, picked, tallied, Tallied, Whole, partedBy, Parted, sumFrom, mayFollow, apartAt, entriesOf, startWell, insertedOf, Sound, Reached};
 
 // Refusal 1 is not found.
 pub(crate) fn in_limits(rec: &[u8]) -> bool
@@ -46,10 +47,23 @@ pub(crate) enum Entries {
     Of(Sums),
 }
 
-// The two passes over the entries have no branch, and numbers of 32 bits: so they are done several entries at a time.
+// The passes over the entries have no branch, so they are done several entries at a time: the more, the narrower their
+// numbers are.
 
 // n where it counts, else 0.
 fn pick(counts: bool, n: u32) -> u32
+    ensures { λ r. ⌜ (r ≡ picked counts n) × (r ≤ n) ⌝ }
+{
+    if counts { n } else { 0 }
+}
+
+fn pick_u16(counts: bool, n: u16) -> u16
+    ensures { λ r. ⌜ (r ≡ picked counts n) × (r ≤ n) ⌝ }
+{
+    if counts { n } else { 0 }
+}
+
+fn pick_u8(counts: bool, n: u8) -> u8
     ensures { λ r. ⌜ (r ≡ picked counts n) × (r ≤ n) ⌝ }
 {
     if counts { n } else { 0 }
@@ -67,48 +81,6 @@ fn is_sound(kind: u8, count: u32) -> bool
     0 < count
 }
 
-// How many entries can't be, the bytes inserted, all counts, and those of retains.
-struct Tally {
-    odd: u32,
-    inserts: u32,
-    all: u32,
-    kept: u32,
-}
-
-// One entry more.
-fn counted(t: Tally, kind: u8, count: usize) -> Tally
-    requires { ⌜ (t .odd ≤ 2 ^ 31) × (t .all ≤ 2 ^ 31) × (t .inserts ≤ t .all) × (t .kept ≤ t .all) × (count < 65536) ⌝ }
-    ensures { λ r. ⌜ r ≡ tallied t (entry kind count) ⌝ }
-{
-    let c = count as u32;
-    Tally {
-        odd: t.odd + pick(!is_sound(kind, c), 1),
-        inserts: t.inserts + pick(kind == 2, c),
-        all: t.all + c,
-        kept: t.kept + pick(kind == 1, c),
-    }
-}
-
-fn count_up(rec: &[u8], n: usize) -> Tally
-    requires { ⌜ (n ≡ recordsOf (now rec)) × (n ≤ 1024) × (textStart n ≤ length (now rec)) ⌝ }
-    ensures { λ r. ⌜ Tallied (now (rec .entry)) n r ⌝ }
-{
-    let mut t = Tally {
-        odd: 0,
-        inserts: 0,
-        all: 0,
-        kept: 0,
-    };
-    let mut k = 0;
-    while k < n {
-        let kind = crate::layout::kind(rec, k);
-        let count = crate::layout::count(rec, n, k);
-        t = counted(t, kind, count);
-        k += 1;
-    }
-    t
-}
-
 fn may_follow(last: u8, kind: u8) -> bool
     ensures { λ r. ⌜ r ≡ mayFollow last kind ⌝ }
 {
@@ -121,20 +93,170 @@ fn may_follow(last: u8, kind: u8) -> bool
     true
 }
 
-// How many neighbours may not stand so. From 1 on: from 0 on, with k + 1, was measured to be slower.
-fn apart(rec: &[u8], n: usize) -> u32
-    requires { ⌜ (n ≡ recordsOf (now rec)) × (n ≤ 1024) × (textStart n ≤ length (now rec)) ⌝ }
-    ensures { λ r. ⌜ r ≡ sumFrom (apartAt (now (rec .entry))) 0 (n - 1) ⌝ }
+// What can't be (0 where all can), the bytes inserted, all counts, those of retains, and how many neighbours may not
+// stand so.
+struct Tally {
+    odd: u32,
+    inserts: u32,
+    all: u32,
+    kept: u32,
+    apart: u32,
+}
+
+// One entry more.
+fn counted(t: Tally, kind: u8, count: usize, apart: bool) -> Tally
+    requires { ⌜ (t .odd ≤ 2 ^ 31) × (t .all ≤ 2 ^ 31) × (t .inserts ≤ t .all) × (t .kept ≤ t .all) × (t .apart ≤ 2 ^ 31) × (count < 65536) ⌝ }
+    ensures { λ r. ⌜ r ≡ tallied t (entry kind count) apart ⌝ }
 {
-    let mut apart: u32 = 0;
+    let c = count as u32;
+    Tally {
+        odd: t.odd + pick(!is_sound(kind, c), 1),
+        inserts: t.inserts + pick(kind == 2, c),
+        all: t.all + c,
+        kept: t.kept + pick(kind == 1, c),
+        apart: t.apart + pick(apart, 1),
+    }
+}
+
+// Any entries, in one pass: in 32 bits, that are enough for all sums.
+fn any(rec: &[u8], n: usize) -> Tally
+    requires { ⌜ (n ≡ recordsOf (now rec)) × (n ≤ 1024) × (textStart n ≤ length (now rec)) ⌝ }
+    ensures { λ r. ⌜ Tallied (now (rec .entry)) n r ⌝ }
+{
+    let mut t = Tally {
+        odd: 0,
+        inserts: 0,
+        all: 0,
+        kept: 0,
+        apart: 0,
+    };
+    if n == 0 {
+        return t;
+    }
+    let first = crate::layout::kind(rec, 0);
+    let one = crate::layout::count(rec, n, 0);
+    t = counted(t, first, one, false);
     let mut k = 1;
     while k < n {
         let last = crate::layout::kind(rec, k - 1);
         let kind = crate::layout::kind(rec, k);
-        apart += pick(!may_follow(last, kind), 1);
+        let count = crate::layout::count(rec, n, k);
+        t = counted(t, kind, count, !may_follow(last, kind));
+        k += 1;
+    }
+    t
+}
+
+// All counts, or 65,536 where the entries are so few that one pass in 32 bits was measured to be faster.
+fn all_counts(rec: &[u8], n: usize) -> u32
+    requires { ⌜ (n ≡ recordsOf (now rec)) × (n ≤ 1024) × (textStart n ≤ length (now rec)) ⌝ }
+    ensures { λ r. ⌜ Whole (now (rec .entry)) n r ⌝ }
+{
+    if n < 32 {
+        return 65536;
+    }
+    let mut all: u32 = 0;
+    let mut k = 0;
+    while k < n {
+        all += crate::layout::count(rec, n, k) as u32;
+        k += 1;
+    }
+    all
+}
+
+// How many counts are 0, and the counts of each kind.
+struct Parts {
+    empty: u16,
+    inserts: u16,
+    kept: u16,
+    deleted: u16,
+}
+
+// One entry more.
+fn parted(p: Parts, kind: u8, count: usize) -> Parts
+    requires { ⌜ (p .empty ≤ 1024) × (p .inserts + p .kept + p .deleted + count < 65536) ⌝ }
+    ensures { λ r. ⌜ r ≡ partedBy p (entry kind count) ⌝ }
+{
+    let c = count as u16;
+    Parts {
+        empty: p.empty + pick_u16(c == 0, 1),
+        inserts: p.inserts + pick_u16(kind == 2, c),
+        kept: p.kept + pick_u16(kind == 1, c),
+        deleted: p.deleted + pick_u16(kind == 3, c),
+    }
+}
+
+// Where all counts together are under 65,536, 16 bits are enough for each part of them.
+fn part(rec: &[u8], n: usize, all: u32) -> Parts
+    requires { ⌜ (n ≡ recordsOf (now rec)) × (n ≤ 1024) × (textStart n ≤ length (now rec)) × (all < 65536) × Whole (now rec) n all ⌝ }
+    ensures { λ r. ⌜ Parted (now (rec .entry)) n r ⌝ }
+{
+    let mut p = Parts {
+        empty: 0,
+        inserts: 0,
+        kept: 0,
+        deleted: 0,
+    };
+    let mut k = 0;
+    while k < n {
+        let kind = crate::layout::kind(rec, k);
+        let count = crate::layout::count(rec, n, k);
+        p = parted(p, kind, count);
+        k += 1;
+    }
+    p
+}
+
+// How many neighbours may not stand so, of the entries from..to and each one before.
+fn apart_in(rec: &[u8], from: usize, to: usize) -> u8
+    requires { ⌜ (1 ≤ from) × (to ≤ recordsOf (now rec)) × (to ≤ from + 224) × (textStart (recordsOf (now rec)) ≤ length (now rec)) ⌝ }
+    ensures { λ r. ⌜ (r ≡ sumFrom (apartAt (now (rec .entry))) (from - 1) (to - from)) × (r ≤ to - from) ⌝ }
+{
+    let mut apart: u8 = 0;
+    let mut k = from;
+    while k < to {
+        let last = crate::layout::kind(rec, k - 1);
+        let kind = crate::layout::kind(rec, k);
+        apart += pick_u8(!may_follow(last, kind), 1);
         k += 1;
     }
     apart
+}
+
+// The same of all entries. 8 bits are enough for 224 of them: 7 times the 32 that are done at once.
+fn apart(rec: &[u8], n: usize) -> u32
+    requires { ⌜ (n ≡ recordsOf (now rec)) × (n ≤ 1024) × (textStart n ≤ length (now rec)) ⌝ }
+    ensures { λ r. ⌜ (r ≡ sumFrom (apartAt (now (rec .entry))) 0 (n - 1)) × (r ≤ n) ⌝ }
+{
+    let mut apart: u32 = 0;
+    let mut from = 1;
+    while from + 224 < n {
+        apart += apart_in(rec, from, from + 224) as u32;
+        from += 224;
+    }
+    apart + apart_in(rec, from, n) as u32
+}
+
+// What can't be has a count of 0, or one that is of no kind.
+fn count_up(rec: &[u8], n: usize) -> Tally
+    requires { ⌜ (n ≡ recordsOf (now rec)) × (n ≤ 1024) × (textStart n ≤ length (now rec)) ⌝ }
+    ensures { λ r. ⌜ Tallied (now (rec .entry)) n r ⌝ }
+{
+    let all = all_counts(rec, n);
+    if 65535 < all {
+        return any(rec, n);
+    }
+    let p = part(rec, n, all);
+    let inserts = p.inserts as u32;
+    let kept = p.kept as u32;
+    let others = all - inserts - kept - p.deleted as u32;
+    Tally {
+        odd: p.empty as u32 + others,
+        inserts: inserts,
+        all: all,
+        kept: kept,
+        apart: apart(rec, n),
+    }
 }
 
 pub(crate) fn sum_up(rec: &[u8], n: usize) -> Entries
@@ -147,17 +269,18 @@ pub(crate) fn sum_up(rec: &[u8], n: usize) -> Entries
     }
     Entries::Of(Sums {
         inserts: t.inserts as usize,
-        linked: apart(rec, n) == 0,
+        linked: t.apart == 0,
         base: (t.all - t.inserts) as usize,
         kept: t.kept as usize,
     })
 }
 
-// Whether no insert begins with a continuation.
-fn start_well(rec: &[u8], n: usize) -> bool
-    requires { ⌜ (n ≡ recordsOf (now rec)) × Sound (now rec) ⌝ }
+// Whether no insert begins with a continuation. Where all neighbours may stand so, none stands directly behind another.
+fn start_well(rec: &[u8], n: usize, linked: bool) -> bool
+    requires { ⌜ (n ≡ recordsOf (now rec)) × (linked ≡ chained (byteOps (now rec))) × Sound (now rec) ⌝ }
     ensures { λ r. ⌜ r ≡ startWell (entries (now (rec .entry))) (drop (textStart n) (now (rec .entry))) ⌝ }
 {
+    let behind = pick(linked, 1) as usize;
     let mut at = crate::layout::text_start(n);
     let mut k = 0;
     while k < n {
@@ -168,6 +291,7 @@ fn start_well(rec: &[u8], n: usize) -> bool
                 return false;
             }
             at += count;
+            k += behind;
         }
         k += 1;
     }
@@ -181,8 +305,8 @@ pub(crate) enum Inserted {
 }
 
 // All inserts at once: where the whole is well-formed, each is that begins with no continuation.
-pub(crate) fn inserted_chars(rec: &[u8], n: usize, text: usize) -> Inserted
-    requires { ⌜ (n ≡ recordsOf (now rec)) × (text ≡ textBytesOf (now rec)) × Sound (now rec) ⌝ }
+pub(crate) fn inserted_chars(rec: &[u8], n: usize, text: usize, linked: bool) -> Inserted
+    requires { ⌜ (n ≡ recordsOf (now rec)) × (text ≡ textBytesOf (now rec)) × (linked ≡ chained (byteOps (now rec))) × Sound (now rec) ⌝ }
     ensures { λ r. ⌜ r ≡ insertedOf (now (rec .entry)) ⌝ }
 {
     if text == 0 {
@@ -195,7 +319,7 @@ pub(crate) fn inserted_chars(rec: &[u8], n: usize, text: usize) -> Inserted
         return Inserted::IllFormed;
     };
     if chars < text {
-        if !start_well(rec, n) {
+        if !start_well(rec, n, linked) {
             return Inserted::IllFormed;
         }
     }

@@ -135,7 +135,7 @@ pub fn load(rec: &[u8], n: usize, k: usize, at: usize) -> Front
     let count = crate::layout::count(rec, n, k);
     if kind == 2 {
         let to = at + count;
-        let chars = utf8::core::count(&rec[at..to]);
+        let chars = utf8::core::count_in(rec, at, to);
         return Front {
             kind,
             left: chars,

@@ -77,7 +77,7 @@ pub fn check(rec: &[u8]) -> Fact
     if sums.inserts != text {
         return Fact::Refused(Refusal::Entry);
     }
-    let checks::Inserted::Chars(chars) = checks::inserted_chars(rec, n, text) else {
+    let checks::Inserted::Chars(chars) = checks::inserted_chars(rec, n, text, sums.linked) else {
         return Fact::Refused(Refusal::Utf8);
     };
     if !sums.linked {

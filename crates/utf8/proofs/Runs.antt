@@ -159,6 +159,21 @@ module _ (t : List ℕ) (at : ℕ) where
   pub runs-one : at < length t → getD t at 0 < 0x80 → Runs t at (at + 1)
   runs-one h l = runs-more at 1 (runs-none (omega arith)) refl (rw (next t at h, ascii (getD t at 0) l)) (omega arith)
 
+  -- each byte of a run
+  pub runs-byte : (to k : ℕ) → Runs t at to → at ≤ k → k < to → getD t k 0 < 0x80
+  unfolding isAscii
+  runs-byte to k r l h =
+      let b = r .below in
+      let n = k - at in
+      let m = to - k - 1 in
+      let x : to - at ≡ n + suc m = omega arith in
+      let y : at + n ≡ k = omega arith in
+      let q : (allOf isAscii (take n (drop at t)) && allOf isAscii (take (suc m) (drop (at + n) t))) ≡ true =
+      sym (parts t at n (suc m)) ∙ ap (λ j. allOf isAscii (take j (drop at t))) (sym x) ∙ holds (allOf isAscii (take (to - at) (drop at t))) (r .plain) in
+      let s : allOf isAscii (take (suc m) (drop (at + n) t)) ≡ true = split (allOf isAscii (take n (drop at t))) (allOf isAscii (take (suc m) (drop (at + n) t))) q .1 in
+      let u : (isAscii (getD t k 0) && allOf isAscii (take m (drop (k + 1) t))) ≡ true = sym (ap (λ z. allOf isAscii (take (suc m) z)) (ap (λ j. drop j t) y ∙ next t k (omega arith))) ∙ s in
+      ltb-true (getD t k 0) 0x80 (split (isAscii (getD t k 0)) (allOf isAscii (take m (drop (k + 1) t))) u .0)
+
 lead-ascii : (b : ℕ) → isAscii b ≡ true → leadOf b ≡ Of 0 0x80 0xBF
 unfolding isAscii rows
 lead-ascii b e = let l = ltb-true b 0x80 e in sym (lead-row 0 0x00 0x7F {b = b} tt (omega arith) (omega arith))
@@ -184,6 +199,24 @@ ascii-num (suc n) (b ∷ l) h e =
     let (p, q) = split (isAscii b) (allOf isAscii (take n l)) e in
     let m = ascii-num n l (omega arith) q in
     rw (under 0x80 0xBF b (ltb-true b 0x80 p)) (omega arith)
+
+-- a few bytes of eight that are ASCII
+ascii-take : (n : ℕ) (l : List ℕ) → n ≤ length l → allOf isAscii (take n l) ≡ true → n ≡ numChars (take n l)
+unfolding isAscii isCont
+ascii-take zero l h e = refl
+ascii-take (suc n) [] h e = absurd (omega arith)
+ascii-take (suc n) (b ∷ l) h e =
+    let (p, q) = split (isAscii b) (allOf isAscii (take n l)) e in
+    let m = ascii-take n l (omega arith) q in
+    rw (under 0x80 0xBF b (ltb-true b 0x80 p)) (omega arith)
+
+pub eight-num : (t : List ℕ) (at to : ℕ) {b : Bool} → at ≤ to → to ≤ length t → to - at ≤ 8 → b ≡ allOf isAscii (take 8 (drop at t)) → b ≡ true → to - at ≡ numChars (take (to - at) (drop at t))
+eight-num t at to l h m p e =
+    let n = to - at in
+    let x : n + (8 - n) ≡ 8 = omega arith in
+    let q : (allOf isAscii (take n (drop at t)) && allOf isAscii (take (8 - n) (drop (at + n) t))) ≡ true =
+    sym (parts t at n (8 - n)) ∙ ap (λ j. allOf isAscii (take j (drop at t))) x ∙ sym p ∙ e in
+    ascii-take n (drop at t) (simp length-drop (omega arith)) (split (allOf isAscii (take n (drop at t))) (allOf isAscii (take (8 - n) (drop (at + n) t))) q .0)
 
 -- each byte of a run is a character
 pub runs-num : (t : List ℕ) (at to : ℕ) → Runs t at to → to + numChars (drop to t) ≡ at + numChars (drop at t)

@@ -3,19 +3,22 @@ use Prim.Native.Nat.{ℕ, suc, _+_, _-_, _≤_, _<_}
 use native.Mathlib.Omega.{arith}
 use mathlib.Core.Path.{_≡_, refl, sym, ap, _∙_}
 use mathlib.Core.Logic.{_⊎_, inl, inr, ⊎-elim}
-use mathlib.Core.Bool.{Bool, true, false, not, _&&_}
+use mathlib.Core.Bool.{Bool, true, false, not, _&&_, _||_}
 use mathlib.Core.List.{List, _∷_}
 use lib.Dec.{leb, eqb}
-use lib.ListN.{length, getD, drop}
+use lib.ListN.{length, getD, take, drop}
 use borrow.Author.Tests.{le-leb, lt-leb, eq-eqb, ne-eqb, eqb-true}
 use Rattle.utf8.specs.declared.Lead.the-variants.{Of}
 use Rattle.utf8.specs.Form.{within, rows, leadOf, rest, wellFormed}
-use Rattle.utf8.specs.Chars.{isCont, numChars}
+use Rattle.utf8.specs.Chars.{isCont, numChars, allOf}
+use Rattle.utf8.specs.Ascii.{isAscii}
 use Rattle.utf8.specs.Passed.{Passed}
-use Rattle.utf8.specs.Block.{bitOf, dueOf, heldOf, neverOf, outsideOf, offOf, asked, before, Window, Goes}
+use Rattle.utf8.specs.Block.{bitOf, dueOf, asking, heldOf, neverOf, outsideOf, offOf, asked, before, Window, Goes}
 use Rattle.utf8.proofs.Tests.{known}
 use Rattle.utf8.proofs.Leads.{le-or-lt, inside, within-bounds, lead-row}
 use Rattle.utf8.proofs.Walk.{next, num-cont, num-start}
+use Rattle.utf8.proofs.Runs.{runs-none, runs-more, runs-byte}
+use Rattle.utf8.proofs.Passed.{passed-run}
 
 -- ---- bits
 
@@ -52,12 +55,22 @@ equal x y e = go (eqb x y) refl e
     go true p e = eqb-true x y p
     go false p e = absurd (omega arith)
 
-fine : (p3 p2 p1 b : ℕ) → offOf p3 p2 p1 b ≡ 0 → Fine p3 p2 p1 b
-unfolding offOf dueOf
-fine p3 p2 p1 b e =
-    let x = bitOf (not (eqb (bitOf (isCont b)) (dueOf p3 p2 p1))) in
+-- where one at most asks, it is told by whether any does
+any-of : (x y z : Bool) → bitOf x + bitOf y + bitOf z ≤ 1 → bitOf (x || (y || z)) ≡ bitOf x + bitOf y + bitOf z
+any-of true y z h = omega arith
+any-of false true z h = omega arith
+any-of false false z h = omega arith
+
+fine : (p3 p2 p1 b : ℕ) → asking p3 p2 p1 ≤ 1 → offOf p3 p2 p1 b ≡ 0 → Fine p3 p2 p1 b
+unfolding offOf dueOf asking
+fine p3 p2 p1 b h e =
+    let x = bitOf (not (eqb (bitOf (isCont b)) (bitOf (dueOf p3 p2 p1)))) in
     let z : x ≡ 0 = omega arith in
-    record { due = equal (bitOf (isCont b)) (dueOf p3 p2 p1) z; begins = omega arith; fits = omega arith }
+    record {
+      due = equal (bitOf (isCont b)) (bitOf (dueOf p3 p2 p1)) z ∙ any-of (leb 0xC0 p1) (leb 0xE0 p2) (leb 0xF0 p3) h;
+      begins = omega arith;
+      fits = omega arith;
+    }
 
 cont-bounds : (b : ℕ) → isCont b ≡ true → (0x80 ≤ b) × (b ≤ 0xBF)
 unfolding isCont
@@ -78,6 +91,17 @@ unfolding neverOf
 never-low b h =
     let other : (k : ℕ) → 0xC0 ≤ k → bitOf (eqb b k) ≡ 0 = λ k l. ap bitOf (ne-eqb b k (λ q. absurd (omega arith))) in
     omega (arith, other 0xC0 (omega arith), other 0xC1 (omega arith), bit-no 0xF5 b (omega arith))
+
+-- where a range does not hold the byte, and where it does
+not-within : (lo hi b : ℕ) → bitOf (within lo hi b) ≡ 0 → lo ≤ b → hi < b
+not-within lo hi b e l = ⊎-elim (λ h. absurd (omega (arith, ap bitOf (inside lo hi b l h)))) (λ h. h) (le-or-lt b hi)
+
+not-without : (lo hi b : ℕ) → bitOf (not (within lo hi b)) ≡ 0 → b ≤ hi
+not-without lo hi b e = go (within lo hi b) refl e
+  where
+    go : (t : Bool) → within lo hi b ≡ t → bitOf (not t) ≡ 0 → b ≤ hi
+    go true p z = within-bounds lo hi b (known p) .1
+    go false p z = absurd (omega arith)
 
 -- ---- behind a first byte
 
@@ -104,14 +128,14 @@ module _ (p b : ℕ) (c : isCont b ≡ true) (o : outsideOf p b ≡ 0) where
     first-three : p ≡ 0xE0 → Opened p b
     unfolding rows outsideOf
     first-three e =
-        let z : bitOf (leb b 0x9F) ≡ 0 = omega (arith, rw e at o) in
-        three 0xA0 0xBF (lead-row 2 0xE0 0xE0 tt (omega arith) (omega arith)) (bit-under b 0x9F z) (cont-bounds b c .1)
+        let z : bitOf (within 0x80 0x9F b) ≡ 0 = omega (arith, rw e at o) in
+        three 0xA0 0xBF (lead-row 2 0xE0 0xE0 tt (omega arith) (omega arith)) (not-within 0x80 0x9F b z (cont-bounds b c .0)) (cont-bounds b c .1)
 
     surrogate : p ≡ 0xED → Opened p b
     unfolding rows outsideOf
     surrogate e =
-        let z : bitOf (leb 0xA0 b) ≡ 0 = omega (arith, rw e at o) in
-        three 0x80 0x9F (lead-row 5 0xED 0xED tt (omega arith) (omega arith)) (cont-bounds b c .0) (omega (arith, bit-under 0xA0 b z))
+        let z : bitOf (not (within 0x80 0x9F b)) ≡ 0 = omega (arith, rw e at o) in
+        three 0x80 0x9F (lead-row 5 0xED 0xED tt (omega arith) (omega arith)) (cont-bounds b c .0) (not-without 0x80 0x9F b z)
 
     of-three : Opened p b
     unfolding rows
@@ -135,14 +159,14 @@ module _ (p b : ℕ) (c : isCont b ≡ true) (o : outsideOf p b ≡ 0) where
     first-four : p ≡ 0xF0 → Opened p b
     unfolding rows outsideOf
     first-four e =
-        let z : bitOf (leb b 0x8F) ≡ 0 = omega (arith, rw e at o) in
-        four 0x90 0xBF (lead-row 6 0xF0 0xF0 tt (omega arith) (omega arith)) (bit-under b 0x8F z) (cont-bounds b c .1)
+        let z : bitOf (within 0x80 0x8F b) ≡ 0 = omega (arith, rw e at o) in
+        four 0x90 0xBF (lead-row 6 0xF0 0xF0 tt (omega arith) (omega arith)) (not-within 0x80 0x8F b z (cont-bounds b c .0)) (cont-bounds b c .1)
 
     last-four : p ≡ 0xF4 → Opened p b
     unfolding rows outsideOf
     last-four e =
-        let z : bitOf (leb 0x90 b) ≡ 0 = omega (arith, rw e at o) in
-        four 0x80 0x8F (lead-row 8 0xF4 0xF4 tt (omega arith) (omega arith)) (cont-bounds b c .0) (omega (arith, bit-under 0x90 b z))
+        let z : bitOf (not (within 0x80 0x8F b)) ≡ 0 = omega (arith, rw e at o) in
+        four 0x80 0x8F (lead-row 8 0xF4 0xF4 tt (omega arith) (omega arith)) (cont-bounds b c .0) (not-without 0x80 0x8F b z)
 
     of-four : Opened p b
     unfolding rows
@@ -233,8 +257,8 @@ module _ (p3 p2 p1 b : ℕ) (f : Fine p3 p2 p1 b) where
       go true e = omega (arith, bit-no 0xC0 b (omega (arith, cont-bounds b e)))
       go false e = omega (arith, bit-le (leb 0xC0 b))
 
-  single-on : dueOf p2 p1 b ≤ 1
-  unfolding dueOf
+  single-on : asking p2 p1 b ≤ 1
+  unfolding asking
   single-on = omega (arith, f .due, apart, bit-mono 0xE0 p1 0xC0 (omega arith), bit-mono 0xF0 p2 0xE0 (omega arith))
 
   -- the character ends behind b, or goes on
@@ -269,7 +293,7 @@ num-bit t i h = go (isCont (getD t i 0)) refl
 module _ (t : List ℕ) (i conts : ℕ) where
   -- at the end of a character
   pub window-first : (r : ℕ) → Passed t i conts → 3 ≤ i → r ≡ before heldOf t i → r ≡ 0 → Window t i conts
-  unfolding heldOf dueOf
+  unfolding heldOf asking
   window-first r s h e z =
       let none : before heldOf t i ≡ 0 = omega arith in
       let l = bit-under 0xC0 (getD t (i - 1) 0) (omega arith) in
@@ -294,7 +318,7 @@ module _ (t : List ℕ) (i conts : ℕ) where
     window-end r e z = passed-same t (window-back r e) (omega arith) (omega arith)
 
     pub window-room : (r : ℕ) → r ≡ before heldOf t i → r ≤ i
-    unfolding heldOf dueOf
+    unfolding heldOf asking
     window-room r e = let l = w .three in let s = w .single in omega arith
 
     module _ (h : i < length t) (e : before offOf t i (getD t i 0) ≡ 0) where
@@ -304,7 +328,7 @@ module _ (t : List ℕ) (i conts : ℕ) where
           let p2 = getD t (i - 2) 0 in
           let p1 = getD t (i - 1) 0 in
           let b = getD t i 0 in
-          let f = fine p3 p2 p1 b e in
+          let f = fine p3 p2 p1 b (w .single) e in
           let l = w .three in
           let u = bit-le (isCont b) in
           let n : i + 1 + numChars (drop (i + 1) t) ≡ conts + bitOf (isCont b) + numChars t = omega (arith, w .num, num-bit t i h) in
@@ -321,7 +345,7 @@ module _ (t : List ℕ) (i conts : ℕ) where
             few = omega (arith, w .few);
             num = n;
             begins = ap (λ j. neverOf (getD t j 0)) z ∙ f .begins;
-            single = rw (shift dueOf t i l) (single-on p3 p2 p1 b f);
+            single = rw (shift asking t i l) (single-on p3 p2 p1 b f);
             enough = ⊎-elim (λ x. omega (arith, held)) (λ x. omega (arith, held, w .enough)) on;
             ahead = a;
             behind = λ m q.
@@ -334,6 +358,18 @@ module _ (t : List ℕ) (i conts : ℕ) where
                 (λ x. passed-same t (w .behind (heldOf p3 p2 p1) refl) (omega (arith, held)) (omega (arith, held, w .enough)))
                 on;
           }
+
+-- over sixteen ASCII bytes, where no character is to go on
+pub window-plain : (t : List ℕ) (i conts r : ℕ) {b : Bool} → Window t i conts → r ≡ before heldOf t i → r ≡ 0 → b ≡ allOf isAscii (take 16 (drop i t)) → b ≡ true → i + 16 ≤ length t → Window t (i + 16) conts
+unfolding heldOf
+window-plain t i conts r w e z p q h =
+    let three = w .three in
+    let run = runs-more t i i 16 (runs-none t i (omega arith)) p q h in
+    let low : (k m : ℕ) → i ≤ k → k < i + 16 → 0x80 ≤ m → bitOf (leb m (getD t k 0)) ≡ 0 =
+    λ k m l u g. bit-no m (getD t k 0) (omega (arith, runs-byte t i (i + 16) k run l u)) in
+    let none : 0 ≡ before heldOf t (i + 16) =
+    omega (arith, low (i + 16 - 1) 0xC0 (omega arith) (omega arith) (omega arith), low (i + 16 - 2) 0xE0 (omega arith) (omega arith) (omega arith), low (i + 16 - 3) 0xF0 (omega arith) (omega arith) (omega arith)) in
+    window-first t (i + 16) conts 0 (passed-run t i (i + 16) conts (window-end t i conts w r e z) run) (omega arith) none refl
 
 -- ---- many bytes
 

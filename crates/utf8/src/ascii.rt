@@ -3,7 +3,7 @@ ghost use mathlib.Core.Path.{_≡_};
 ghost use Prim.Native.Nat.{_+_, _≤_, _<_};
 ghost use lib.ListN.{length, getD, take, drop};
 ghost use Rattle.utf8.specs.Chars.{allOf};
-ghost use Rattle.utf8.specs.Ascii.{isAscii, wordOf, Tops, Runs};
+ghost use Rattle.utf8.specs.Ascii.{isAscii, wordOf, aheadOf, Tops, Runs};
 
 fn wide(b: u8) -> u64
     ensures { λ r. ⌜ r ≡ b ⌝ }
@@ -27,7 +27,7 @@ fn word(text: &[u8], at: usize) -> u64
 }
 
 // Whether the bytes at `at` are ASCII: no top bit is set.
-fn eight(text: &[u8], at: usize) -> bool
+pub(crate) fn eight(text: &[u8], at: usize) -> bool
     requires { ⌜ at + 8 ≤ length (now text) ⌝ }
     ensures { λ r. ⌜ r ≡ allOf isAscii (take 8 (drop at (now (text .entry)))) ⌝ }
 {
@@ -42,6 +42,14 @@ fn sixteen(text: &[u8], at: usize) -> u64
     word(text, at) | word(text, at + 8)
 }
 
+// Whether the sixteen bytes at `at` are ASCII.
+pub(crate) fn plain(text: &[u8], at: usize) -> bool
+    requires { ⌜ at + 16 ≤ length (now text) ⌝ }
+    ensures { λ r. ⌜ r ≡ allOf isAscii (take 16 (drop at (now (text .entry)))) ⌝ }
+{
+    sixteen(text, at) & 0x8080_8080_8080_8080 == 0
+}
+
 fn thirty_two(text: &[u8], at: usize) -> u64
     requires { ⌜ at + 32 ≤ length (now text) ⌝ }
     ensures { λ r. ⌜ Tops r (take 32 (drop at (now (text .entry)))) ⌝ }
@@ -54,6 +62,17 @@ fn sixty_four(text: &[u8], at: usize) -> bool
     ensures { λ r. ⌜ r ≡ allOf isAscii (take 64 (drop at (now (text .entry)))) ⌝ }
 {
     (thirty_two(text, at) | thirty_two(text, at + 32)) & 0x8080_8080_8080_8080 == 0
+}
+
+// Whether the sixty-four bytes at `at` are there and ASCII.
+pub(crate) fn ahead(text: &[u8], at: usize) -> bool
+    requires { ⌜ at ≤ length (now text) ⌝ }
+    ensures { λ r. ⌜ r ≡ aheadOf (now (text .entry)) at ⌝ }
+{
+    if text.len() - at < 64 {
+        return false;
+    }
+    sixty_four(text, at)
 }
 
 fn by_sixty_four(text: &[u8], at: usize) -> usize

@@ -1,11 +1,10 @@
 // Blocks of bytes, gone through without a branch for each byte, so that the compiler takes many at once.
 use crate::Spot;
 ghost use mathlib.Core.Path.{_≡_};
-ghost use mathlib.Core.Bool.{_&&_};
+ghost use mathlib.Core.Bool.{_&&_, _||_};
 ghost use Prim.Native.Nat.{_+_, _≤_};
-ghost use lib.ListN.{length, getD};
+ghost use lib.ListN.{length};
 ghost use Rattle.utf8.specs.Chars.{numChars};
-ghost use Rattle.utf8.specs.Ascii.{isAscii};
 ghost use Rattle.utf8.specs.Passed.{Passed};
 ghost use Rattle.utf8.specs.Block.{bitOf, dueOf, heldOf, neverOf, outsideOf, offOf, before, Window, Goes};
 
@@ -37,11 +36,17 @@ fn both(a: bool, b: bool) -> u8
     bit(a && b)
 }
 
-// 1 where a continuation must follow these three bytes.
-fn due(p3: u8, p2: u8, p1: u8) -> u8
-    ensures { λ r. ⌜ (r ≡ dueOf p3 p2 p1) × (r ≤ 3) ⌝ }
+fn either(a: bool, b: bool) -> bool
+    ensures { λ r. ⌜ r ≡ (a || b) ⌝ }
 {
-    bit(0xC0 <= p1) + bit(0xE0 <= p2) + bit(0xF0 <= p3)
+    a || b
+}
+
+// Whether a continuation must follow these three bytes.
+fn due(p3: u8, p2: u8, p1: u8) -> bool
+    ensures { λ r. ⌜ r ≡ dueOf p3 p2 p1 ⌝ }
+{
+    either(0xC0 <= p1, either(0xE0 <= p2, 0xF0 <= p3))
 }
 
 // Not 0 where b neither begins a character nor continues one.
@@ -55,17 +60,19 @@ fn never(b: u8) -> u8
 fn outside(p: u8, b: u8) -> u8
     ensures { λ r. ⌜ (r ≡ outsideOf p b) × (r ≤ 4) ⌝ }
 {
-    both(p == 0xE0, b <= 0x9F)
-        + both(p == 0xED, 0xA0 <= b)
-        + both(p == 0xF0, b <= 0x8F)
-        + both(p == 0xF4, 0x90 <= b)
+    let low = crate::in_range(b, 0x80, 0x9F);
+    let lowest = crate::in_range(b, 0x80, 0x8F);
+    both(p == 0xE0, low)
+        + both(p == 0xED, !low)
+        + both(p == 0xF0, lowest)
+        + both(p == 0xF4, !lowest)
 }
 
 // 0 only where b may stand behind the three bytes.
 fn off(p3: u8, p2: u8, p1: u8, b: u8) -> u8
     ensures { λ r. ⌜ (r ≡ offOf p3 p2 p1 b) × (r ≤ 8) ⌝ }
 {
-    bit(bit(crate::is_cont(b)) != due(p3, p2, p1)) + never(b) + outside(p1, b)
+    bit(bit(crate::is_cont(b)) != bit(due(p3, p2, p1))) + never(b) + outside(p1, b)
 }
 
 // What sixteen bytes are found to be: bad is 0 only where they go on well.
@@ -114,7 +121,7 @@ fn back(text: &[u8], i: usize, conts: usize) -> Spot
     }
 }
 
-// Over blocks that go on well, as long as they aren't ASCII for the most part.
+// Over blocks that go on well, up to much ASCII.
 fn pass(text: &[u8], from: usize, passed: usize) -> Spot
     requires { ⌜ Window (now text) from passed ⌝ }
     ensures { λ s. ⌜ Passed (now (text .entry)) (s .at) (s .conts) ⌝ }
@@ -122,28 +129,27 @@ fn pass(text: &[u8], from: usize, passed: usize) -> Spot
     let mut i = from;
     let mut conts = passed;
     while 16 <= text.len() - i {
-        let s = seen(text, i);
-        if s.bad != 0 {
-            return back(text, i, conts);
-        }
-        i += 16;
-        conts += s.conts as usize;
-        if s.conts < 4 {
-            return back(text, i, conts);
+        if crate::ascii::plain(text, i) {
+            if held(text, i) != 0 {
+                return back(text, i, conts);
+            }
+            i += 16;
+            if crate::ascii::ahead(text, i) {
+                return back(text, i, conts);
+            }
+        } else {
+            let s = seen(text, i);
+            if s.bad != 0 {
+                return back(text, i, conts);
+            }
+            i += 16;
+            conts += s.conts as usize;
         }
     }
     back(text, i, conts)
 }
 
-// Whether a character of two bytes at `at` has ASCII behind it.
-fn lone(text: &[u8], at: usize) -> bool
-    requires { ⌜ at + 4 ≤ length (now text) ⌝ }
-    ensures { λ r. ⌜ r ≡ (isAscii (getD (now (text .entry)) (at + 2) 0) && isAscii (getD (now (text .entry)) (at + 3) 0)) ⌝ }
-{
-    text[at + 2] < 0x80 && text[at + 3] < 0x80
-}
-
-// The same from the end of a character, where the three bytes before ask for nothing; one such character is no matter for blocks.
+// The same from the end of a character, where the three bytes before ask for nothing.
 pub(crate) fn blocks(text: &[u8], from: usize, conts: usize) -> Spot
     requires { ⌜ Passed (now text) from conts ⌝ }
     ensures { λ s. ⌜ Passed (now (text .entry)) (s .at) (s .conts) ⌝ }
@@ -152,9 +158,6 @@ pub(crate) fn blocks(text: &[u8], from: usize, conts: usize) -> Spot
         return Spot { at: from, conts };
     }
     if text.len() - from < 16 {
-        return Spot { at: from, conts };
-    }
-    if lone(text, from) {
         return Spot { at: from, conts };
     }
     if held(text, from) != 0 {

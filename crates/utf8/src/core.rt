@@ -1,7 +1,7 @@
 // What the layers above need of text in bytes.
 ghost use mathlib.Core.Path.{_≡_};
 ghost use mathlib.Core.List.{_++_};
-ghost use Prim.Native.Nat.{_+_, _≤_};
+ghost use Prim.Native.Nat.{_+_, _-_, _≤_};
 ghost use lib.Dec.{T};
 ghost use lib.ListN.{length, take, drop};
 ghost use Rattle.utf8.specs.Form.{wellFormed};
@@ -39,11 +39,15 @@ pub fn form_of(text: &[u8]) -> Form
     if j == text.len() {
         return Form::Chars(j);
     }
-    crate::finish(text, crate::forward(text, i))
+    let s = crate::forward(text, i);
+    if crate::ascii::last(text, s.at) == text.len() {
+        return Form::Chars(text.len() - s.conts);
+    }
+    crate::finish(text, s)
 }
 
 // The number of bytes that aren't continuations, byte by byte: for short texts.
-pub fn count(bytes: &[u8]) -> usize
+fn count(bytes: &[u8]) -> usize
     ensures { λ r. ⌜ (r ≡ numChars (now (bytes .entry))) × (r ≤ length (now (bytes .entry))) ⌝ }
 {
     let mut n: usize = 0;
@@ -55,6 +59,21 @@ pub fn count(bytes: &[u8]) -> usize
         i += 1;
     }
     n
+}
+
+// The same of text[at..to]; where it is short and the eight bytes there are ASCII, its bytes are its characters.
+pub fn count_in(text: &[u8], at: usize, to: usize) -> usize
+    requires { ⌜ (at ≤ to) × (to ≤ length (now text)) ⌝ }
+    ensures { λ r. ⌜ (r ≡ numChars (take (to - at) (drop at (now (text .entry))))) × (r ≤ to - at) ⌝ }
+{
+    if to - at <= 8 {
+        if 8 <= text.len() - at {
+            if crate::ascii::eight(text, at) {
+                return to - at;
+            }
+        }
+    }
+    count(&text[at..to])
 }
 
 // The place k characters after `at`, or the end where they run out: by the first bytes, as the text is well-formed.

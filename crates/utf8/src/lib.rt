@@ -156,8 +156,8 @@ pub(crate) struct Spot {
     pub conts: usize,
 }
 
-// Up to the last seven bytes or to an ill-formed character: many bytes at a time, ASCII or not, or one character, none
-// of which runs past the end.
+// Up to the last seven bytes or to an ill-formed character: by blocks where they go on well, else many ASCII bytes or one
+// character, none of which runs past the end.
 fn forward(text: &[u8], from: usize) -> Spot
     requires { ⌜ Passed (now text) from 0 ⌝ }
     ensures { λ s. ⌜ Passed (now (text .entry)) (s .at) (s .conts) ⌝ }
@@ -165,14 +165,14 @@ fn forward(text: &[u8], from: usize) -> Spot
     let mut i = from;
     let mut conts = 0;
     while 8 <= text.len() - i {
-        let b = text[i];
-        if b < 0x80 {
-            i = ascii::pass(text, i);
+        let s = block::blocks(text, i, conts);
+        if i < s.at {
+            i = ascii::bulk(text, s.at);
+            conts = s.conts;
         } else {
-            let s = block::blocks(text, i, conts);
-            if i < s.at {
-                i = s.at;
-                conts = s.conts;
+            let b = text[i];
+            if b < 0x80 {
+                i = ascii::pass(text, i);
             } else {
                 let Lead::Of { more, lo, hi } = lead_of(b) else {
                     return Spot { at: i, conts };

@@ -1,6 +1,6 @@
 use Prim.Native.Nat.{_+_}
 use native.Mathlib.Omega.{arith}
-use Rattle.operation.proofs.Answers.{check-1, check-2, check-2′, check-3, check-4, check-5, check-5′, check-0, has-header, few-entries, has-entries, sounds, Agreed, agreed}
+use Rattle.operation.proofs.Answers.{check-1, check-2, check-2′, check-3, check-4, check-5, check-5′, check-0, has-header, few-entries, has-entries, sounds, links, Agreed, agreed}
 use borrow.Author.Needs.{needs}
 use Rattle.operation.proofs.check.Statement.{statement}
 use Rattle.operation.proofs.check.Tie as tie
@@ -33,7 +33,7 @@ returns-3 : tie.Need-returns-3
 returns-3 c = search check-2′
 
 inserted-chars-requires : tie.Need-inserted-chars-requires
-inserted-chars-requires c κs = search sounds
+inserted-chars-requires c κs = (search needs, search needs, links _ _ (c .before .before .before .before .before .sum-up .ensures) (c .before .before .before .sums .given .0 .0) (c .before .before .before .sums .given .1), search sounds)
 
 enum-known-chars : tie.Need-enum-known-chars
 enum-known-chars c = search needs

@@ -1,53 +1,66 @@
-use Prim.Native.Nat.{_-_, _≤_}
-use mathlib.Core.Path.{_≡_}
 use native.Mathlib.Omega.{arith}
-use Rattle.operation.specs.Checks.{Tallied}
-use Rattle.operation.proofs.Checking.{tally-none, tally-more}
+use Rattle.operation.proofs.Checking.{parts-under, tally-parts}
 use borrow.Author.Needs.{needs}
 use Rattle.operation.proofs.checks.count_up.Statement.{statement}
 use Rattle.operation.proofs.checks.count_up.Tie as tie
 
-abbrev Inv-loop : tie.InvT-loop
-Inv-loop rec n t₀ k₀ t k = (k ≤ n) × Tallied rec k t
+all-counts-requires : tie.Need-all-counts-requires
+all-counts-requires c κs = search needs
 
-abbrev μ-loop : tie.MeasureT-loop
-μ-loop rec n t₀ k₀ t k = n - k
+any-requires : tie.Need-any-requires
+any-requires c κs = search needs
 
-loop-holds : tie.Need-loop-holds Inv-loop μ-loop
-loop-holds c = (search needs, tally-none _)
+returns : tie.Need-returns
+returns c = search needs
 
-kind-requires : tie.Need-kind-requires Inv-loop μ-loop
-kind-requires c κs = search needs
+part-requires : tie.Need-part-requires
+part-requires c κs = search needs
 
-count-requires : tie.Need-count-requires Inv-loop μ-loop
-count-requires c κs = search needs
+cast-inserts : tie.Need-cast-inserts
+cast-inserts c = search needs
 
-counted-requires : tie.Need-counted-requires Inv-loop μ-loop
-counted-requires c κs = search needs
+cast-kept : tie.Need-cast-kept
+cast-kept c = search needs
 
-add-k : tie.Need-add-k Inv-loop μ-loop
-add-k c = search needs
+sub-others : tie.Need-sub-others
+sub-others c = let h = parts-under _ _ _ _ (search needs) (c .before .before .before .before .all-counts .ensures) (c .before .before .part .ensures) in omega arith
 
-loop-less : tie.Need-loop-less Inv-loop μ-loop
-loop-less c = search needs
+sub-others-2 : tie.Need-sub-others-2
+sub-others-2 c = let h = parts-under _ _ _ _ (search needs) (c .before .before .before .before .all-counts .ensures) (c .before .before .part .ensures) in omega arith
 
-loop-again : tie.Need-loop-again Inv-loop μ-loop
-loop-again c = (search needs, search tally-more)
+cast-others : tie.Need-cast-others
+cast-others c = search needs
 
-returns : tie.Need-returns Inv-loop μ-loop
-returns c = let e : c .before .loop .k ≡ c .before .before .before .args .n = omega arith in rw (← e) (c .before .loop .inv .1)
+sub-others-3 : tie.Need-sub-others-3
+sub-others-3 c = let h = parts-under _ _ _ _ (search needs) (c .before .before .before .before .before .all-counts .ensures) (c .before .before .before .part .ensures) in omega arith
+
+cast-t9 : tie.Need-cast-t9
+cast-t9 c = search needs
+
+add-t11 : tie.Need-add-t11
+add-t11 c = search needs
+
+apart-requires : tie.Need-apart-requires
+apart-requires c κs = search needs
+
+returns-2 : tie.Need-returns-2
+returns-2 c = tally-parts _ _ _ _ (search needs) (c .before .before .before .before .before .before .before .all-counts .ensures) (c .before .before .before .before .before .part .ensures) _ (c .apart .ensures .0) (c .apart .ensures .1)
 
 pub count-up-spec : {M : Type 1} → statement M
 count-up-spec =
     tie.close
     (tie.spec
-    Inv-loop
-    μ-loop
-    loop-holds
-    kind-requires
-    count-requires
-    counted-requires
-    add-k
-    loop-less
-    loop-again
-    returns)
+    all-counts-requires
+    any-requires
+    returns
+    part-requires
+    cast-inserts
+    cast-kept
+    sub-others
+    sub-others-2
+    cast-others
+    sub-others-3
+    cast-t9
+    add-t11
+    apart-requires
+    returns-2)

@@ -3,25 +3,15 @@ use borrow.Author.Needs.{needs}
 use Rattle.utf8.proofs.block.due.Statement.{statement}
 use Rattle.utf8.proofs.block.due.Tie as tie
 
-bit-requires : tie.Need-bit-requires
-bit-requires c κs = search needs
+either-requires : tie.Need-either-requires
+either-requires c κs = search needs
 
-bit-requires-2 : tie.Need-bit-requires-2
-bit-requires-2 c κs = search needs
-
-add-result : tie.Need-add-result
-add-result c = search needs
-
-bit-requires-3 : tie.Need-bit-requires-3
-bit-requires-3 c κs = search needs
-
-add-result-2 : tie.Need-add-result-2
-add-result-2 c = search needs
+either-requires-2 : tie.Need-either-requires-2
+either-requires-2 c κs = search needs
 
 returns : tie.Need-returns
 unfolding dueOf
-returns c = search needs
+returns c = cc
 
 pub due-spec : {M : Type 1} → statement M
-due-spec =
-    tie.close (tie.spec bit-requires bit-requires-2 add-result bit-requires-3 add-result-2 returns)
+due-spec = tie.close (tie.spec either-requires either-requires-2 returns)

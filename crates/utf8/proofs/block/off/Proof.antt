@@ -15,6 +15,9 @@ due-requires c κs = search needs
 bit-requires-2 : tie.Need-bit-requires-2
 bit-requires-2 c κs = search needs
 
+bit-requires-3 : tie.Need-bit-requires-3
+bit-requires-3 c κs = search needs
+
 never-requires : tie.Need-never-requires
 never-requires c κs = search needs
 
@@ -39,6 +42,7 @@ off-spec =
     bit-requires
     due-requires
     bit-requires-2
+    bit-requires-3
     never-requires
     add-result
     outside-requires

@@ -3,6 +3,12 @@ use borrow.Author.Needs.{needs}
 use Rattle.utf8.proofs.block.outside.Statement.{statement}
 use Rattle.utf8.proofs.block.outside.Tie as tie
 
+in-range-requires : tie.Need-in-range-requires
+in-range-requires c κs = search needs
+
+in-range-requires-2 : tie.Need-in-range-requires-2
+in-range-requires-2 c κs = search needs
+
 both-requires : tie.Need-both-requires
 both-requires c κs = search needs
 
@@ -26,12 +32,14 @@ add-result-3 c = search needs
 
 returns : tie.Need-returns
 unfolding outsideOf
-returns c = search needs
+returns c = ((cc), search needs)
 
 pub outside-spec : {M : Type 1} → statement M
 outside-spec =
     tie.close
     (tie.spec
+    in-range-requires
+    in-range-requires-2
     both-requires
     both-requires-2
     add-result
