@@ -1,96 +1,122 @@
--- The operation added.
-use Prim.Native.Nat.{ℕ, _+_, _*_, _-_, _^_, _≤_, _<_}
-use native.Mathlib.Nat.{sub-zero}
+-- The record of the operations and the one added, as it is written.
+use Prim.Native.Nat.{ℕ, _+_, _-_, _≤_, _<_}
 use native.Mathlib.Omega.{arith}
-use mathlib.Core.Path.{_≡_, refl, ap, _∙_}
+use mathlib.Core.Path.{_≡_, refl, sym, ap, _∙_}
 use mathlib.Core.Bool.{Bool, true, false}
-use mathlib.Core.List.{List, [], _∷_, _++_, map, reverse, reverseAux}
+use mathlib.Core.List.{List, [], _++_, reverse, reverse-reverse}
 use lib.Dec.{T}
-use lib.ListN.{length, take, drop, length-append}
-use lib.Seq.{take-length}
+use lib.Seq.{take-all}
+use lib.ListN.{length, take, drop, length-append, length-reverse}
 use Rattle.utf8.specs.Form.{wellFormed}
-use Rattle.utf8.specs.Chars.{numChars}
-use Rattle.utf8.specs.Text.{Char, chars}
+use Rattle.utf8.specs.Text.{Char, chars, bytes}
 use Rattle.utf8.proofs.Tests.{known}
 use Rattle.utf8.proofs.Texts.{bytes-chars}
+use Rattle.operation.specs.declared.Refusal.{Refusal}
 use Rattle.operation.specs.declared.Refusal.the-variants.{Limit}
+use Rattle.operation.specs.declared.Fact.{Fact}
 use Rattle.operation.specs.declared.Fact.the-variants as fact
+use Rattle.operation.specs.Answer.{factOf}
+use Rattle.operation.specs.Calls.{checkCall}
 use Rattle.operation.specs.Op.{Op, retain, insert, delete, takes}
-use Rattle.operation.specs.Record.{Seq, inBytes, inserted, text, fits, ops}
+use Rattle.operation.specs.Layout.{recordsOf, textBytesOf, textStart}
+use Rattle.operation.specs.Record.{Seq, inBytes, inserted, text, fits, ops, recordFault}
 use Rattle.operation.proofs.Sequences.{fits-limits}
+use Rattle.operation.proofs.Faults.{limits, faultless}
+use Rattle.operational_transform.specs.declared.Written.{Written}
 use Rattle.operational_transform.specs.declared.Written.the-variants as written
 use Rattle.operational_transform.specs.declared.core.Emitter.{Emitter}
-use Rattle.operational_transform.specs.Build.{add, addAll, extend}
+use Rattle.operational_transform.specs.Build.{add, extend}
 use Rattle.operational_transform.specs.Calls.{deliver}
-use Rattle.operational_transform.specs.Emit.{Under, Adds, Retains, Finishes, Done}
-use Rattle.operational_transform.proofs.Loops.{add-base, add-text, add-bytes}
-use Rattle.operational_transform.proofs.Adding.{under-more}
+use Rattle.operational_transform.specs.Emit.{over, one, flushed, textsOf, laid, group, settled, Done, headed, judged}
 use Rattle.operational_transform.specs.Given.{Gives}
-use Rattle.operational_transform.proofs.Giving.{gives-limit}
-use Rattle.builders.specs.declared.Added.{Added}
-use Rattle.builders.specs.declared.Added.the-variants.{Retain, Insert, Delete}
-use Rattle.builders.specs.Extending.{opOf, countOf, Pends, Repeats}
+use Rattle.operational_transform.proofs.Loops.{add-base}
+use Rattle.operational_transform.proofs.Over.{over-nil}
+use Rattle.operational_transform.proofs.Emitting.{flushed-few, group-text, group-length, lay-group}
+use Rattle.operational_transform.proofs.Delivering.{text-ahead}
+use Rattle.operational_transform.proofs.Giving.{gives-limit, gives-refused, gives-written, text-refused, no-text}
+use Rattle.builders.specs.Extending.{closedOf, Grown}
+use Rattle.builders.proofs.Growing.{add-texts}
 
--- ---- the operation added
+-- ---- `closed`, `finish`
 
-pub under-room : (e : Emitter) → Under (2 ^ 38) e → Under (2 ^ 40) e
-under-room e u = under-more (2 ^ 38) (2 ^ 40) e (omega arith) u
+module _ (f : Emitter) where
+  pub closes : {x y z : ℕ} → x ≡ one (f .ins) → y ≡ one (f .del) → z ≡ one (f .ret)
+      → record { ins = 0; del = 0; ret = 0; records = f .records + x + y + z; text = f .text; base = f .base; target = f .target } ≡ closedOf f
+  closes p q r = rw (p, q, r)
 
-module _ (x : Added) (t : List ℕ) where
-  pub few-retained : countOf x t ≤ 32768 → (k : ℕ) → x ≡ Retain k → k ≤ 65536
-  few-retained h k e = let l : k ≤ 32768 = rw e at h in omega arith
+-- ---- all that is written
 
-  pub few-deleted : countOf x t ≤ 32768 → (k : ℕ) → x ≡ Delete k → k ≤ 65536
-  few-deleted h k e = let l : k ≤ 32768 = rw e at h in omega arith
+module _ (r : List ℕ) (p : Op Char) (u : List ℕ) (f : Emitter) (a : Grown r p u f) where
+  -- the buffer, all but the sizes
+  abbrev laidOut : ℕ → List ℕ → List ℕ
+  laidOut n o = flushed n f (over (textStart n + textBytesOf r) u (settled (recordsOf r) n (f .records) (textBytesOf r) r o))
 
-  pub few-inserted : countOf x t ≤ 32768 → x ≡ Insert → length t - 0 ≤ 2 ^ 18
-  few-inserted h e = let l : length t ≤ 32768 = rw e at h in omega arith
+  grown-done : (n : ℕ) (o : List ℕ) → Done n (extend (ops r) p) o (closedOf f) (laidOut n o)
+  unfolding extend
+  grown-done n o =
+      let acc = add (reverse (ops r)) p in
+      let full = group (a .held) (f .del) (f .ret) (a .done) in
+      let t = group-text (a .held) (f .del) (f .ret) (a .done) in
+      let twice : full ≡ reverse (reverse acc) = sym (a .is) ∙ sym (reverse-reverse acc) in
+      record {
+        small = omega (arith, flushed-few f, a .under);
+        sizes = record {
+          records = sym (group-length f (a .held) (a .done) (a .records) (a .ins)) ∙ ap length (sym (a .is)) ∙ sym (length-reverse acc);
+          text-bytes = a .texts ∙ ap length (sym t ∙ ap textsOf (sym (a .is)) ∙ sym (text-ahead acc));
+          base-is = a .base-is;
+          target-is = a .target-is;
+        };
+        wrote = λ w.
+            lay-group f (a .held) (a .done) (a .records) (a .ins) n (textsOf (a .done) ++ bytes (a .held)) o _ w (a .wrote n o (omega arith))
+            ∙ ap (λ t. laid n full t o) (sym t)
+            ∙ ap (λ s. laid n s (textsOf s) o) twice;
+      }
 
-  pub few-whole : countOf x t ≤ 32768 → x ≡ Insert → length t ≤ 2 ^ 18
-  few-whole h e = let l : length t ≤ 32768 = rw e at h in omega arith
+  module _ (g : Emitter) (e : g ≡ closedOf f) (o : List ℕ) (v : Written) (j : v ≡ judged g (length o)) where
+    pub more-refused : (y : Refusal) → v ≡ written.Refused y → Gives (deliver 0 (extend (ops r) p) o) (written.Refused y) o
+    more-refused y q = gives-refused (extend (ops r) p) o (closedOf f) o (laidOut 0 o) (grown-done 0 o) v (j ∙ ap (λ h. judged h (length o)) e) y q
 
-  pub count-inserted : x ≡ Insert → length t ≡ countOf x t
-  count-inserted e = rw e
+    pub text-written : (k m t : ℕ) {o₁ o₂ : List ℕ} → v ≡ written.Bytes k → m ≡ recordsOf r → t ≡ textBytesOf r
+        → o₁ ≡ over (textStart (g .records) + t) u (settled m (g .records) (f .records) t r o) → o₂ ≡ headed g (flushed (g .records) f o₁)
+        → Gives (deliver 0 (extend (ops r) p) o) (written.Bytes k) o₂
+    text-written k m t {o₁} {o₂} q mp tp p₁ p₂ =
+        let n = g .records in
+        let same : o₁ ≡ over (textStart n + textBytesOf r) u (settled (recordsOf r) n (f .records) (textBytesOf r) r o) = p₁ ∙ (λ i. over (textStart n + tp i) u (settled (mp i) n (f .records) (tp i) r o)) in
+        let d : Done n (extend (ops r) p) o g (laidOut n o) = rw e (grown-done (closedOf f .records) o) in
+        gives-written (extend (ops r) p) o g o (laidOut n o) d v j k o₂ q (record { emitter = g; before = laidOut n o; done = d; is = p₂ ∙ ap (λ x. headed g (flushed n f x)) same })
 
-  module _ (n : ℕ) (e : Emitter) (o : List ℕ) (r : Emitter) where
-    pub added-retain : (k : ℕ) → x ≡ Retain k → Retains k e r → Adds n (opOf x t ∷ []) e o r o
-    added-retain k p a = rw p (a .adds n o)
+-- where no text is put in
+pub more-written : (r : List ℕ) (p : Op Char) (f : Emitter) (a : Grown r p [] f) (g : Emitter) (e : g ≡ closedOf f) (o : List ℕ) (v : Written) → v ≡ judged g (length o)
+    → (k m t : ℕ) {o₁ o₂ : List ℕ} → v ≡ written.Bytes k → m ≡ recordsOf r → t ≡ textBytesOf r
+    → o₁ ≡ settled m (g .records) (f .records) t r o → o₂ ≡ headed g (flushed (g .records) f o₁)
+    → Gives (deliver 0 (extend (ops r) p) o) (written.Bytes k) o₂
+more-written r p f a g e o v j k m t q mp tp p₁ p₂ = text-written r p [] f a g e o v j k m t q mp tp (p₁ ∙ sym (over-nil _ _)) p₂
 
-    pub added-whole : (o′ : List ℕ) → x ≡ Insert → Adds n (insert (chars t) ∷ []) e o r o′ → Adds n (opOf x t ∷ []) e o r o′
-    added-whole o′ p a = rw p a
+-- ---- what is needed to write it
 
-    pub added-delete : (k : ℕ) (o′ : List ℕ) → x ≡ Delete k → Adds n (delete k ∷ []) e o r o′ → Adds n (opOf x t ∷ []) e o r o′
-    added-delete k o′ p a = rw p a
+-- a checked record has all its text
+pub text-room : (r : List ℕ) (k t : ℕ) → recordFault r ≡ 0 → k ≡ recordsOf r → t ≡ textBytesOf r → textStart k + t ≤ length r
+text-room r k t z p q = omega (arith, limits r .0 (faultless r .0 z .in-limits))
 
--- the whole text, as a part of it
-whole-text : (t : List ℕ) → take (length t - 0) (drop 0 t) ≡ t
-whole-text t = ap (λ k. take k t) (sub-zero (length t)) ∙ take-length t
+pub before-few : (r : List ℕ) (p : Op Char) (u : List ℕ) (f : Emitter) → Grown r p u f → (k : ℕ) → k ≡ recordsOf r → f .records ≤ k
+before-few r p u f a k e = omega (arith, a .few)
 
-pub whole-well : (t : List ℕ) → T (wellFormed t) → T (wellFormed (take (length t - 0) (drop 0 t)))
-whole-well t w = rw (whole-text t) w
+-- `settle_with`
+pub settles-with : (m n k t at : ℕ) (r u o : List ℕ) {o₁ o₂ : List ℕ} → at ≡ textStart n → o₁ ≡ settled m n k t r o → o₂ ≡ over (at + t) (take (length u - 0) (drop 0 u)) o₁ → o₂ ≡ over (textStart n + t) u (settled m n k t r o)
+settles-with m n k t at r u o p q w =
+    let z = take-all (length u - 0) u (omega arith) in
+    w ∙ (λ i. over (p i + t) (z i) (q i))
 
-pub whole-chars : (t : List ℕ) (k : ℕ) → k ≡ numChars t → k ≡ numChars (take (length t - 0) (drop 0 t))
-whole-chars t k p = rw (whole-text t) p
+-- ---- the entries
 
-pub added-insert : (x : Added) (t : List ℕ) (n : ℕ) (e : Emitter) (o : List ℕ) (r : Emitter) (o′ : List ℕ) → x ≡ Insert
-    → Adds n (insert (chars (take (length t - 0) (drop 0 t))) ∷ []) e o r o′ → Adds n (opOf x t ∷ []) e o r o′
-added-insert x t n e o r o′ p a = rw p (rw (whole-text t) at a)
+module _ (r : List ℕ) (s : Seq) (o : List ℕ) where
+  pub record-refused : (f : Fact) → factOf f ≡ checkCall r → (x : Refusal) → f ≡ fact.Refused x → Gives (deliver (recordFault r) s o) (written.Refused x) o
+  record-refused f p x q = no-text s o r (written.Refused x) o (text-refused s o r [] f p x q)
 
--- ---- the record and the operation
-
-pub pends-under : (n : ℕ) (r : List ℕ) (p : Op Char) (o o₁ : List ℕ) (e e₁ : Emitter) → Pends r e → Adds n (p ∷ []) e o e₁ o₁ → Under (2 ^ 39) e₁
-pends-under n r p o o₁ e e₁ a b = under-more (2 ^ 38 + 270000 * 1) (2 ^ 39) e₁ (omega arith) (b .under (2 ^ 38) (a .under))
-
-module _ (n : ℕ) (r : List ℕ) (p : Op Char) (o o₁ o₂ : List ℕ) (e e₁ : Emitter) (a : Repeats n r o e o₁) (b : Adds n (p ∷ []) e o₁ e₁ o₂) where
-  pub added-done : (e₂ : Emitter) (o₃ : List ℕ) → Finishes n e₁ o₂ e₂ o₃ → Done n (extend (ops r) p) o e₂ o₃
-  unfolding extend addAll
-  added-done e₂ o₃ f = f .done o (add (reverse (ops r)) p) (b .keeps o (reverse (ops r)) (a .rep))
+  pub record-passed : recordFault r ≡ 0 → (w : Written) (o′ : List ℕ) → Gives (deliver 0 s o) w o′ → Gives (deliver (recordFault r) s o) w o′
+  record-passed z w o′ g = rw z g
 
 -- ---- 9, where the operation alone passes a limit
-
-map-reverse : {A B : Type 0} (f : A → B) (l m : List A) → map f (reverseAux l m) ≡ reverseAux (map f l) (map f m)
-map-reverse f [] m = refl
-map-reverse f (x ∷ l) m = map-reverse f l (x ∷ m)
 
 -- the result takes and inserts at least as much as the operation
 extend-takes : (s : Seq) (p : Op Char) → fits (extend s p) ≡ true → takes p ≤ 32768
@@ -100,20 +126,24 @@ extend-takes s p h = omega (arith, fits-limits (reverse (add (reverse s) p)) .0 
 extend-inserts : (s : Seq) (p : Op Char) → fits (extend s p) ≡ true → length (inserted (inBytes p)) ≤ 32768
 unfolding extend
 extend-inserts s p h =
-    let q = map inBytes (reverse s) in
-    let e : text (map inBytes (reverse (add (reverse s) p))) ≡ text (reverse q) ++ inserted (inBytes p) =
-    ap text (map-reverse inBytes (add (reverse s) p) [] ∙ ap reverse (add-bytes (reverse s) p)) ∙ add-text q (inBytes p) in
-    omega (arith, fits-limits (reverse (add (reverse s) p)) .0 (known h) .text-bytes, ap length e, length-append (text (reverse q)) (inserted (inBytes p)))
+    let w = reverse s in
+    let e = ap length (text-ahead (add w p) ∙ add-texts w p) in
+    omega (arith, fits-limits (reverse (add w p)) .0 (known h) .text-bytes, e, length-append (textsOf w) (inserted (inBytes p)))
 
-count-fits : (s : Seq) (x : Added) (t : List ℕ) → T (wellFormed t) → fits (extend s (opOf x t)) ≡ true → countOf x t ≤ 32768
-unfolding inBytes
-count-fits s (Retain n) t w h = extend-takes s (retain n) h
-count-fits s Insert t w h = rw (bytes-chars t w) at (extend-inserts s (insert (chars t)) h)
-count-fits s (Delete n) t w h = extend-takes s (delete n) h
+module _ (r o : List ℕ) where
+  limit-passed : (p : Op Char) → (fits (extend (ops r) p) ≡ true → ⊥) → Gives (deliver 0 (extend (ops r) p) o) (written.Refused Limit) o
+  limit-passed p f = gives-limit (extend (ops r) p) o (go (fits (extend (ops r) p)) refl)
+    where
+      go : (b : Bool) → fits (extend (ops r) p) ≡ b → b ≡ false
+      go true q = absurd (f q)
+      go false q = refl
 
-pub over-limit : (r o : List ℕ) (x : Added) (t : List ℕ) (k : ℕ) → T (wellFormed t) → k ≡ countOf x t → 32768 < k → Gives (deliver 0 (extend (ops r) (opOf x t)) o) (written.Refused Limit) o
-over-limit r o x t k w e h = gives-limit (extend (ops r) (opOf x t)) o (go (fits (extend (ops r) (opOf x t))) refl)
-  where
-    go : (b : Bool) → fits (extend (ops r) (opOf x t)) ≡ b → b ≡ false
-    go true p = absurd (omega (arith, count-fits (ops r) x t w p))
-    go false p = refl
+  pub retain-limit : (k : ℕ) → 32768 < k → Gives (deliver 0 (extend (ops r) (retain k)) o) (written.Refused Limit) o
+  retain-limit k h = limit-passed (retain k) (λ q. omega (arith, extend-takes (ops r) (retain k) q))
+
+  pub delete-limit : (k : ℕ) → 32768 < k → Gives (deliver 0 (extend (ops r) (delete k)) o) (written.Refused Limit) o
+  delete-limit k h = limit-passed (delete k) (λ q. omega (arith, extend-takes (ops r) (delete k) q))
+
+  pub insert-limit : (t : List ℕ) → T (wellFormed t) → 32768 < length t → Gives (deliver 0 (extend (ops r) (insert (chars t))) o) (written.Refused Limit) o
+  unfolding inBytes
+  insert-limit t w h = limit-passed (insert (chars t)) (λ q. omega (arith, extend-inserts (ops r) (insert (chars t)) q, ap length (bytes-chars t w)))

@@ -1,3 +1,3 @@
 -- builders
-pub mod Repeating
+pub mod Growing
 pub mod Extending

@@ -1,42 +1,40 @@
 -- What the functions below the builders promise each other. No entry's contract cites this.
-use Prim.Native.Nat.{ℕ, zero, suc, _^_, _≤_}
+use Prim.Native.Nat.{ℕ, zero, suc, _+_, _^_, _≤_}
+use mathlib.Core.Path.{_≡_}
 use mathlib.Core.Bool.{cond}
-use mathlib.Core.List.{List, reverse}
+use mathlib.Core.List.{List, _++_, reverse}
 use lib.Dec.{eqb}
 use lib.ListN.{length}
-use Rattle.utf8.specs.Text.{Char, chars}
-use Rattle.operation.specs.Op.{Op, retain, insert, delete}
-use Rattle.operation.specs.Layout.{recordsOf, textBytesOf, kindAt, countAt}
-use Rattle.operation.specs.Record.{ops}
+use Rattle.utf8.specs.Text.{Char, bytes}
+use Rattle.operation.specs.Op.{Op, base, target}
+use Rattle.operation.specs.Layout.{recordsOf, textBytesOf, textStart, kindAt, countAt}
+use Rattle.operation.specs.Record.{Seq, ops}
 use Rattle.operational_transform.specs.declared.core.Emitter.{Emitter}
-use Rattle.operational_transform.specs.Emit.{Under, Rep, settled}
-use Rattle.builders.specs.declared.Added.{Added}
-use Rattle.builders.specs.declared.Added.the-variants.{Retain, Insert, Delete}
-
--- the operation that is added, with its text
-abbrev pub opOf : Added → List ℕ → Op Char
-opOf (Retain n) t = retain n
-opOf Insert t = insert (chars t)
-opOf (Delete n) t = delete n
-
--- its count: an insert's in bytes
-abbrev pub countOf : Added → List ℕ → ℕ
-countOf (Retain n) t = n
-countOf Insert t = length t
-countOf (Delete n) t = n
+use Rattle.operational_transform.specs.Build.{add, extend}
+use Rattle.operational_transform.specs.Emit.{over, flushedRecords, Under, textsOf, laid, group, settled}
 
 -- the count of the record before record k, where it is of this kind; else 0
 unfoldable pub lastCount : List ℕ → ℕ → ℕ → ℕ
 lastCount r zero kind = 0
 lastCount r (suc k) kind = cond (eqb (kindAt r k) kind) (countAt r k) 0
 
--- the emitter has the record's last group pending, and stands for the record's operations once all before the group is in its place
-pub record Pends (r : List ℕ) (e : Emitter) : Type 0 where
-  pub few : e .records ≤ recordsOf r
-  pub under : Under (2 ^ 38) e
-  pub rep : (n : ℕ) (o : List ℕ) → Rep n o (reverse (ops r)) e (settled (recordsOf r) n (e .records) (textBytesOf r) r o)
+-- the numbers once the pending group is written
+abbrev pub closedOf : Emitter → Emitter
+closedOf f = record { ins = 0; del = 0; ret = 0; records = flushedRecords f; text = f .text; base = f .base; target = f .target }
 
--- the record's operations were emitted
-pub record Repeats (n : ℕ) (r o : List ℕ) (e : Emitter) (o′ : List ℕ) : Type 0 where
-  pub rep : Rep n o (reverse (ops r)) e o′
-  pub under : Under (2 ^ 38) e
+-- the emitter stands for the record's operations and the operation p, once the text u that p inserts and all records before the
+-- pending group are in their places
+pub record Grown (r : List ℕ) (p : Op Char) (u : List ℕ) (f : Emitter) : Type 0 where
+  pub few : f .records ≤ recordsOf r
+  pub under : Under (2 ^ 38) f
+  pub done : Seq
+  pub held : List Char
+  pub is : add (reverse (ops r)) p ≡ group held (f .del) (f .ret) done
+  pub ins : length (bytes held) ≡ f .ins
+  pub records : length done ≡ f .records
+  pub text-is : f .text ≡ textBytesOf r + length u
+  pub texts : f .text ≡ length (textsOf done ++ bytes held)
+  pub base-is : f .base ≡ base (extend (ops r) p)
+  pub target-is : f .target ≡ target (extend (ops r) p)
+  pub wrote : (n : ℕ) (o : List ℕ) → f .records ≤ n
+      → over (textStart n + textBytesOf r) u (settled (recordsOf r) n (f .records) (textBytesOf r) r o) ≡ laid n done (textsOf done ++ bytes held) o

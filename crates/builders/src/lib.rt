@@ -1,40 +1,30 @@
 // The Rust's `retain`, `delete` and `insert`, on records.
+//
+// One operation more changes the last one or two records only. All before them, and the text, is copied by blocks to its place in
+// the result; those that change are held by an emitter as its pending group, and written behind it.
 use operation::Fact;
 use operation::Refusal;
 use operational_transform::Written;
 use operational_transform::core::Emitter;
 use utf8::core::Form;
 ghost use mathlib.Core.Path.{_≡_};
-ghost use mathlib.Core.List.{[], _∷_};
+ghost use mathlib.Core.List.{[]};
 ghost use Prim.Native.Nat.{_+_, _^_, _≤_, _<_};
 ghost use lib.Dec.{T};
+ghost use lib.ListN.{length};
 ghost use Rattle.utf8.specs.Form.{wellFormed};
+ghost use Rattle.utf8.specs.Ascii.{Runs};
+ghost use Rattle.utf8.specs.Passed.{formOf};
 ghost use Rattle.utf8.specs.Chars.{numChars};
-ghost use Rattle.operation.specs.Layout.{recordsOf};
+ghost use Rattle.utf8.specs.Text.{chars};
+ghost use Rattle.operation.specs.Layout.{recordsOf, textStart};
+ghost use Rattle.operation.specs.Op.{retain, insert, delete};
 ghost use Rattle.operation.specs.Record.{ops, recordFault};
 ghost use Rattle.operational_transform.specs.Build.{extend};
-ghost use Rattle.operational_transform.specs.Calls.{textFault, deliver, retainCall, deleteCall, insertCall};
-ghost use Rattle.operational_transform.specs.Emit.{writtenOf, one, Under, Adds, Done, Writes};
+ghost use Rattle.operational_transform.specs.Calls.{deliver, retainCall, deleteCall, insertCall};
+ghost use Rattle.operational_transform.specs.Emit.{writtenOf, over, one, flushed, Under, headed, settled};
 ghost use Rattle.operational_transform.specs.Given.{Gives};
-ghost use Rattle.builders.specs.Extending.{opOf, countOf, lastCount, Pends};
-
-// The operation that is added: an insert's text goes with it.
-enum Added {
-    Retain(u64),
-    Insert,
-    Delete(u64),
-}
-
-// As a record would count it: an insert in bytes.
-fn count(x: Added, text: &[u8]) -> u64
-    ensures { λ r. ⌜ r ≡ countOf x (now (text .entry)) ⌝ }
-{
-    match x {
-        Added::Retain(n) => n,
-        Added::Insert => text.len() as u64,
-        Added::Delete(n) => n,
-    }
-}
+ghost use Rattle.builders.specs.Extending.{lastCount, closedOf, Grown};
 
 // The count of the record before record k, where it is of this kind; else 0.
 fn ending(rec: &[u8], records: usize, k: usize, kind: u8) -> usize
@@ -58,153 +48,236 @@ fn before(k: usize, count: usize) -> usize
     if count == 0 { k } else { k - 1 }
 }
 
-// The last group of the record, as pending: all before it is done.
-fn pending(rec: &[u8], records: usize) -> Emitter
-    requires { ⌜ (recordFault (now rec) ≡ 0) × (records ≡ recordsOf (now rec)) × (records ≤ 1024) ⌝ }
-    ensures { λ r. ⌜ Pends (now (rec .entry)) r ⌝ }
+fn some(c: usize) -> usize
+    ensures { λ r. ⌜ (r ≡ one c) × (r ≤ 1) ⌝ }
+{
+    if c == 0 { 0 } else { 1 }
+}
+
+// The sizes once the pending group is written.
+fn closed(f: Emitter) -> Emitter
+    requires { ⌜ Under (2 ^ 38) f ⌝ }
+    ensures { λ r. ⌜ (r ≡ closedOf f) × Under (2 ^ 40) r ⌝ }
+{
+    Emitter {
+        ins: 0,
+        del: 0,
+        ret: 0,
+        records: f.records + some(f.ins) + some(f.del) + some(f.ret),
+        text: f.text,
+        base: f.base,
+        target: f.target,
+    }
+}
+
+// The sequence with k characters more retained: the retain at its end is pending.
+fn retain_more(rec: &[u8], records: usize, k: usize) -> Emitter
+    requires { ⌜ (recordFault (now rec) ≡ 0) × (records ≡ recordsOf (now rec)) × (records ≤ 1024) × (k ≤ 32768) ⌝ }
+    ensures { λ r. ⌜ Grown (now (rec .entry)) (retain k) [] r × (r .ins ≡ 0) × (r .del ≡ 0) ⌝ }
 {
     let ret = ending(rec, records, records, 1);
-    let x = before(records, ret);
-    let del = ending(rec, records, x, 3);
-    let y = before(x, del);
-    let ins = ending(rec, records, y, 2);
-    let text = operation::core::size(rec) - operation::core::text_start(records);
     Emitter {
-        ins,
-        del,
-        ret,
-        records: before(y, ins),
-        text,
-        base: operation::core::base(rec),
+        ins: 0,
+        del: 0,
+        ret: ret + k,
+        records: before(records, ret),
+        text: operation::core::text_bytes(rec),
+        base: operation::core::base(rec) + k,
+        target: operation::core::target(rec) + k,
+    }
+}
+
+// With k characters more deleted: the delete at its end is pending.
+fn delete_more(rec: &[u8], records: usize, k: usize) -> Emitter
+    requires { ⌜ (recordFault (now rec) ≡ 0) × (records ≡ recordsOf (now rec)) × (records ≤ 1024) × (k ≤ 32768) ⌝ }
+    ensures { λ r. ⌜ Grown (now (rec .entry)) (delete k) [] r × (r .ins ≡ 0) × (r .ret ≡ 0) ⌝ }
+{
+    let del = ending(rec, records, records, 3);
+    Emitter {
+        ins: 0,
+        del: del + k,
+        ret: 0,
+        records: before(records, del),
+        text: operation::core::text_bytes(rec),
+        base: operation::core::base(rec) + k,
         target: operation::core::target(rec),
     }
 }
 
-fn add(out: &mut [u8], n: usize, e: Emitter, text: &[u8], chars: usize, x: Added) -> Emitter
-    requires { ⌜ (n ≤ 2 ^ 40) × Under (2 ^ 38) e × T (wellFormed (now text)) × (chars ≡ numChars (now text)) × (countOf x (now text) ≤ 32768) ⌝ }
-    ensures { λ r. ⌜ Adds n (opOf x (now (text .entry)) ∷ []) e (now (out .entry)) r (now (out .exit)) ⌝ }
+// With the text inserted: a delete at the end and the insert before it are pending. (`text` is what the contract speaks of.)
+fn insert_more(rec: &[u8], records: usize, text: &[u8], num: usize) -> Emitter
+    requires { ⌜ (recordFault (now rec) ≡ 0) × (records ≡ recordsOf (now rec)) × (records ≤ 1024) × T (wellFormed (now text)) × (num ≡ numChars (now text)) × (length (now text) ≤ 32768) ⌝ }
+    ensures { λ r. ⌜ Grown (now (rec .entry)) (insert (chars (now (text .entry)))) (now (text .entry)) r × (r .ret ≡ 0) ⌝ }
 {
-    match x {
-        Added::Retain(k) => operational_transform::core::retain(e, k as usize),
-        Added::Insert => {
-            operational_transform::core::insert(out, n, e, text, 0, text.len(), chars)
-        }
-        Added::Delete(k) => operational_transform::core::delete(out, n, e, k as usize),
+    let del = ending(rec, records, records, 3);
+    let y = before(records, del);
+    let ins = ending(rec, records, y, 2);
+    Emitter {
+        ins: ins + text.len(),
+        del,
+        ret: 0,
+        records: before(y, ins),
+        text: operation::core::text_bytes(rec) + text.len(),
+        base: operation::core::base(rec),
+        target: operation::core::target(rec) + num,
     }
 }
 
-// The numbers after the same; nothing is written.
-fn count_added(e: Emitter, text: &[u8], chars: usize, x: Added) -> Emitter
-    requires { ⌜ Under (2 ^ 38) e × T (wellFormed (now text)) × (chars ≡ numChars (now text)) × (countOf x (now text) ≤ 32768) ⌝ }
-    ensures { λ r. ⌜ Adds 0 (opOf x (now (text .entry)) ∷ []) e [] r [] ⌝ }
-{
-    match x {
-        Added::Retain(k) => operational_transform::core::retain(e, k as usize),
-        Added::Insert => operational_transform::core::count_insert(text, e, chars),
-        Added::Delete(k) => operational_transform::core::count_delete(e, k as usize),
-    }
-}
-
-// The sizes of the result, `e` being the record's last group. (`rec` is what the contract speaks of.)
-fn sized(rec: &[u8], e: Emitter, text: &[u8], chars: usize, x: Added) -> Emitter
-    requires { ⌜ Pends (now rec) e × T (wellFormed (now text)) × (chars ≡ numChars (now text)) × (countOf x (now text) ≤ 32768) ⌝ }
-    ensures { λ r. ⌜ Done 0 (extend (ops (now (rec .entry))) (opOf x (now (text .entry)))) [] r [] ⌝ }
-{
-    let f = count_added(e, text, chars, x);
-    operational_transform::core::close(f)
-}
-
-// The record and the operation, for a result of n records.
-fn run(
-    rec: &[u8],
-    records: usize,
-    e: Emitter,
-    text: &[u8],
-    chars: usize,
-    x: Added,
+// And more text behind it.
+fn settle_with(
     out: &mut [u8],
     n: usize,
-) -> Emitter
-    requires { ⌜ (recordFault (now rec) ≡ 0) × (records ≡ recordsOf (now rec)) × (records ≤ 1024) × Pends (now rec) e × T (wellFormed (now text)) × (chars ≡ numChars (now text)) × (countOf x (now text) ≤ 32768) × (n ≤ 2 ^ 40) ⌝ }
-    ensures { λ r. ⌜ Done n (extend (ops (now (rec .entry))) (opOf x (now (text .entry)))) (now (out .entry)) r (now (out .exit)) ⌝ }
-{
-    let bytes = operation::core::text_bytes(rec);
-    operational_transform::core::settle(out, n, rec, records, e.records, bytes);
-    let f = add(out, n, e, text, chars, x);
-    operational_transform::core::finish(out, n, f)
-}
-
-// The record of a result of n records.
-fn write(
     rec: &[u8],
     records: usize,
-    e: Emitter,
-    text: &[u8],
-    chars: usize,
-    x: Added,
-    out: &mut [u8],
-    n: usize,
+    k: usize,
+    bytes: usize,
+    more: &[u8],
 )
-    requires { ⌜ (recordFault (now rec) ≡ 0) × (records ≡ recordsOf (now rec)) × (records ≤ 1024) × Pends (now rec) e × T (wellFormed (now text)) × (chars ≡ numChars (now text)) × (countOf x (now text) ≤ 32768) × (n ≤ 2 ^ 40) ⌝ }
-    ensures { λ _. ⌜ Writes n (extend (ops (now (rec .entry))) (opOf x (now (text .entry)))) (now (out .entry)) (now (out .exit)) ⌝ }
+    requires { ⌜ (n ≤ 2 ^ 40) × (records ≤ 2 ^ 40) × (k ≤ records) × (bytes ≤ 2 ^ 40) × (textStart records + bytes ≤ length (now rec)) ⌝ }
+    ensures { λ _. ⌜ now (out .exit) ≡ over (textStart n + bytes) (now (more .entry)) (settled records n k bytes (now (rec .entry)) (now (out .entry))) ⌝ }
 {
-    let g = run(rec, records, e, text, chars, x, out, n);
+    operational_transform::core::settle(out, n, rec, records, k, bytes);
+    let at = operation::core::text_start(n) + bytes;
+    operational_transform::core::copy(out, at, more, 0, more.len());
+}
+
+// The pending group, and the sizes in front.
+fn finish(out: &mut [u8], f: Emitter, g: Emitter)
+    requires { ⌜ Under (2 ^ 38) f × Under (2 ^ 40) g ⌝ }
+    ensures { λ _. ⌜ now (out .exit) ≡ headed g (flushed (g .records) f (now (out .entry))) ⌝ }
+{
+    operational_transform::core::flush(out, g.records, f.records, f.ins, f.del, f.ret);
     operational_transform::core::header(out, g);
 }
 
-// Of a record and a text that were checked. What counts more than a limit lets no result within the limits.
-fn delivered(rec: &[u8], text: &[u8], chars: usize, x: Added, out: &mut [u8]) -> Written
-    requires { ⌜ (recordFault (now rec) ≡ 0) × T (wellFormed (now text)) × (chars ≡ numChars (now text)) ⌝ }
-    ensures { λ r. ⌜ Gives (deliver 0 (extend (ops (now (rec .entry))) (opOf x (now (text .entry)))) (now (out .entry))) r (now (out .exit)) ⌝ }
+// Of a record that was checked, and a count within the limits.
+fn retained(rec: &[u8], k: usize, out: &mut [u8]) -> Written
+    requires { ⌜ (recordFault (now rec) ≡ 0) × (k ≤ 32768) ⌝ }
+    ensures { λ r. ⌜ Gives (deliver 0 (extend (ops (now (rec .entry))) (retain k)) (now (out .entry))) r (now (out .exit)) ⌝ }
 {
-    let size = count(x, text);
-    if 32768 < size {
-        return Written::Refused(Refusal::Limit);
-    }
     let records = operation::core::records(rec);
-    let e = pending(rec, records);
-    let g = sized(rec, e, text, chars, x);
+    let f = retain_more(rec, records, k);
+    let g = closed(f);
     match operational_transform::core::judge(g, out.len()) {
         Written::Refused(y) => Written::Refused(y),
-        Written::Bytes(k) => {
-            write(rec, records, e, text, chars, x, out, g.records);
-            Written::Bytes(k)
+        Written::Bytes(b) => {
+            let bytes = operation::core::text_bytes(rec);
+            operational_transform::core::settle(out, g.records, rec, records, f.records, bytes);
+            finish(out, f, g);
+            Written::Bytes(b)
         }
     }
 }
 
-// Of any record and text, checked in this order.
-fn extended(rec: &[u8], text: &[u8], x: Added, out: &mut [u8]) -> Written
-    ensures { λ r. ⌜ Gives (deliver (textFault (now (rec .entry)) (now (text .entry))) (extend (ops (now (rec .entry))) (opOf x (now (text .entry)))) (now (out .entry))) r (now (out .exit)) ⌝ }
+fn deleted(rec: &[u8], k: usize, out: &mut [u8]) -> Written
+    requires { ⌜ (recordFault (now rec) ≡ 0) × (k ≤ 32768) ⌝ }
+    ensures { λ r. ⌜ Gives (deliver 0 (extend (ops (now (rec .entry))) (delete k)) (now (out .entry))) r (now (out .exit)) ⌝ }
+{
+    let records = operation::core::records(rec);
+    let f = delete_more(rec, records, k);
+    let g = closed(f);
+    match operational_transform::core::judge(g, out.len()) {
+        Written::Refused(y) => Written::Refused(y),
+        Written::Bytes(b) => {
+            let bytes = operation::core::text_bytes(rec);
+            operational_transform::core::settle(out, g.records, rec, records, f.records, bytes);
+            finish(out, f, g);
+            Written::Bytes(b)
+        }
+    }
+}
+
+fn inserted(rec: &[u8], text: &[u8], num: usize, out: &mut [u8]) -> Written
+    requires { ⌜ (recordFault (now rec) ≡ 0) × T (wellFormed (now text)) × (num ≡ numChars (now text)) × (length (now text) ≤ 32768) ⌝ }
+    ensures { λ r. ⌜ Gives (deliver 0 (extend (ops (now (rec .entry))) (insert (chars (now (text .entry))))) (now (out .entry))) r (now (out .exit)) ⌝ }
+{
+    let records = operation::core::records(rec);
+    let f = insert_more(rec, records, text, num);
+    let g = closed(f);
+    let room = out.len();
+    match operational_transform::core::judge(g, room) {
+        Written::Refused(y) => Written::Refused(y),
+        Written::Bytes(b) => {
+            let bytes = operation::core::text_bytes(rec);
+            settle_with(out, g.records, rec, records, f.records, bytes, text);
+            finish(out, f, g);
+            Written::Bytes(b)
+        }
+    }
+}
+
+// How many bytes at the front of a text of less than eight are ASCII; 0 of a longer one.
+fn short_run(text: &[u8]) -> usize
+    ensures { λ r. ⌜ Runs (now (text .entry)) 0 r ⌝ }
+{
+    if 8 <= text.len() {
+        return 0;
+    }
+    let mut i = 0;
+    while i < text.len() {
+        if 0x80 <= text[i] {
+            return i;
+        }
+        i += 1;
+    }
+    i
+}
+
+// A text that is typed is short, and ASCII for the most part.
+fn form_of(text: &[u8]) -> Form
+    ensures { λ r. ⌜ r ≡ formOf (now (text .entry)) ⌝ }
+{
+    let i = short_run(text);
+    if i == text.len() {
+        return Form::Chars(i);
+    }
+    utf8::core::form_of(text)
+}
+
+// The record with a retain of n characters behind it. What counts more than a limit lets no result within the limits.
+pub fn retain(rec: &[u8], n: u64, out: &mut [u8]) -> Written
+    ensures { λ r. ⌜ (writtenOf r ≡ retainCall (now (rec .entry)) n (now (out .entry)) .answer) × (now (out .exit) ≡ retainCall (now (rec .entry)) n (now (out .entry)) .out) ⌝ }
 {
     match operation::check(rec) {
         Fact::Refused(y) => Written::Refused(y),
         Fact::Is(_) => {
-            let Form::Chars(chars) = utf8::core::form_of(text) else {
-                return Written::Refused(Refusal::Utf8);
-            };
-            delivered(rec, text, chars, x, out)
+            if 32768 < n {
+                return Written::Refused(Refusal::Limit);
+            }
+            retained(rec, n as usize, out)
         }
     }
-}
-
-// The record with a retain of n characters behind it.
-pub fn retain(rec: &[u8], n: u64, out: &mut [u8]) -> Written
-    ensures { λ r. ⌜ (writtenOf r ≡ retainCall (now (rec .entry)) n (now (out .entry)) .answer) × (now (out .exit) ≡ retainCall (now (rec .entry)) n (now (out .entry)) .out) ⌝ }
-{
-    extended(rec, b"", Added::Retain(n), out)
 }
 
 // The record with a delete of n characters behind it.
 pub fn delete(rec: &[u8], n: u64, out: &mut [u8]) -> Written
     ensures { λ r. ⌜ (writtenOf r ≡ deleteCall (now (rec .entry)) n (now (out .entry)) .answer) × (now (out .exit) ≡ deleteCall (now (rec .entry)) n (now (out .entry)) .out) ⌝ }
 {
-    extended(rec, b"", Added::Delete(n), out)
+    match operation::check(rec) {
+        Fact::Refused(y) => Written::Refused(y),
+        Fact::Is(_) => {
+            if 32768 < n {
+                return Written::Refused(Refusal::Limit);
+            }
+            deleted(rec, n as usize, out)
+        }
+    }
 }
 
 // The record with the text inserted: behind its last operation, or before it where that is a delete.
 pub fn insert(rec: &[u8], text: &[u8], out: &mut [u8]) -> Written
     ensures { λ r. ⌜ (writtenOf r ≡ insertCall (now (rec .entry)) (now (text .entry)) (now (out .entry)) .answer) × (now (out .exit) ≡ insertCall (now (rec .entry)) (now (text .entry)) (now (out .entry)) .out) ⌝ }
 {
-    extended(rec, text, Added::Insert, out)
+    match operation::check(rec) {
+        Fact::Refused(y) => Written::Refused(y),
+        Fact::Is(_) => {
+            let Form::Chars(num) = form_of(text) else {
+                return Written::Refused(Refusal::Utf8);
+            };
+            if 32768 < text.len() {
+                return Written::Refused(Refusal::Limit);
+            }
+            inserted(rec, text, num, out)
+        }
+    }
 }

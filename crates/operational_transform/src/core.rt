@@ -105,7 +105,7 @@ fn emit(out: &mut [u8], n: usize, records: usize, kind: u8, count: usize) -> usi
 }
 
 // A group's records, by numbers: a struct would go through memory. The number of records afterwards.
-fn flush(out: &mut [u8], n: usize, records: usize, ins: usize, del: usize, ret: usize) -> usize
+pub fn flush(out: &mut [u8], n: usize, records: usize, ins: usize, del: usize, ret: usize) -> usize
     requires { ⌜ (n ≤ 2 ^ 40) × (records ≤ 2 ^ 40) ⌝ }
     ensures { λ r. ⌜ (r ≡ records + one ins + one del + one ret) × (r ≤ records + 3) × (now (out .exit) ≡ flushedAt n records ins del ret (now (out .entry))) ⌝ }
 {
@@ -254,43 +254,6 @@ pub fn part(
         return inserted(e, mid - from, k);
     }
     deleted(e, k)
-}
-
-// The numbers after the text is inserted, after k characters are deleted, and once no group is pending; nothing is written.
-pub fn count_insert(text: &[u8], e: Emitter, num: usize) -> Emitter
-    requires { ⌜ (length (now text) ≤ 2 ^ 18) × T (wellFormed (now text)) × (num ≡ numChars (now text)) × Under (2 ^ 40) e ⌝ }
-    ensures { λ r. ⌜ Adds 0 (insert (chars (now (text .entry))) ∷ []) e [] r [] ⌝ }
-{
-    let len = text.len();
-    if len == 0 {
-        return e;
-    }
-    inserted(e, len, num)
-}
-
-pub fn count_delete(e: Emitter, k: usize) -> Emitter
-    requires { ⌜ (k ≤ 65536) × Under (2 ^ 40) e ⌝ }
-    ensures { λ r. ⌜ Adds 0 (delete k ∷ []) e [] r [] ⌝ }
-{
-    if k == 0 {
-        return e;
-    }
-    deleted(e, k)
-}
-
-pub fn close(e: Emitter) -> Emitter
-    requires { ⌜ Under (2 ^ 39) e ⌝ }
-    ensures { λ r. ⌜ Finishes 0 e [] r [] ⌝ }
-{
-    Emitter {
-        ins: 0,
-        del: 0,
-        ret: 0,
-        records: e.records + some(e.ins) + some(e.del) + some(e.ret),
-        text: e.text,
-        base: e.base,
-        target: e.target,
-    }
 }
 
 // The pending group is written, too.

@@ -1,26 +1,58 @@
+use Rattle.operation.proofs.Answers.{passed}
+use Rattle.operation.specs.declared.Refusal.the-variants.{Limit}
+use Rattle.operational_transform.specs.declared.Written.the-variants as written
 use Rattle.operational_transform.specs.Calls.{deleteCall}
 use Rattle.operational_transform.specs.Given.{Gives}
-use Rattle.operational_transform.proofs.Giving.{no-text}
+use Rattle.builders.proofs.Extending.{delete-limit, record-refused, record-passed}
 use borrow.Author.Needs.{needs}
 use Rattle.builders.proofs.delete.Statement.{statement}
 use Rattle.builders.proofs.delete.Tie as tie
 
-slice-aggregate-extended : tie.Need-slice-aggregate-extended
-slice-aggregate-extended c = search needs
+check-requires : tie.Need-check-requires
+check-requires c κs = search needs
 
-extended-requires : tie.Need-extended-requires
-extended-requires c κs = search needs
+enum-known-y : tie.Need-enum-known-y
+enum-known-y c = search needs
 
-same-length : tie.Need-same-length
-same-length c = search needs
+enum-told : tie.Need-enum-told
+enum-told c = search needs
 
 returns : tie.Need-returns
 unfolding deleteCall
 returns c =
-    let a = c .before .before .before .before .before .before .before .args in
-    let r = c .before .before .extended in
-    let w : Gives (deleteCall (a .rec .now) (a .n) (a .out .now)) (r .result) (r .last .1 .1 .1 .0) = search no-text in
+    let a = c .before .before .before .before .before .before .args in
+    let w : Gives (deleteCall (a .rec .now) (a .n) (a .out .now)) (written.Refused Limit) (a .out .now) = search (passed, record-passed, delete-limit) in
+    (w .answer, w .out)
+
+deleted-requires : tie.Need-deleted-requires
+deleted-requires c κs = (search passed, search needs)
+
+returns-2 : tie.Need-returns-2
+unfolding deleteCall
+returns-2 c =
+    let a = c .before .before .before .before .before .before .args in
+    let w : Gives (deleteCall (a .rec .now) (a .n) (a .out .now)) (written.Refused (c .before .y .given .0 .0)) (a .out .now) = search (record-refused) in
+    (w .answer, w .out)
+
+same-length : tie.Need-same-length
+same-length c = search needs
+
+returns-3 : tie.Need-returns-3
+unfolding deleteCall
+returns-3 c =
+    let a = c .before .before .before .before .before .before .before .before .before .before .args in
+    let w : Gives (deleteCall (a .rec .now) (a .n) (a .out .now)) (c .before .before .deleted .result) (c .before .before .deleted .last .1 .1 .0) = search (passed, record-passed) in
     (w .answer, w .out)
 
 pub delete-spec : {M : Type 1} → statement M
-delete-spec = tie.close (tie.spec slice-aggregate-extended extended-requires same-length returns)
+delete-spec =
+    tie.close
+    (tie.spec
+    check-requires
+    enum-known-y
+    enum-told
+    returns
+    deleted-requires
+    returns-2
+    same-length
+    returns-3)

@@ -1,7 +1,8 @@
-use Rattle.operational_transform.proofs.Delivering.{closes}
+use native.Mathlib.Omega.{arith}
+use Rattle.builders.proofs.Extending.{closes}
 use borrow.Author.Needs.{needs}
-use Rattle.operational_transform.proofs.core.close.Statement.{statement}
-use Rattle.operational_transform.proofs.core.close.Tie as tie
+use Rattle.builders.proofs.closed.Statement.{statement}
+use Rattle.builders.proofs.closed.Tie as tie
 
 some-requires : tie.Need-some-requires
 some-requires c κs = search needs
@@ -22,8 +23,8 @@ add-t7 : tie.Need-add-t7
 add-t7 c = search needs
 
 returns : tie.Need-returns
-returns c = search closes
+returns c = (search closes, omega arith)
 
-pub close-spec : {M : Type 1} → statement M
-close-spec =
+pub closed-spec : {M : Type 1} → statement M
+closed-spec =
     tie.close (tie.spec some-requires add-t3 some-requires-2 add-t5 some-requires-3 add-t7 returns)
