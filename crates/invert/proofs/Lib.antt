@@ -1,3 +1,4 @@
 -- invert
 pub mod Passing
 pub mod Undoing
+pub mod Inverses

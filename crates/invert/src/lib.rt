@@ -6,16 +6,17 @@ use operational_transform::Written;
 use operational_transform::core::Emitter;
 use utf8::core::Form;
 ghost use mathlib.Core.Path.{_≡_};
-ghost use mathlib.Core.List.{[], _∷_};
-ghost use Prim.Native.Nat.{_-_, _^_, _≤_, _<_};
-ghost use lib.Dec.{T};
+ghost use mathlib.Core.Bool.{_&&_};
+ghost use mathlib.Core.List.{[], _∷_, map};
+ghost use Prim.Native.Nat.{_+_, _-_, _^_, _≤_, _<_};
+ghost use lib.Dec.{T, leb, eqb};
 ghost use lib.ListN.{length, take, drop};
 ghost use Rattle.utf8.specs.Form.{wellFormed};
 ghost use Rattle.utf8.specs.Chars.{numChars};
 ghost use Rattle.utf8.specs.Text.{chars as charsOf};
 ghost use Rattle.utf8.specs.Places.{Passes};
-ghost use Rattle.operation.specs.Layout.{recordsOf};
-ghost use Rattle.operation.specs.Record.{ops, recordFault};
+ghost use Rattle.operation.specs.Layout.{recordsOf, baseOf, textStart};
+ghost use Rattle.operation.specs.Record.{inBytes, text as textIn, ops, recordFault};
 ghost use Rattle.operational_transform.specs.Invert.{invert as invertOf};
 ghost use Rattle.operational_transform.specs.Calls.{deliver, invertCall};
 ghost use Rattle.operational_transform.specs.Emit.{writtenOf, Under, Adds, Done, Writes, Staged};
@@ -103,13 +104,38 @@ fn run(rec: &[u8], records: usize, text: &[u8], chars: usize, out: &mut [u8], n:
     operational_transform::core::finish(out, n, e)
 }
 
-// The record of a result of n records.
-fn write(rec: &[u8], records: usize, text: &[u8], chars: usize, out: &mut [u8], n: usize)
+// The record of a result of n records; how many bytes of text it has.
+fn write(rec: &[u8], records: usize, text: &[u8], chars: usize, out: &mut [u8], n: usize) -> usize
     requires { ⌜ (recordFault (now rec) ≡ 0) × (records ≡ recordsOf (now rec)) × (records ≤ 1024) × T (wellFormed (now text)) × (chars ≡ numChars (now text)) × (n ≤ 2 ^ 40) ⌝ }
-    ensures { λ _. ⌜ Writes n (invertOf (ops (now (rec .entry))) (charsOf (now (text .entry)))) (now (out .entry)) (now (out .exit)) ⌝ }
+    ensures { λ r. ⌜ Writes n (invertOf (ops (now (rec .entry))) (charsOf (now (text .entry)))) (now (out .entry)) (now (out .exit)) × (r ≡ length (textIn (map inBytes (invertOf (ops (now (rec .entry))) (charsOf (now (text .entry))))))) ⌝ }
 {
     let e = run(rec, records, text, chars, out, n);
     operational_transform::core::header(out, e);
+    e.text
+}
+
+// Whether nothing can be refused: on a text of base characters the inverse has as many records as the record, and no more text
+// than the text.
+fn evident(rec: &[u8], records: usize, text: &[u8], chars: usize, room: usize) -> bool
+    requires { ⌜ (recordFault (now rec) ≡ 0) × (records ≤ 1024) ⌝ }
+    ensures { λ r. ⌜ r ≡ (eqb chars (baseOf (now (rec .entry))) && (leb (length (now (text .entry))) 32768 && leb (textStart records + length (now (text .entry))) room)) ⌝ }
+{
+    if chars != operation::core::base(rec) {
+        return false;
+    }
+    if 32768 < text.len() {
+        return false;
+    }
+    operation::core::text_start(records) + text.len() <= room
+}
+
+// Where that is so, written to its place in one run.
+fn straight(rec: &[u8], records: usize, text: &[u8], chars: usize, out: &mut [u8]) -> Written
+    requires { ⌜ (recordFault (now rec) ≡ 0) × (records ≡ recordsOf (now rec)) × (records ≤ 1024) × T (wellFormed (now text)) × (chars ≡ numChars (now text)) × (chars ≡ baseOf (now rec)) × (length (now text) ≤ 32768) × (textStart records + length (now text) ≤ length (now out)) ⌝ }
+    ensures { λ r. ⌜ Gives (deliver 0 (invertOf (ops (now (rec .entry))) (charsOf (now (text .entry)))) (now (out .entry))) r (now (out .exit)) ⌝ }
+{
+    let bytes = write(rec, records, text, chars, out, records);
+    Written::Bytes(operation::core::text_start(records) + bytes)
 }
 
 // From a stage, if all of the result has a place there; else by a run of its own.
@@ -195,6 +221,9 @@ fn inverted(rec: &[u8], text: &[u8], chars: usize, out: &mut [u8]) -> Written
     ensures { λ r. ⌜ Gives (deliver 0 (invertOf (ops (now (rec .entry))) (charsOf (now (text .entry)))) (now (out .entry))) r (now (out .exit)) ⌝ }
 {
     let records = operation::core::records(rec);
+    if evident(rec, records, text, chars, out.len()) {
+        return straight(rec, records, text, chars, out);
+    }
     // what lies behind the counts is for text
     let least = operation::core::text_start(records);
     if 512 < least {
