@@ -1,35 +1,30 @@
 -- The steps of compose on fronts: whose turn it is, and what is given.
-use Prim.Native.Nat.{ℕ, _+_, _≤_, _<_}
+use Prim.Native.Nat.{ℕ, _≤_, _<_, min}
 use native.Mathlib.Omega.{arith}
 use mathlib.Core.Path.{_≡_, refl, sym, ap, ap₂, _∙_}
 use mathlib.Core.Logic.{_⊎_, inl, inr}
-use mathlib.Core.Bool.{Bool, true, false, cond, not, _&&_, false≢true}
+use mathlib.Core.Bool.{Bool, true, false, false≢true}
 use mathlib.Core.List.{List, [], _∷_}
 use lib.Dec.{eqb}
 use lib.ListN.{length}
-use borrow.Author.Tests.{eq-eqb, ne-eqb, eqb-true, eqb-false}
-use Rattle.utf8.specs.Form.{within}
+use borrow.Author.Tests.{eq-eqb, eqb-true, eqb-false}
 use Rattle.utf8.specs.Text.{Char, chars}
 use Rattle.utf8.proofs.Leads.{within-bounds}
 use Rattle.operation.specs.declared.core.Front.{Front}
-use Rattle.operation.specs.Op.{Op, retain, insert, delete, cut}
-use Rattle.operation.specs.Record.{Seq}
-use Rattle.operation.specs.Front.{frontText, frontOp, ahead, Stands}
-use Rattle.operation.proofs.Fronts.{op-retain, op-insert, op-delete}
+use Rattle.operation.specs.Op.{retain, insert, delete, cut}
+use Rattle.operation.specs.Front.{frontText, frontOp, Stands, Cut, Leaves}
+use Rattle.operation.proofs.Fronts.{op-retain, op-insert, op-delete, cut-all, cut-none}
 use Rattle.operational_transform.specs.declared.core.Emitter.{Emitter}
 use Rattle.operational_transform.specs.Align.{Step, one, two, both}
 use Rattle.operational_transform.specs.Align as align
-use Rattle.operational_transform.specs.Compose.{composeTurn, onto, made}
+use Rattle.operational_transform.specs.Compose.{composeTurn, made}
 use Rattle.operational_transform.specs.Emit.{Adds}
 use Rattle.operational_transform.proofs.Adding.{adds-nil, whole-op}
 use Rattle.turns.specs.declared.core.Turn.{Turn}
 use Rattle.turns.specs.declared.core.Turn.the-variants.{First, Second, Together}
-use Rattle.turns.specs.declared.core.Plan.{Plan}
-use Rattle.turns.specs.declared.core.Fronts.{Fronts}
-use Rattle.turns.specs.Turns.{liveIs, stepOf, Chosen, Chooses, Planned, Advances, Went}
-use Rattle.turns.proofs.Turning.{Moves, moves}
+use Rattle.turns.specs.Turns.{liveIs, stepOf, Chooses, Went}
+use Rattle.turns.proofs.Turning.{Moves, moves-first, moves-second, moves-together}
 use Rattle.turns.specs.declared.core.State.{State}
-use Rattle.compose.specs.Composing.{whoseIs}
 
 one-or-two : (r : List ℕ) (f : Front) → Stands r f → (f .kind ≡ 0 → ⊥) → (f .kind ≡ 3 → ⊥) → (f .kind ≡ 1) ⊎ (f .kind ≡ 2)
 one-or-two r f s p q = go (eqb (f .kind) 1) refl
@@ -40,56 +35,43 @@ one-or-two r f s p q = go (eqb (f .kind) 1) refl
 
 -- ---- whose turn it is
 
-module _ (i j : ℕ) where
-  pub whose-ended : i ≡ 0 → Second ≡ whoseIs i j
-  whose-ended e = rw (eq-eqb i 0 e)
+module _ (a b : List ℕ) (x y : Front) where
+  pub choose-delete : x .kind ≡ 3 → Chooses composeTurn a b x y First
+  choose-delete e =
+      record { chosen = (omega arith, inr (ap (λ o. composeTurn o (frontOp b y)) (op-delete a x (λ z. absurd (omega arith)) (λ z. absurd (omega arith))))) }
 
-  module _ (p : i ≡ 0 → ⊥) where
-    pub whose-other : j ≡ 0 → First ≡ whoseIs i j
-    whose-other e = rw (ne-eqb i 0 p, eq-eqb j 0 e)
-
-    module _ (q : j ≡ 0 → ⊥) where
-      pub whose-delete : i ≡ 3 → First ≡ whoseIs i j
-      whose-delete e = rw (ne-eqb i 0 p, ne-eqb j 0 q, eq-eqb i 3 e)
-
-      pub whose-insert : (i ≡ 3 → ⊥) → j ≡ 2 → Second ≡ whoseIs i j
-      whose-insert r e = rw (ne-eqb i 0 p, ne-eqb j 0 q, ne-eqb i 3 r, eq-eqb j 2 e)
-
-      pub whose-both : (i ≡ 3 → ⊥) → (j ≡ 2 → ⊥) → Together ≡ whoseIs i j
-      whose-both r s = rw (ne-eqb i 0 p, ne-eqb j 0 q, ne-eqb i 3 r, ne-eqb j 2 s)
-
-module _ (a b : List ℕ) (x y : Front) (sx : Stands a x) (sy : Stands b y) where
-  pub chooses : liveIs x y ≡ true → Chooses composeTurn a b x y (whoseIs (x .kind) (y .kind))
-  chooses l = go (eqb (x .kind) 0) (eqb (y .kind) 0) (eqb (x .kind) 3) (eqb (y .kind) 2) refl refl refl refl
+  pub choose-insert : Stands a x → (x .kind ≡ 3 → ⊥) → y .kind ≡ 2 → Chooses composeTurn a b x y Second
+  choose-insert s r e = record { chosen = (omega arith, go (eqb (x .kind) 0) refl) }
     where
-      go : (p q r s : Bool) → eqb (x .kind) 0 ≡ p → eqb (y .kind) 0 ≡ q → eqb (x .kind) 3 ≡ r → eqb (y .kind) 2 ≡ s
-          → Chooses composeTurn a b x y (cond p Second (cond q First (cond r First (cond s Second Together))))
-      go true true r s e f g h = absurd (false≢true (rw (e, f) at l))
-      go true false r s e f g h = let n = eqb-false (y .kind) 0 f in record { chosen = (omega arith, inl (eqb-true (x .kind) 0 e)) }
-      go false true r s e f g h = let n = eqb-false (x .kind) 0 e in record { chosen = (omega arith, inl (eqb-true (y .kind) 0 f)) }
-      go false false true s e f g h =
-          let n = eqb-true (x .kind) 3 g in
-          record { chosen = (omega arith, inr (ap (λ o. composeTurn o (frontOp b y)) (op-delete a x (λ z. absurd (omega arith)) (λ z. absurd (omega arith))))) }
-      go false false false true e f g h =
-          let m = eqb-true (y .kind) 2 h in
-          record { chosen = (omega arith, inr (insert-second (one-or-two a x sx (eqb-false (x .kind) 0 e) (eqb-false (x .kind) 3 g)))) }
-        where
-          insert-second : (x .kind ≡ 1) ⊎ (x .kind ≡ 2) → composeTurn (frontOp a x) (frontOp b y) ≡ align.second
-          insert-second (inl z) = ap₂ composeTurn (op-retain a x z) (op-insert b y (eqb-true (y .kind) 2 h))
-          insert-second (inr z) = ap₂ composeTurn (op-insert a x z) (op-insert b y (eqb-true (y .kind) 2 h))
-      go false false false false e f g h =
-          let m = eqb-false (x .kind) 0 e in
-          let n = eqb-false (y .kind) 0 f in
-          record { chosen = (omega arith, (omega arith, together (one-or-two a x sx m (eqb-false (x .kind) 3 g)) (eqb (y .kind) 1) refl)) }
-        where
-          together : (x .kind ≡ 1) ⊎ (x .kind ≡ 2) → (t : Bool) → eqb (y .kind) 1 ≡ t → composeTurn (frontOp a x) (frontOp b y) ≡ align.together
-          together (inl z) true t = ap₂ composeTurn (op-retain a x z) (op-retain b y (eqb-true (y .kind) 1 t))
-          together (inl z) false t = ap₂ composeTurn (op-retain a x z) (op-delete b y (eqb-false (y .kind) 1 t) (eqb-false (y .kind) 2 h))
-          together (inr z) true t = ap₂ composeTurn (op-insert a x z) (op-retain b y (eqb-true (y .kind) 1 t))
-          together (inr z) false t = ap₂ composeTurn (op-insert a x z) (op-delete b y (eqb-false (y .kind) 1 t) (eqb-false (y .kind) 2 h))
+      second : (x .kind ≡ 1) ⊎ (x .kind ≡ 2) → composeTurn (frontOp a x) (frontOp b y) ≡ align.second
+      second (inl z) = ap₂ composeTurn (op-retain a x z) (op-insert b y e)
+      second (inr z) = ap₂ composeTurn (op-insert a x z) (op-insert b y e)
 
-  pub chooses-by : (t : Turn) → liveIs x y ≡ true → t ≡ whoseIs (x .kind) (y .kind) → Chooses composeTurn a b x y t
-  chooses-by t l e = rw e (chooses l)
+      go : (t : Bool) → eqb (x .kind) 0 ≡ t → (x .kind ≡ 0) ⊎ (composeTurn (frontOp a x) (frontOp b y) ≡ align.second)
+      go true t = inl (eqb-true (x .kind) 0 t)
+      go false t = inr (second (one-or-two a x s (eqb-false (x .kind) 0 t) r))
+
+  pub choose-second : liveIs x y ≡ true → x .kind ≡ 0 → Chooses composeTurn a b x y Second
+  choose-second l e = record { chosen = (go (eqb (y .kind) 0) refl, inl e) }
+    where
+      go : (t : Bool) → eqb (y .kind) 0 ≡ t → 0 < y .kind
+      go true t = absurd (false≢true (rw (eq-eqb (x .kind) 0 e, t) at l))
+      go false t = let n = eqb-false (y .kind) 0 t in omega arith
+
+  module _ (p : x .kind ≡ 0 → ⊥) where
+    pub choose-first : y .kind ≡ 0 → Chooses composeTurn a b x y First
+    choose-first e = record { chosen = (omega arith, inl e) }
+
+    pub choose-both : Stands a x → (x .kind ≡ 3 → ⊥) → (y .kind ≡ 2 → ⊥) → (y .kind ≡ 0 → ⊥) → Chooses composeTurn a b x y Together
+    choose-both s r u q = record { chosen = (omega arith, (omega arith, together (one-or-two a x s p r) (eqb (y .kind) 1) refl)) }
+      where
+        together : (x .kind ≡ 1) ⊎ (x .kind ≡ 2) → (t : Bool) → eqb (y .kind) 1 ≡ t → composeTurn (frontOp a x) (frontOp b y) ≡ align.together
+        together (inl z) true t = ap₂ composeTurn (op-retain a x z) (op-retain b y (eqb-true (y .kind) 1 t))
+        together (inl z) false t = ap₂ composeTurn (op-retain a x z) (op-delete b y (eqb-false (y .kind) 1 t) u)
+        together (inr z) true t = ap₂ composeTurn (op-insert a x z) (op-retain b y (eqb-true (y .kind) 1 t))
+        together (inr z) false t = ap₂ composeTurn (op-insert a x z) (op-delete b y (eqb-false (y .kind) 1 t) u)
+
+pub ruleset Choose = (choose-delete, choose-insert, choose-second, choose-first, choose-both)
 
 -- ---- what is given
 
@@ -110,8 +92,23 @@ module _ (a b : List ℕ) (x y : Front) (c : Chooses composeTurn a b x y Togethe
       go true e = eqb-true (x .kind) 2 e
       go false e = absurd (first≢together (sym (ap (λ o. composeTurn o (frontOp b y)) (op-delete a x z (eqb-false (x .kind) 2 e))) ∙ turn-is))
 
-  second-keeps : (x .kind ≡ 1 → ⊥) → y .kind ≡ 2 → ⊥
-  second-keeps z e = second≢together (sym (ap₂ composeTurn (op-insert a x (first-inserts z)) (op-insert b y e)) ∙ turn-is)
+  pub first-retains : (x .kind ≡ 2 → ⊥) → x .kind ≡ 1
+  first-retains z = go (eqb (x .kind) 1) refl
+    where
+      go : (t : Bool) → eqb (x .kind) 1 ≡ t → x .kind ≡ 1
+      go true e = eqb-true (x .kind) 1 e
+      go false e = absurd (z (first-inserts (eqb-false (x .kind) 1 e)))
+
+  -- what goes together with the first's is no insert
+  second-keeps : y .kind ≡ 2 → ⊥
+  second-keeps e = go (eqb (x .kind) 1) refl
+    where
+      go : (t : Bool) → eqb (x .kind) 1 ≡ t → ⊥
+      go true t = second≢together (sym (ap₂ composeTurn (op-retain a x (eqb-true (x .kind) 1 t)) (op-insert b y e)) ∙ turn-is)
+      go false t = second≢together (sym (ap₂ composeTurn (op-insert a x (first-inserts (eqb-false (x .kind) 1 t))) (op-insert b y e)) ∙ turn-is)
+
+  pub second-deletes : Stands b y → (y .kind ≡ 1 → ⊥) → y .kind ≡ 3
+  second-deletes s z = let n = second-keeps in omega (arith, within-bounds 0 3 (y .kind) (s .known), c .chosen .1 .0)
 
 module _ (n : ℕ) (a b : List ℕ) (x y : Front) (k : ℕ) (e : Emitter) (o : List ℕ) where
   pub meet-retain : (r : Emitter) (o′ : List ℕ) → x .kind ≡ 1 → Adds n (cut k (frontOp b y) ∷ []) e o r o′ → Adds n (made (stepOf a b x y Together k)) e o r o′
@@ -125,23 +122,7 @@ module _ (n : ℕ) (a b : List ℕ) (x y : Front) (k : ℕ) (e : Emitter) (o : L
       rw (i, op-retain b y w) p
 
   pub meet-nothing : Chooses composeTurn a b x y Together → (x .kind ≡ 1 → ⊥) → (y .kind ≡ 1 → ⊥) → Adds n (made (stepOf a b x y Together k)) e o e o
-  meet-nothing c z w = rw (op-insert a x (first-inserts a b x y c z), op-delete b y w (second-keeps a b x y c z)) (adds-nil n e o)
-
-module _ (n : ℕ) (a b : List ℕ) (x y : Front) (t : Turn) (p : Plan) (e : Emitter) (o : List ℕ) (r : Emitter) (o′ : List ℕ) (h : Planned a b x y t p) where
-  pub give-first : t ≡ First → Stands a x → Adds n (cut (p .k) (frontOp a x) ∷ []) e o r o′ → Adds n (made (stepOf a b x y t (p .k))) e o r o′
-  give-first z s q = rw z (rw (by-first (rw z at (h .planned) .0)) at q)
-    where
-      by-first : p .k ≡ x .left → cut (p .k) (frontOp a x) ≡ frontOp a x
-      by-first m = ap (λ k. cut k (frontOp a x)) m ∙ whole-op a x s
-
-  pub give-second : t ≡ Second → Stands b y → Adds n (cut (p .k) (frontOp b y) ∷ []) e o r o′ → Adds n (made (stepOf a b x y t (p .k))) e o r o′
-  give-second z s q = rw z (rw (by-second (rw z at (h .planned) .0)) at q)
-    where
-      by-second : p .k ≡ y .left → cut (p .k) (frontOp b y) ≡ frontOp b y
-      by-second m = ap (λ k. cut k (frontOp b y)) m ∙ whole-op b y s
-
-  pub give-together : t ≡ Together → Adds n (made (stepOf a b x y Together (p .k))) e o r o′ → Adds n (made (stepOf a b x y t (p .k))) e o r o′
-  give-together z q = rw z q
+  meet-nothing c z w = rw (op-insert a x (first-inserts a b x y c z), op-delete b y w (second-keeps a b x y c)) (adds-nil n e o)
 
 made-few : (w : Step Char) → length (made w) ≤ 2
 made-few (one o) = omega arith
@@ -152,17 +133,94 @@ made-few (both (insert s) (insert t)) = omega arith
 made-few (both (insert s) (delete m)) = omega arith
 made-few (both (delete n) p) = omega arith
 
-pub went : (n : ℕ) (a b : List ℕ) (s : State) (o : List ℕ) (t : Turn) (p : Plan) (f : Emitter) (r : Fronts) (g h : Front) (o′ : List ℕ) → Stands a (s .x) → Stands b (s .y)
-    → liveIs (s .x) (s .y) ≡ true → t ≡ whoseIs (s .x .kind) (s .y .kind) → Planned a b (s .x) (s .y) t p → Advances a b (s .x) (s .y) t p r
-    → Adds n (made (stepOf a b (s .x) (s .y) t (p .k))) (s .e) o f o′ → g ≡ r .x → h ≡ r .y → Went composeTurn made n a b s o (record { x = g; y = h; e = f }) o′
-went n a b s o t p f r g h o′ sx sy l z q d u e i =
-    let m : Moves composeTurn a b (s .x) (s .y) t (p .k) r = moves composeTurn a b (s .x) (s .y) sx sy p r t (chooses-by a b (s .x) (s .y) sx sy t l z) q d in
-    rw (e, i) (record {
-      stands-x = m .stands-x;
-      stands-y = m .stands-y;
-      given = made (stepOf a b (s .x) (s .y) t (p .k));
-      adds = u;
-      few = made-few (stepOf a b (s .x) (s .y) t (p .k));
-      goes = λ acc. m .goes made acc;
-      less = m .less;
-    })
+-- ---- where a front is cut, and that the step uses some characters
+
+pub whole-cut : (r : List ℕ) (f : Front) → Stands r f → Cut r f (f .left) (f .to)
+whole-cut r f s = cut-all r f s (f .left) refl
+
+pub retain-cut : (r : List ℕ) (f : Front) (k : ℕ) → Stands r f → f .kind ≡ 1 → Cut r f k (f .to)
+retain-cut r f k s e = cut-none r f s k (s .none (λ z. absurd (omega arith)))
+
+module _ (a b : List ℕ) (x y : Front) where
+  pub second-cut : (k : ℕ) → Chooses composeTurn a b x y Together → Stands b y → Cut b y k (y .to)
+  second-cut k c s = cut-none b y s k (s .none (second-keeps a b x y c))
+
+  pub first-some : Chooses composeTurn a b x y First → Stands a x → 0 < x .left
+  first-some c s = s .some (c .chosen .0)
+
+  pub second-some : Chooses composeTurn a b x y Second → Stands b y → 0 < y .left
+  second-some c s = s .some (c .chosen .0)
+
+  pub both-first : Chooses composeTurn a b x y Together → Stands a x → 0 < x .left
+  both-first c s = s .some (c .chosen .0)
+
+  pub both-second : Chooses composeTurn a b x y Together → Stands b y → 0 < y .left
+  both-second c s = s .some (c .chosen .1 .0)
+
+pub ruleset Cuts = (whole-cut, retain-cut, second-cut, first-some, second-some, both-first, both-second)
+
+-- ---- the step
+
+module _ (n : ℕ) (a b : List ℕ) (s : State) (o : List ℕ) (f : Emitter) (o′ : List ℕ) (sx : Stands a (s .x)) (sy : Stands b (s .y)) where
+  went : (t : Turn) (k : ℕ) (g h : Front) → Moves composeTurn a b (s .x) (s .y) t k g h → Adds n (made (stepOf a b (s .x) (s .y) t k)) (s .e) o f o′
+      → Went composeTurn made n a b s o (record { x = g; y = h; e = f }) o′
+  went t k g h m u =
+      record {
+        stands-x = m .stands-x;
+        stands-y = m .stands-y;
+        given = made (stepOf a b (s .x) (s .y) t k);
+        adds = u;
+        few = made-few (stepOf a b (s .x) (s .y) t k);
+        goes = λ acc. m .goes made acc;
+        less = m .less;
+      }
+
+  pub went-first : (g : Front) → Chooses composeTurn a b (s .x) (s .y) First → Adds n (cut (s .x .left) (frontOp a (s .x)) ∷ []) (s .e) o f o′ → Leaves a (s .x) (s .x .left) g
+      → Went composeTurn made n a b s o (record { x = g; y = s .y; e = f }) o′
+  went-first g c u l =
+      went First (s .x .left) g (s .y) (moves-first composeTurn a b (s .x) (s .y) sx sy g (s .y) (c .chosen) l refl) (rw (whole-op a (s .x) sx) at u)
+
+  pub went-second : (h : Front) → Chooses composeTurn a b (s .x) (s .y) Second → Adds n (cut (s .y .left) (frontOp b (s .y)) ∷ []) (s .e) o f o′ → Leaves b (s .y) (s .y .left) h
+      → Went composeTurn made n a b s o (record { x = s .x; y = h; e = f }) o′
+  went-second h c u l =
+      went Second (s .y .left) (s .x) h (moves-second composeTurn a b (s .x) (s .y) sx sy (s .x) h (c .chosen) refl l) (rw (whole-op b (s .y) sy) at u)
+
+  module _ (g h : Front) (c : Chooses composeTurn a b (s .x) (s .y) Together) where
+    went-both : (k : ℕ) → k ≡ min (s .x .left) (s .y .left) → Leaves a (s .x) k g → Leaves b (s .y) k h → Adds n (made (stepOf a b (s .x) (s .y) Together k)) (s .e) o f o′
+        → Went composeTurn made n a b s o (record { x = g; y = h; e = f }) o′
+    went-both k e l m u = went Together k g h (moves-together composeTurn a b (s .x) (s .y) sx sy g h k (c .chosen) e l m) u
+
+    -- what the first retains
+    module _ (z : s .x .kind ≡ 1) where
+      pub retained-less : s .x .left < s .y .left → Adds n (cut (s .x .left) (frontOp b (s .y)) ∷ []) (s .e) o f o′ → Leaves a (s .x) (s .x .left) g → Leaves b (s .y) (s .x .left) h
+          → Went composeTurn made n a b s o (record { x = g; y = h; e = f }) o′
+      retained-less w u l m =
+          went-both (s .x .left) (omega arith) l m (meet-retain n a b (s .x) (s .y) (s .x .left) (s .e) o f o′ z u)
+
+      pub retained-more : (s .x .left < s .y .left → ⊥) → Adds n (cut (s .y .left) (frontOp b (s .y)) ∷ []) (s .e) o f o′ → Leaves a (s .x) (s .y .left) g → Leaves b (s .y) (s .y .left) h
+          → Went composeTurn made n a b s o (record { x = g; y = h; e = f }) o′
+      retained-more w u l m =
+          went-both (s .y .left) (omega arith) l m (meet-retain n a b (s .x) (s .y) (s .y .left) (s .e) o f o′ z u)
+
+    -- what it inserts, and the second retains
+    module _ (z : s .x .kind ≡ 2) (v : s .y .kind ≡ 1) where
+      pub inserted-less : s .x .left < s .y .left → Adds n (cut (s .x .left) (frontOp a (s .x)) ∷ []) (s .e) o f o′ → Leaves a (s .x) (s .x .left) g → Leaves b (s .y) (s .x .left) h
+          → Went composeTurn made n a b s o (record { x = g; y = h; e = f }) o′
+      inserted-less w u l m =
+          went-both (s .x .left) (omega arith) l m (meet-insert n a b (s .x) (s .y) (s .x .left) (s .e) o f o′ c (λ q. absurd (omega arith)) v u)
+
+      pub inserted-more : (s .x .left < s .y .left → ⊥) → Adds n (cut (s .y .left) (frontOp a (s .x)) ∷ []) (s .e) o f o′ → Leaves a (s .x) (s .y .left) g
+          → Leaves b (s .y) (s .y .left) h → Went composeTurn made n a b s o (record { x = g; y = h; e = f }) o′
+      inserted-more w u l m =
+          went-both (s .y .left) (omega arith) l m (meet-insert n a b (s .x) (s .y) (s .y .left) (s .e) o f o′ c (λ q. absurd (omega arith)) v u)
+
+-- what it inserts, and the second deletes
+module _ (n : ℕ) (a b : List ℕ) (s : State) (o : List ℕ) (sx : Stands a (s .x)) (sy : Stands b (s .y)) (g h : Front) (c : Chooses composeTurn a b (s .x) (s .y) Together) (z : s .x .kind ≡ 2) (v : s .y .kind ≡ 3) where
+  pub dropped-less : s .x .left < s .y .left → Leaves a (s .x) (s .x .left) g → Leaves b (s .y) (s .x .left) h → Went composeTurn made n a b s o (record { x = g; y = h; e = s .e }) o
+  dropped-less w l m =
+      went-both n a b s o (s .e) o sx sy g h c (s .x .left) (omega arith) l m (meet-nothing n a b (s .x) (s .y) (s .x .left) (s .e) o c (λ q. absurd (omega arith)) (λ q. absurd (omega arith)))
+
+  pub dropped-more : (s .x .left < s .y .left → ⊥) → Leaves a (s .x) (s .y .left) g → Leaves b (s .y) (s .y .left) h
+      → Went composeTurn made n a b s o (record { x = g; y = h; e = s .e }) o
+  dropped-more w l m =
+      went-both n a b s o (s .e) o sx sy g h c (s .y .left) (omega arith) l m (meet-nothing n a b (s .x) (s .y) (s .y .left) (s .e) o c (λ q. absurd (omega arith)) (λ q. absurd (omega arith)))

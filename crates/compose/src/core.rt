@@ -1,11 +1,8 @@
 // Compose over the fronts of two records that were checked.
 use operation::Refusal;
-use operation::core::Front;
 use operational_transform::Written;
 use operational_transform::core::Emitter;
-use turns::core::Plan;
 use turns::core::State;
-use turns::core::Turn;
 ghost use mathlib.Core.Path.{_≡_};
 ghost use mathlib.Core.Bool.{true};
 ghost use Prim.Native.Nat.{_^_, _≤_};
@@ -15,90 +12,238 @@ ghost use Rattle.operation.specs.Front.{Stands};
 ghost use Rattle.operational_transform.specs.Compose.{composeTurn, made};
 ghost use Rattle.operational_transform.specs.Compose.{compose as composeOf};
 ghost use Rattle.operational_transform.specs.Calls.{composeCall};
-ghost use Rattle.operational_transform.specs.Emit.{Under, Adds, Done, Writes, Staged};
+ghost use Rattle.operational_transform.specs.Emit.{Under, Done, Writes, Staged};
 ghost use Rattle.operational_transform.specs.Given.{Gives};
-ghost use Rattle.turns.specs.Turns.{liveIs, stepOf, Chooses, Planned, Went};
-ghost use Rattle.compose.specs.Composing.{whoseIs};
+ghost use Rattle.turns.specs.declared.core.Turn.the-variants.{First, Second, Together};
+ghost use Rattle.turns.specs.Turns.{liveIs, Chooses, Went};
 
-// A delete of the first goes before an insert of the second.
-fn whose(x: Front, y: Front) -> Turn
-    ensures { λ r. ⌜ r ≡ whoseIs (x .kind) (y .kind) ⌝ }
+// A step is one piece of code for each pair of kinds: once they are known, nothing asks for them again. Each piece has one caller,
+// so that the state stays in registers.
+
+// A delete of the first goes before all else.
+fn delete_first(a: &[u8], na: usize, b: &[u8], out: &mut [u8], n: usize, s: State) -> State
+    requires { ⌜ (na ≡ recordsOf (now a)) × (n ≤ 2 ^ 40) × Under (2 ^ 38) (s .e) × Stands (now a) (s .x) × Stands (now b) (s .y) × Chooses composeTurn (now a) (now b) (s .x) (s .y) First ⌝ }
+    ensures { λ r. ⌜ Went composeTurn made n (now (a .entry)) (now (b .entry)) s (now (out .entry)) r (now (out .exit)) ⌝ }
 {
-    if x.kind == 0 {
-        return Turn::Second;
-    }
-    if y.kind == 0 {
-        return Turn::First;
-    }
-    if x.kind == 3 {
-        return Turn::First;
-    }
-    if y.kind == 2 {
-        return Turn::Second;
-    }
-    Turn::Together
+    let x = s.x;
+    let y = s.y;
+    let e = s.e;
+    let k = x.left;
+    let i = x.to;
+    let f = operational_transform::core::part(out, n, e, a, x, k, i);
+    let g = operation::core::rest(a, na, x, k, i);
+    State { x: g, y, e: f }
 }
 
-// As many characters of both.
-fn meet(
+// An insert of the second.
+fn insert_second(a: &[u8], b: &[u8], nb: usize, out: &mut [u8], n: usize, s: State) -> State
+    requires { ⌜ (nb ≡ recordsOf (now b)) × (n ≤ 2 ^ 40) × Under (2 ^ 38) (s .e) × Stands (now a) (s .x) × Stands (now b) (s .y) × Chooses composeTurn (now a) (now b) (s .x) (s .y) Second ⌝ }
+    ensures { λ r. ⌜ Went composeTurn made n (now (a .entry)) (now (b .entry)) s (now (out .entry)) r (now (out .exit)) ⌝ }
+{
+    let x = s.x;
+    let y = s.y;
+    let e = s.e;
+    let k = y.left;
+    let j = y.to;
+    let f = operational_transform::core::part(out, n, e, b, y, k, j);
+    let h = operation::core::rest(b, nb, y, k, j);
+    State { x, y: h, e: f }
+}
+
+// What is left of the second, where the first has ended.
+fn only_second(a: &[u8], b: &[u8], nb: usize, out: &mut [u8], n: usize, s: State) -> State
+    requires { ⌜ (nb ≡ recordsOf (now b)) × (n ≤ 2 ^ 40) × Under (2 ^ 38) (s .e) × Stands (now a) (s .x) × Stands (now b) (s .y) × Chooses composeTurn (now a) (now b) (s .x) (s .y) Second ⌝ }
+    ensures { λ r. ⌜ Went composeTurn made n (now (a .entry)) (now (b .entry)) s (now (out .entry)) r (now (out .exit)) ⌝ }
+{
+    let x = s.x;
+    let y = s.y;
+    let e = s.e;
+    let k = y.left;
+    let j = y.to;
+    let f = operational_transform::core::part(out, n, e, b, y, k, j);
+    let h = operation::core::rest(b, nb, y, k, j);
+    State { x, y: h, e: f }
+}
+
+// What is left of the first, where the second has ended.
+fn only_first(a: &[u8], na: usize, b: &[u8], out: &mut [u8], n: usize, s: State) -> State
+    requires { ⌜ (na ≡ recordsOf (now a)) × (n ≤ 2 ^ 40) × Under (2 ^ 38) (s .e) × Stands (now a) (s .x) × Stands (now b) (s .y) × Chooses composeTurn (now a) (now b) (s .x) (s .y) First ⌝ }
+    ensures { λ r. ⌜ Went composeTurn made n (now (a .entry)) (now (b .entry)) s (now (out .entry)) r (now (out .exit)) ⌝ }
+{
+    let x = s.x;
+    let y = s.y;
+    let e = s.e;
+    let k = x.left;
+    let i = x.to;
+    let f = operational_transform::core::part(out, n, e, a, x, k, i);
+    let g = operation::core::rest(a, na, x, k, i);
+    State { x: g, y, e: f }
+}
+
+// As many characters of both: what the first retains, the second retains or deletes.
+fn retain_retain(
     a: &[u8],
+    na: usize,
     b: &[u8],
+    nb: usize,
     out: &mut [u8],
     n: usize,
-    e: Emitter,
-    x: Front,
-    y: Front,
-    p: Plan,
-) -> Emitter
-    requires { ⌜ (n ≤ 2 ^ 40) × Under (2 ^ 38) e × Stands (now a) x × Stands (now b) y × Chooses composeTurn (now a) (now b) x y Turn.Together × Planned (now a) (now b) x y Turn.Together p ⌝ }
-    ensures { λ r. ⌜ Adds n (made (stepOf (now (a .entry)) (now (b .entry)) x y Turn.Together (p .k))) e (now (out .entry)) r (now (out .exit)) ⌝ }
+    s: State,
+) -> State
+    requires { ⌜ (na ≡ recordsOf (now a)) × (nb ≡ recordsOf (now b)) × (n ≤ 2 ^ 40) × Under (2 ^ 38) (s .e) × Stands (now a) (s .x) × Stands (now b) (s .y) × Chooses composeTurn (now a) (now b) (s .x) (s .y) Together × (s .x .kind ≡ 1) × (s .y .kind ≡ 1) ⌝ }
+    ensures { λ r. ⌜ Went composeTurn made n (now (a .entry)) (now (b .entry)) s (now (out .entry)) r (now (out .exit)) ⌝ }
 {
-    if x.kind == 1 {
-        return operational_transform::core::part(out, n, e, b, y, p.k, p.j);
+    let x = s.x;
+    let y = s.y;
+    let e = s.e;
+    let i = x.to;
+    let j = y.to;
+    if x.left < y.left {
+        let k = x.left;
+        let f = operational_transform::core::part(out, n, e, b, y, k, j);
+        let g = operation::core::rest(a, na, x, k, i);
+        let h = operation::core::rest(b, nb, y, k, j);
+        return State { x: g, y: h, e: f };
+    }
+    let k = y.left;
+    let f = operational_transform::core::part(out, n, e, b, y, k, j);
+    let g = operation::core::rest(a, na, x, k, i);
+    let h = operation::core::rest(b, nb, y, k, j);
+    State { x: g, y: h, e: f }
+}
+
+fn retain_delete(
+    a: &[u8],
+    na: usize,
+    b: &[u8],
+    nb: usize,
+    out: &mut [u8],
+    n: usize,
+    s: State,
+) -> State
+    requires { ⌜ (na ≡ recordsOf (now a)) × (nb ≡ recordsOf (now b)) × (n ≤ 2 ^ 40) × Under (2 ^ 38) (s .e) × Stands (now a) (s .x) × Stands (now b) (s .y) × Chooses composeTurn (now a) (now b) (s .x) (s .y) Together × (s .x .kind ≡ 1) × (s .y .kind ≡ 3) ⌝ }
+    ensures { λ r. ⌜ Went composeTurn made n (now (a .entry)) (now (b .entry)) s (now (out .entry)) r (now (out .exit)) ⌝ }
+{
+    let x = s.x;
+    let y = s.y;
+    let e = s.e;
+    let i = x.to;
+    let j = y.to;
+    if x.left < y.left {
+        let k = x.left;
+        let f = operational_transform::core::part(out, n, e, b, y, k, j);
+        let g = operation::core::rest(a, na, x, k, i);
+        let h = operation::core::rest(b, nb, y, k, j);
+        return State { x: g, y: h, e: f };
+    }
+    let k = y.left;
+    let f = operational_transform::core::part(out, n, e, b, y, k, j);
+    let g = operation::core::rest(a, na, x, k, i);
+    let h = operation::core::rest(b, nb, y, k, j);
+    State { x: g, y: h, e: f }
+}
+
+// What the first inserts, the second retains or deletes.
+fn insert_retain(
+    a: &[u8],
+    na: usize,
+    b: &[u8],
+    nb: usize,
+    out: &mut [u8],
+    n: usize,
+    s: State,
+) -> State
+    requires { ⌜ (na ≡ recordsOf (now a)) × (nb ≡ recordsOf (now b)) × (n ≤ 2 ^ 40) × Under (2 ^ 38) (s .e) × Stands (now a) (s .x) × Stands (now b) (s .y) × Chooses composeTurn (now a) (now b) (s .x) (s .y) Together × (s .x .kind ≡ 2) × (s .y .kind ≡ 1) ⌝ }
+    ensures { λ r. ⌜ Went composeTurn made n (now (a .entry)) (now (b .entry)) s (now (out .entry)) r (now (out .exit)) ⌝ }
+{
+    let x = s.x;
+    let y = s.y;
+    let e = s.e;
+    let i = x.to;
+    let j = y.to;
+    if x.left < y.left {
+        let k = x.left;
+        let f = operational_transform::core::part(out, n, e, a, x, k, i);
+        let g = operation::core::rest(a, na, x, k, i);
+        let h = operation::core::rest(b, nb, y, k, j);
+        return State { x: g, y: h, e: f };
+    }
+    let k = y.left;
+    let mid = operation::core::cut(a, x, k);
+    let f = operational_transform::core::part(out, n, e, a, x, k, mid);
+    let g = operation::core::rest(a, na, x, k, mid);
+    let h = operation::core::rest(b, nb, y, k, j);
+    State { x: g, y: h, e: f }
+}
+
+fn insert_delete(
+    a: &[u8],
+    na: usize,
+    b: &[u8],
+    nb: usize,
+    out: &mut [u8],
+    n: usize,
+    s: State,
+) -> State
+    requires { ⌜ (na ≡ recordsOf (now a)) × (nb ≡ recordsOf (now b)) × (n ≤ 2 ^ 40) × Under (2 ^ 38) (s .e) × Stands (now a) (s .x) × Stands (now b) (s .y) × Chooses composeTurn (now a) (now b) (s .x) (s .y) Together × (s .x .kind ≡ 2) × (s .y .kind ≡ 3) ⌝ }
+    ensures { λ r. ⌜ Went composeTurn made n (now (a .entry)) (now (b .entry)) s (now (out .entry)) r (now (out .exit)) ⌝ }
+{
+    let x = s.x;
+    let y = s.y;
+    let e = s.e;
+    let i = x.to;
+    let j = y.to;
+    if x.left < y.left {
+        let k = x.left;
+        let g = operation::core::rest(a, na, x, k, i);
+        let h = operation::core::rest(b, nb, y, k, j);
+        return State { x: g, y: h, e };
+    }
+    let k = y.left;
+    let mid = operation::core::cut(a, x, k);
+    let g = operation::core::rest(a, na, x, k, mid);
+    let h = operation::core::rest(b, nb, y, k, j);
+    State { x: g, y: h, e }
+}
+
+fn together(a: &[u8], na: usize, b: &[u8], nb: usize, out: &mut [u8], n: usize, s: State) -> State
+    requires { ⌜ (na ≡ recordsOf (now a)) × (nb ≡ recordsOf (now b)) × (n ≤ 2 ^ 40) × Under (2 ^ 38) (s .e) × Stands (now a) (s .x) × Stands (now b) (s .y) × Chooses composeTurn (now a) (now b) (s .x) (s .y) Together ⌝ }
+    ensures { λ r. ⌜ Went composeTurn made n (now (a .entry)) (now (b .entry)) s (now (out .entry)) r (now (out .exit)) ⌝ }
+{
+    let x = s.x;
+    let y = s.y;
+    if x.kind == 2 {
+        if y.kind == 1 {
+            return insert_retain(a, na, b, nb, out, n, s);
+        }
+        return insert_delete(a, na, b, nb, out, n, s);
     }
     if y.kind == 1 {
-        return operational_transform::core::part(out, n, e, a, x, p.k, p.i);
+        return retain_retain(a, na, b, nb, out, n, s);
     }
-    e
+    retain_delete(a, na, b, nb, out, n, s)
 }
 
-// What the step gives.
-fn give(
-    a: &[u8],
-    b: &[u8],
-    out: &mut [u8],
-    n: usize,
-    e: Emitter,
-    x: Front,
-    y: Front,
-    t: Turn,
-    p: Plan,
-) -> Emitter
-    requires { ⌜ (n ≤ 2 ^ 40) × Under (2 ^ 38) e × Stands (now a) x × Stands (now b) y × Chooses composeTurn (now a) (now b) x y t × Planned (now a) (now b) x y t p ⌝ }
-    ensures { λ r. ⌜ Adds n (made (stepOf (now (a .entry)) (now (b .entry)) x y t (p .k))) e (now (out .entry)) r (now (out .exit)) ⌝ }
-{
-    match t {
-        Turn::First => operational_transform::core::part(out, n, e, a, x, p.k, p.i),
-        Turn::Second => operational_transform::core::part(out, n, e, b, y, p.k, p.j),
-        Turn::Together => meet(a, b, out, n, e, x, y, p),
-    }
-}
-
-// One step.
+// One step. A delete of the first goes before an insert of the second.
 fn turn(a: &[u8], na: usize, b: &[u8], nb: usize, out: &mut [u8], n: usize, s: State) -> State
     requires { ⌜ (na ≡ recordsOf (now a)) × (nb ≡ recordsOf (now b)) × (n ≤ 2 ^ 40) × Under (2 ^ 38) (s .e) × Stands (now a) (s .x) × Stands (now b) (s .y) × (liveIs (s .x) (s .y) ≡ true) ⌝ }
     ensures { λ r. ⌜ Went composeTurn made n (now (a .entry)) (now (b .entry)) s (now (out .entry)) r (now (out .exit)) ⌝ }
 {
     let x = s.x;
     let y = s.y;
-    let e = s.e;
-    let t = whose(x, y);
-    let p = turns::core::measure(a, b, x, y, t);
-    let f = give(a, b, out, n, e, x, y, t, p);
-    let r = turns::core::advance(a, na, b, nb, x, y, t, p);
-    let g = r.x;
-    let h = r.y;
-    State { x: g, y: h, e: f }
+    if x.kind == 3 {
+        return delete_first(a, na, b, out, n, s);
+    }
+    if y.kind == 2 {
+        return insert_second(a, b, nb, out, n, s);
+    }
+    if x.kind == 0 {
+        return only_second(a, b, nb, out, n, s);
+    }
+    if y.kind == 0 {
+        return only_first(a, na, b, out, n, s);
+    }
+    together(a, na, b, nb, out, n, s)
 }
 
 // All of compose, for a result of n records.

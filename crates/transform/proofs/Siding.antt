@@ -28,11 +28,9 @@ use Rattle.operational_transform.specs.Emit.{Under, Adds, Retains}
 use Rattle.operational_transform.proofs.Adding.{adds-nil, adds-append, whole-op, under-more}
 use Rattle.turns.specs.declared.core.Turn.{Turn}
 use Rattle.turns.specs.declared.core.Turn.the-variants.{First, Second, Together}
-use Rattle.turns.specs.declared.core.Plan.{Plan}
-use Rattle.turns.specs.declared.core.Fronts.{Fronts}
 use Rattle.turns.specs.declared.core.State.{State}
 use Rattle.turns.specs.Turns.{liveIs, stepOf, Chosen, Chooses, still, Went}
-use Rattle.turns.proofs.Turning.{Moves, moves, plan-first, plan-second, plan-together}
+use Rattle.turns.proofs.Turning.{Moves, moves-first, moves-second, moves-together}
 use Rattle.transform.specs.Sides.{givesOf, FirstWent, SecondWent, BothWent}
 
 -- ---- whose turn it is
@@ -65,43 +63,42 @@ module _ (a b : List ℕ) (x y : Front) where
     pub chosen-other : y .kind ≡ 0 → Chooses (transformTurn order) a b x y First
     chosen-other e = record { chosen = (omega arith, inl e) }
 
-    module _ (q : y .kind ≡ 0 → ⊥) where
-      pub chosen-first : x .kind ≡ 2 → (y .kind ≡ 2 → ⊥) → Chooses (transformTurn order) a b x y First
-      chosen-first e z = record { chosen = (omega arith, inr (go (no-insert b y z))) }
-        where
-          go : NoInsert b y → turnRule (frontOp a x) (frontOp b y) ≡ align.first
-          go (keeps w) = ap₂ turnRule (op-insert a x e) w
-          go (drops w) = ap₂ turnRule (op-insert a x e) w
+    pub chosen-both : (y .kind ≡ 0 → ⊥) → (x .kind ≡ 2 → ⊥) → (y .kind ≡ 2 → ⊥) → Chooses (transformTurn order) a b x y Together
+    chosen-both q z w = record { chosen = (omega arith, (omega arith, go (no-insert a x z) (no-insert b y w))) }
+      where
+        go : NoInsert a x → NoInsert b y → turnRule (frontOp a x) (frontOp b y) ≡ align.together
+        go (keeps u) (keeps v) = ap₂ turnRule u v
+        go (keeps u) (drops v) = ap₂ turnRule u v
+        go (drops u) (keeps v) = ap₂ turnRule u v
+        go (drops u) (drops v) = ap₂ turnRule u v
 
-      pub chosen-second : (x .kind ≡ 2 → ⊥) → y .kind ≡ 2 → Chooses (transformTurn order) a b x y Second
-      chosen-second z e = record { chosen = (omega arith, inr (go (no-insert a x z))) }
-        where
-          go : NoInsert a x → turnRule (frontOp a x) (frontOp b y) ≡ align.second
-          go (keeps w) = ap₂ turnRule w (op-insert b y e)
-          go (drops w) = ap₂ turnRule w (op-insert b y e)
+  pub chosen-first : x .kind ≡ 2 → (y .kind ≡ 2 → ⊥) → Chooses (transformTurn order) a b x y First
+  chosen-first e z = record { chosen = (omega arith, inr (go (no-insert b y z))) }
+    where
+      go : NoInsert b y → turnRule (frontOp a x) (frontOp b y) ≡ align.first
+      go (keeps w) = ap₂ turnRule (op-insert a x e) w
+      go (drops w) = ap₂ turnRule (op-insert a x e) w
 
-      pub chosen-both : (x .kind ≡ 2 → ⊥) → (y .kind ≡ 2 → ⊥) → Chooses (transformTurn order) a b x y Together
-      chosen-both z w = record { chosen = (omega arith, (omega arith, go (no-insert a x z) (no-insert b y w))) }
-        where
-          go : NoInsert a x → NoInsert b y → turnRule (frontOp a x) (frontOp b y) ≡ align.together
-          go (keeps u) (keeps v) = ap₂ turnRule u v
-          go (keeps u) (drops v) = ap₂ turnRule u v
-          go (drops u) (keeps v) = ap₂ turnRule u v
-          go (drops u) (drops v) = ap₂ turnRule u v
+  pub chosen-second : (x .kind ≡ 2 → ⊥) → y .kind ≡ 2 → Chooses (transformTurn order) a b x y Second
+  chosen-second z e = record { chosen = (omega arith, inr (go (no-insert a x z))) }
+    where
+      go : NoInsert a x → turnRule (frontOp a x) (frontOp b y) ≡ align.second
+      go (keeps w) = ap₂ turnRule w (op-insert b y e)
+      go (drops w) = ap₂ turnRule w (op-insert b y e)
 
-      -- two inserts
-      module _ (sx : Stands a x) (sy : Stands b y) (e : x .kind ≡ 2) (f : y .kind ≡ 2) (w : Ordering) (h : w ≡ byteOrder (frontText a x) (frontText b y)) where
-        ranked : (u : Ordering) → w ≡ u → turnRule (frontOp a x) (frontOp b y) ≡ lesser u
-        ranked u z = ap₂ turnRule (op-insert a x e) (op-insert b y f) ∙ ap lesser (order-chars (frontText a x) (frontText b y) (sx .text e .0) (sy .text f .0) ∙ sym h ∙ z)
+  -- two inserts
+  module _ (sx : Stands a x) (sy : Stands b y) (e : x .kind ≡ 2) (f : y .kind ≡ 2) (w : Ordering) (h : w ≡ byteOrder (frontText a x) (frontText b y)) where
+    ranked : (u : Ordering) → w ≡ u → turnRule (frontOp a x) (frontOp b y) ≡ lesser u
+    ranked u z = ap₂ turnRule (op-insert a x e) (op-insert b y f) ∙ ap lesser (order-chars (frontText a x) (frontText b y) (sx .text e .0) (sy .text f .0) ∙ sym h ∙ z)
 
-        pub chosen-less : w ≡ Less → Chooses (transformTurn order) a b x y First
-        chosen-less z = record { chosen = (omega arith, inr (ranked Less z)) }
+    pub chosen-less : w ≡ Less → Chooses (transformTurn order) a b x y First
+    chosen-less z = record { chosen = (omega arith, inr (ranked Less z)) }
 
-        pub chosen-equal : w ≡ Equal → Chooses (transformTurn order) a b x y Together
-        chosen-equal z = record { chosen = (omega arith, (omega arith, ranked Equal z)) }
+    pub chosen-equal : w ≡ Equal → Chooses (transformTurn order) a b x y Together
+    chosen-equal z = record { chosen = (omega arith, (omega arith, ranked Equal z)) }
 
-        pub chosen-greater : w ≡ Greater → Chooses (transformTurn order) a b x y Second
-        chosen-greater z = record { chosen = (omega arith, inr (ranked Greater z)) }
+    pub chosen-greater : w ≡ Greater → Chooses (transformTurn order) a b x y Second
+    chosen-greater z = record { chosen = (omega arith, inr (ranked Greater z)) }
 
 -- ---- what a front's operation gives
 
@@ -212,6 +209,10 @@ module _ (a b : List ℕ) (x y : Front) (sx : Stands a x) (sy : Stands b y) (c :
   pub both-some : 0 < k
   both-some = omega (arith, sx .some (c .chosen .0), sy .some (c .chosen .1 .0))
 
+-- equal inserts are used up whole
+pub equal-least : (a b : List ℕ) (x y : Front) → Stands a x → Stands b y → Chooses (transformTurn order) a b x y Together → x .kind ≡ 2 → y .kind ≡ 2 → x .left ≡ min (x .left) (y .left)
+equal-least a b x y sx sy c e f = omega (arith, equal-left a b x y sx sy c (min (x .left) (y .left)) refl e f)
+
 pub whole-cut : (r : List ℕ) (f : Front) → Stands r f → Cut r f (f .left) (f .to)
 whole-cut r f s = cut-all r f s (f .left) refl
 
@@ -233,15 +234,12 @@ past-few (insert s) q = omega arith
 past-few (delete m) q = omega arith
 
 module _ (n : ℕ) (a b : List ℕ) (s : State) (o : List ℕ) (t : Turn) (c : Chooses (transformTurn order) a b (s .x) (s .y) t) (sx : Stands a (s .x)) (sy : Stands b (s .y)) (r : State) where
-  abbrev fronts : Fronts
-  fronts = record { x = r .x; y = r .y }
-
   chosen-as : (u : Turn) → t ≡ u → Chooses (transformTurn order) a b (s .x) (s .y) u
   chosen-as u e = rw e at c
 
-  went : (u : Turn) (p : Plan) → Moves turnRule a b (s .x) (s .y) u (p .k) fronts → (given : Seq) → lefts keepBoth (stepOf a b (s .x) (s .y) u (p .k)) ≡ given → length given ≤ 2 → (o′ : List ℕ)
+  went : (u : Turn) (k : ℕ) → Moves turnRule a b (s .x) (s .y) u k (r .x) (r .y) → (given : Seq) → lefts keepBoth (stepOf a b (s .x) (s .y) u k) ≡ given → length given ≤ 2 → (o′ : List ℕ)
       → Adds n given (s .e) o (r .e) o′ → Went (transformTurn order) (lefts keepBoth) n a b s o r o′
-  went u p m given e few o′ h =
+  went u k m given e few o′ h =
       record {
         stands-x = m .stands-x;
         stands-y = m .stands-y;
@@ -254,26 +252,16 @@ module _ (n : ℕ) (a b : List ℕ) (s : State) (o : List ℕ) (t : Turn) (c : C
 
   pub went-first : t ≡ First → (o′ : List ℕ) → FirstWent n a s o r o′ → Went (transformTurn order) (lefts keepBoth) n a b s o r o′
   went-first e o′ h =
-      let p : Plan = record { k = s .x .left; i = s .x .to; j = s .y .to } in
-      let m : Moves turnRule a b (s .x) (s .y) First (p .k) fronts =
-      moves turnRule a b (s .x) (s .y) sx sy p fronts First (chosen-as First e) (plan-first a b (s .x) (s .y) First sx refl (s .y .to)) (record { advanced = (h .x, h .y) }) in
-      went First p m (frontOp a (s .x) ∷ []) refl (omega arith) o′ (h .adds)
+      went First (s .x .left) (moves-first turnRule a b (s .x) (s .y) sx sy (r .x) (r .y) (chosen-as First e .chosen) (h .x) (h .y)) (frontOp a (s .x) ∷ []) refl (omega arith) o′ (h .adds)
 
   pub went-second : t ≡ Second → SecondWent b s r → Went (transformTurn order) (lefts keepBoth) n a b s o r o
   went-second e h =
-      let p : Plan = record { k = s .y .left; i = s .x .to; j = s .y .to } in
-      let m : Moves turnRule a b (s .x) (s .y) Second (p .k) fronts =
-      moves turnRule a b (s .x) (s .y) sx sy p fronts Second (chosen-as Second e) (plan-second a b (s .x) (s .y) Second sy refl (s .x .to)) (record { advanced = (h .x, h .y) }) in
-      went Second p m (retain (gives (frontOp b (s .y))) ∷ []) refl (omega arith) o (h .retains .adds n o)
+      went Second (s .y .left) (moves-second turnRule a b (s .x) (s .y) sx sy (r .x) (r .y) (chosen-as Second e .chosen) (h .x) (h .y)) (retain (gives (frontOp b (s .y))) ∷ []) refl (omega arith) o (h .retains .adds n o)
 
   pub went-together : t ≡ Together → (o′ : List ℕ) → BothWent n a b s o r o′ → Went (transformTurn order) (lefts keepBoth) n a b s o r o′
   went-together e o′ h =
-      let p : Plan = record { k = h .k; i = s .x .to; j = s .y .to } in
-      let cx = uncut-x a b (s .x) (s .y) sx sy (chosen-as Together e) (h .k) (h .lesser) in
-      let cy = uncut-y a b (s .x) (s .y) sx sy (chosen-as Together e) (h .k) (h .lesser) in
-      let m : Moves turnRule a b (s .x) (s .y) Together (p .k) fronts =
-      moves turnRule a b (s .x) (s .y) sx sy p fronts Together (chosen-as Together e) (plan-together a b (s .x) (s .y) Together (h .k) (s .x .to) (s .y .to) refl (h .lesser) cx cy) (record { advanced = (h .x, h .y) }) in
-      went Together p m (past keepBoth (cut (h .k) (frontOp b (s .y))) (cut (h .k) (frontOp a (s .x)))) refl (past-few (cut (h .k) (frontOp b (s .y))) (cut (h .k) (frontOp a (s .x)))) o′ (h .adds)
+      let m : Moves turnRule a b (s .x) (s .y) Together (h .k) (r .x) (r .y) = moves-together turnRule a b (s .x) (s .y) sx sy (r .x) (r .y) (h .k) (chosen-as Together e .chosen) (h .lesser) (h .x) (h .y) in
+      went Together (h .k) m (past keepBoth (cut (h .k) (frontOp b (s .y))) (cut (h .k) (frontOp a (s .x)))) refl (past-few (cut (h .k) (frontOp b (s .y))) (cut (h .k) (frontOp a (s .x)))) o′ (h .adds)
 
 pub together-as : (a b : List ℕ) (x y : Front) (t : Turn) → t ≡ Together → Chooses (transformTurn order) a b x y t → Chooses (transformTurn order) a b x y Together
 together-as a b x y t e c = rw e at c

@@ -1,8 +1,10 @@
 -- A step over the two fronts for both sides at once: the second's side is the first's with the two exchanged.
 use Prim.Native.Nat.{ℕ, _≤_, _<_, min}
 use native.Mathlib.Nat.{min-comm}
+use native.Mathlib.Omega.{arith}
 use mathlib.Core.Path.{_≡_, refl, ap, _∙_}
 use mathlib.Core.Logic.{_⊎_, inl, inr}
+use mathlib.Core.Bool.{true}
 use mathlib.Core.List.{List, [], _∷_}
 use Rattle.utf8.specs.Order.{order}
 use Rattle.operation.specs.declared.core.Front.{Front}
@@ -15,10 +17,10 @@ use Rattle.operational_transform.specs.Emit.{Adds, Retains}
 use Rattle.operational_transform.proofs.Symmetry.{other, turns-flip, order-flips}
 use Rattle.turns.specs.declared.core.Turn.{Turn}
 use Rattle.turns.specs.declared.core.Turn.the-variants.{First, Second, Together}
-use Rattle.turns.specs.Turns.{Chooses}
+use Rattle.turns.specs.Turns.{liveIs, Chooses}
 use Rattle.transform.specs.declared.core.Pair.{Pair}
 use Rattle.transform.specs.Sides.{givesOf}
-use Rattle.transform.proofs.Siding.{insert-both, both-insert, past-retain, past-insert, past-delete, first-went, second-went, both-went, went-first, went-second, went-together}
+use Rattle.transform.proofs.Siding.{chosen-ended, insert-both, both-insert, past-retain, past-insert, past-delete, first-went, second-went, both-went, went-first, went-second, went-together}
 use Rattle.transform.specs.declared.core.Both.{Both}
 use Rattle.transform.specs.Both.{mine, theirs, FirstBoth, SecondBoth, Meets, TogetherBoth, WentBoth}
 
@@ -118,3 +120,20 @@ module _ (m n : ℕ) (a b : List ℕ) (s : Both) (o w : List ℕ) (t : Turn) (c 
 
 pub second-live : (a b : List ℕ) (x y : Front) (t : Turn) → t ≡ Second → Chooses (transformTurn order) a b x y t → 0 < y .kind
 second-live a b x y t e c = (rw e at c) .chosen .0
+
+-- as the kinds choose it
+module _ (m n : ℕ) (a b : List ℕ) (s : Both) (o w : List ℕ) (sx : Stands a (s .x)) (sy : Stands b (s .y)) (r : Both) where
+  pub alone-first : (o′ : List ℕ) → Chooses (transformTurn order) a b (s .x) (s .y) First → FirstBoth m a s o r o′ → WentBoth m n a b s o w r o′ w
+  alone-first o′ c f = turned-first m n a b s o w First c sx sy r refl o′ f
+
+  pub alone-second : (w′ : List ℕ) → Chooses (transformTurn order) a b (s .x) (s .y) Second → SecondBoth n b s w r w′ → WentBoth m n a b s o w r o w′
+  alone-second w′ c f = turned-second m n a b s o w Second c sx sy r refl w′ f
+
+  pub both-together : (o′ w′ : List ℕ) → Chooses (transformTurn order) a b (s .x) (s .y) Together → TogetherBoth m n a b s o w r o′ w′ → WentBoth m n a b s o w r o′ w′
+  both-together o′ w′ c f = turned-together m n a b s o w Together c sx sy r refl o′ w′ f
+
+pub ended-live : (a b : List ℕ) (x y : Front) → liveIs x y ≡ true → x .kind ≡ 0 → 0 < y .kind
+ended-live a b x y l e = chosen-ended a b x y l e .chosen .0
+
+pub other-live : (x : Front) → (x .kind ≡ 0 → ⊥) → 0 < x .kind
+other-live x p = omega arith

@@ -6,8 +6,9 @@ use operational_transform::core::Emitter;
 use turns::core::Turn;
 use utf8::core::Ordering;
 ghost use mathlib.Core.Path.{_≡_};
-ghost use mathlib.Core.Bool.{true, _&&_};
+ghost use mathlib.Core.Bool.{true, false, _&&_};
 ghost use Prim.Native.Nat.{_+_, _^_, _≤_, _<_};
+ghost use lib.Dec.{eqb};
 ghost use lib.ListN.{length};
 ghost use Rattle.utf8.specs.Order.{byteOrder, order};
 ghost use Rattle.operation.specs.Layout.{recordsOf, baseOf, textStart};
@@ -33,6 +34,7 @@ fn rank(a: &[u8], b: &[u8], x: Front, y: Front) -> Ordering
     utf8::core::compare(&a[xf..xt], &b[yf..yt])
 }
 
+// Whose turn it is, as one value: `rebase` asks for it, the steps here ask for the kinds.
 pub fn whose(a: &[u8], b: &[u8], x: Front, y: Front) -> Turn
     requires { ⌜ Stands (now a) x × Stands (now b) y × (liveIs x y ≡ true) ⌝ }
     ensures { λ r. ⌜ Chooses (transformTurn order) (now (a .entry)) (now (b .entry)) x y r ⌝ }
@@ -138,7 +140,73 @@ fn second(b: &[u8], nb: usize, out: &mut [u8], n: usize, s: Both) -> Both
     Both { x, y: g, e, f }
 }
 
-// What stays of k characters of both. Equal inserts are both kept; what either deletes, the other has no more.
+// The same for an insert where the other has none, and for the lesser of two inserts. Each is a copy of its own: a function with one
+// caller is taken into the loop, where the kind is known and the state stays in registers.
+fn insert_first(a: &[u8], na: usize, out: &mut [u8], m: usize, s: Both) -> Both
+    requires { ⌜ (na ≡ recordsOf (now a)) × (m ≤ 2 ^ 40) × Under (2 ^ 38) (s .e) × Under (2 ^ 38) (s .f) × Stands (now a) (s .x) × (0 < s .x .kind) ⌝ }
+    ensures { λ r. ⌜ FirstBoth m (now (a .entry)) s (now (out .entry)) r (now (out .exit)) ⌝ }
+{
+    let x = s.x;
+    let y = s.y;
+    let d = s.e;
+    let h = s.f;
+    let k = x.left;
+    let to = x.to;
+    let e = operational_transform::core::part(out, m, d, a, x, k, to);
+    let f = operational_transform::core::retain(h, gives(x));
+    let g = operation::core::rest(a, na, x, k, to);
+    Both { x: g, y, e, f }
+}
+
+fn lesser_first(a: &[u8], na: usize, out: &mut [u8], m: usize, s: Both) -> Both
+    requires { ⌜ (na ≡ recordsOf (now a)) × (m ≤ 2 ^ 40) × Under (2 ^ 38) (s .e) × Under (2 ^ 38) (s .f) × Stands (now a) (s .x) × (0 < s .x .kind) ⌝ }
+    ensures { λ r. ⌜ FirstBoth m (now (a .entry)) s (now (out .entry)) r (now (out .exit)) ⌝ }
+{
+    let x = s.x;
+    let y = s.y;
+    let d = s.e;
+    let h = s.f;
+    let k = x.left;
+    let to = x.to;
+    let e = operational_transform::core::part(out, m, d, a, x, k, to);
+    let f = operational_transform::core::retain(h, gives(x));
+    let g = operation::core::rest(a, na, x, k, to);
+    Both { x: g, y, e, f }
+}
+
+fn insert_second(b: &[u8], nb: usize, out: &mut [u8], n: usize, s: Both) -> Both
+    requires { ⌜ (nb ≡ recordsOf (now b)) × (n ≤ 2 ^ 40) × Under (2 ^ 38) (s .e) × Under (2 ^ 38) (s .f) × Stands (now b) (s .y) × (0 < s .y .kind) ⌝ }
+    ensures { λ r. ⌜ SecondBoth n (now (b .entry)) s (now (out .entry)) r (now (out .exit)) ⌝ }
+{
+    let x = s.x;
+    let y = s.y;
+    let d = s.e;
+    let h = s.f;
+    let k = y.left;
+    let to = y.to;
+    let e = operational_transform::core::retain(d, gives(y));
+    let f = operational_transform::core::part(out, n, h, b, y, k, to);
+    let g = operation::core::rest(b, nb, y, k, to);
+    Both { x, y: g, e, f }
+}
+
+fn lesser_second(b: &[u8], nb: usize, out: &mut [u8], n: usize, s: Both) -> Both
+    requires { ⌜ (nb ≡ recordsOf (now b)) × (n ≤ 2 ^ 40) × Under (2 ^ 38) (s .e) × Under (2 ^ 38) (s .f) × Stands (now b) (s .y) × (0 < s .y .kind) ⌝ }
+    ensures { λ r. ⌜ SecondBoth n (now (b .entry)) s (now (out .entry)) r (now (out .exit)) ⌝ }
+{
+    let x = s.x;
+    let y = s.y;
+    let d = s.e;
+    let h = s.f;
+    let k = y.left;
+    let to = y.to;
+    let e = operational_transform::core::retain(d, gives(y));
+    let f = operational_transform::core::part(out, n, h, b, y, k, to);
+    let g = operation::core::rest(b, nb, y, k, to);
+    Both { x, y: g, e, f }
+}
+
+// What stays of k characters of both, which insert nothing: what either deletes, the other has no more.
 fn meet(
     a: &[u8],
     b: &[u8],
@@ -149,7 +217,7 @@ fn meet(
     s: Both,
     k: usize,
 ) -> Pair
-    requires { ⌜ (m ≤ 2 ^ 40) × (n ≤ 2 ^ 40) × Under (2 ^ 38) (s .e) × Under (2 ^ 38) (s .f) × Stands (now a) (s .x) × Stands (now b) (s .y) × (0 < k) × (k ≤ s .x .left) × (k ≤ s .y .left) × Cut (now a) (s .x) k (s .x .to) × Cut (now b) (s .y) k (s .y .to) × Chooses (transformTurn order) (now a) (now b) (s .x) (s .y) Turn.Together ⌝ }
+    requires { ⌜ (m ≤ 2 ^ 40) × (n ≤ 2 ^ 40) × Under (2 ^ 38) (s .e) × Under (2 ^ 38) (s .f) × Stands (now a) (s .x) × Stands (now b) (s .y) × (0 < k) × (k ≤ s .x .left) × (k ≤ s .y .left) × Cut (now a) (s .x) k (s .x .to) × Cut (now b) (s .y) k (s .y .to) × Chooses (transformTurn order) (now a) (now b) (s .x) (s .y) Turn.Together × (eqb (s .y .kind) 2 ≡ false) ⌝ }
     ensures { λ r. ⌜ Meets m n (now (a .entry)) (now (b .entry)) s k (now («out_a» .entry)) (now («out_b» .entry)) r (now («out_a» .exit)) (now («out_b» .exit)) ⌝ }
 {
     let x = s.x;
@@ -158,13 +226,6 @@ fn meet(
     let f = s.f;
     let i = x.to;
     let j = y.to;
-    if y.kind == 2 {
-        let d = operational_transform::core::part(out_a, m, e, b, y, k, j);
-        let h = operational_transform::core::part(out_b, n, f, a, x, k, i);
-        let d = operational_transform::core::retain(d, k);
-        let h = operational_transform::core::retain(h, k);
-        return Pair { e: d, f: h };
-    }
     if y.kind == 1 {
         let d = operational_transform::core::part(out_a, m, e, a, x, k, i);
         if x.kind == 1 {
@@ -180,7 +241,7 @@ fn meet(
     Pair { e, f }
 }
 
-// As many characters of both. No insert is cut: two that go together are equal.
+// As many characters of both, where neither inserts.
 fn together(
     a: &[u8],
     na: usize,
@@ -192,7 +253,7 @@ fn together(
     n: usize,
     s: Both,
 ) -> Both
-    requires { ⌜ (na ≡ recordsOf (now a)) × (nb ≡ recordsOf (now b)) × (m ≤ 2 ^ 40) × (n ≤ 2 ^ 40) × Under (2 ^ 38) (s .e) × Under (2 ^ 38) (s .f) × Stands (now a) (s .x) × Stands (now b) (s .y) × Chooses (transformTurn order) (now a) (now b) (s .x) (s .y) Turn.Together ⌝ }
+    requires { ⌜ (na ≡ recordsOf (now a)) × (nb ≡ recordsOf (now b)) × (m ≤ 2 ^ 40) × (n ≤ 2 ^ 40) × Under (2 ^ 38) (s .e) × Under (2 ^ 38) (s .f) × Stands (now a) (s .x) × Stands (now b) (s .y) × Chooses (transformTurn order) (now a) (now b) (s .x) (s .y) Turn.Together × (eqb (s .y .kind) 2 ≡ false) ⌝ }
     ensures { λ r. ⌜ TogetherBoth m n (now (a .entry)) (now (b .entry)) s (now («out_a» .entry)) (now («out_b» .entry)) r (now («out_a» .exit)) (now («out_b» .exit)) ⌝ }
 {
     let x = s.x;
@@ -204,6 +265,82 @@ fn together(
     let g = operation::core::rest(a, na, x, k, x.to);
     let h = operation::core::rest(b, nb, y, k, y.to);
     Both { x: g, y: h, e, f }
+}
+
+// Equal inserts are both kept.
+fn keep(
+    a: &[u8],
+    b: &[u8],
+    out_a: &mut [u8],
+    m: usize,
+    out_b: &mut [u8],
+    n: usize,
+    s: Both,
+    k: usize,
+) -> Pair
+    requires { ⌜ (m ≤ 2 ^ 40) × (n ≤ 2 ^ 40) × Under (2 ^ 38) (s .e) × Under (2 ^ 38) (s .f) × Stands (now a) (s .x) × Stands (now b) (s .y) × (0 < k) × (k ≤ s .x .left) × (k ≤ s .y .left) × Cut (now a) (s .x) k (s .x .to) × Cut (now b) (s .y) k (s .y .to) × Chooses (transformTurn order) (now a) (now b) (s .x) (s .y) Turn.Together × (s .y .kind ≡ 2) ⌝ }
+    ensures { λ r. ⌜ Meets m n (now (a .entry)) (now (b .entry)) s k (now («out_a» .entry)) (now («out_b» .entry)) r (now («out_a» .exit)) (now («out_b» .exit)) ⌝ }
+{
+    let x = s.x;
+    let y = s.y;
+    let e = s.e;
+    let f = s.f;
+    let i = x.to;
+    let j = y.to;
+    let d = operational_transform::core::part(out_a, m, e, b, y, k, j);
+    let h = operational_transform::core::part(out_b, n, f, a, x, k, i);
+    let d = operational_transform::core::retain(d, k);
+    let h = operational_transform::core::retain(h, k);
+    Pair { e: d, f: h }
+}
+
+fn equal_inserts(
+    a: &[u8],
+    na: usize,
+    b: &[u8],
+    nb: usize,
+    out_a: &mut [u8],
+    m: usize,
+    out_b: &mut [u8],
+    n: usize,
+    s: Both,
+) -> Both
+    requires { ⌜ (na ≡ recordsOf (now a)) × (nb ≡ recordsOf (now b)) × (m ≤ 2 ^ 40) × (n ≤ 2 ^ 40) × Under (2 ^ 38) (s .e) × Under (2 ^ 38) (s .f) × Stands (now a) (s .x) × Stands (now b) (s .y) × Chooses (transformTurn order) (now a) (now b) (s .x) (s .y) Turn.Together × (s .x .kind ≡ 2) × (s .y .kind ≡ 2) ⌝ }
+    ensures { λ r. ⌜ TogetherBoth m n (now (a .entry)) (now (b .entry)) s (now («out_a» .entry)) (now («out_b» .entry)) r (now («out_a» .exit)) (now («out_b» .exit)) ⌝ }
+{
+    let x = s.x;
+    let y = s.y;
+    let k = x.left;
+    let p = keep(a, b, out_a, m, out_b, n, s, k);
+    let e = p.e;
+    let f = p.f;
+    let g = operation::core::rest(a, na, x, k, x.to);
+    let h = operation::core::rest(b, nb, y, k, y.to);
+    Both { x: g, y: h, e, f }
+}
+
+// Two inserts that meet.
+fn inserts(
+    a: &[u8],
+    na: usize,
+    b: &[u8],
+    nb: usize,
+    out_a: &mut [u8],
+    m: usize,
+    out_b: &mut [u8],
+    n: usize,
+    s: Both,
+) -> Both
+    requires { ⌜ (na ≡ recordsOf (now a)) × (nb ≡ recordsOf (now b)) × (m ≤ 2 ^ 40) × (n ≤ 2 ^ 40) × Under (2 ^ 38) (s .e) × Under (2 ^ 38) (s .f) × Stands (now a) (s .x) × Stands (now b) (s .y) × (s .x .kind ≡ 2) × (s .y .kind ≡ 2) ⌝ }
+    ensures { λ r. ⌜ WentBoth m n (now (a .entry)) (now (b .entry)) s (now («out_a» .entry)) (now («out_b» .entry)) r (now («out_a» .exit)) (now («out_b» .exit)) ⌝ }
+{
+    let x = s.x;
+    let y = s.y;
+    match rank(a, b, x, y) {
+        Ordering::Less => lesser_first(a, na, out_a, m, s),
+        Ordering::Equal => equal_inserts(a, na, b, nb, out_a, m, out_b, n, s),
+        Ordering::Greater => lesser_second(b, nb, out_b, n, s),
+    }
 }
 
 // One step.
@@ -223,11 +360,22 @@ fn turn(
 {
     let x = s.x;
     let y = s.y;
-    match whose(a, b, x, y) {
-        Turn::First => first(a, na, out_a, m, s),
-        Turn::Second => second(b, nb, out_b, n, s),
-        Turn::Together => together(a, na, b, nb, out_a, m, out_b, n, s),
+    if x.kind == 2 {
+        if y.kind == 2 {
+            return inserts(a, na, b, nb, out_a, m, out_b, n, s);
+        }
+        return insert_first(a, na, out_a, m, s);
     }
+    if y.kind == 2 {
+        return insert_second(b, nb, out_b, n, s);
+    }
+    if x.kind == 0 {
+        return second(b, nb, out_b, n, s);
+    }
+    if y.kind == 0 {
+        return first(a, na, out_a, m, s);
+    }
+    together(a, na, b, nb, out_a, m, out_b, n, s)
 }
 
 // All of both sides, for results of m and n records.

@@ -1,0 +1,58 @@
+use native.Mathlib.Omega.{arith}
+use Rattle.operational_transform.proofs.Adding.{under-more}
+use Rattle.compose.proofs.Steps.{Cuts, both-second, retained-less, retained-more, whole-cut}
+use borrow.Author.Needs.{needs}
+use Rattle.compose.proofs.core.retain_delete.Statement.{statement}
+use Rattle.compose.proofs.core.retain_delete.Tie as tie
+
+part-requires : tie.Need-part-requires
+part-requires c κs = search (Cuts, needs)
+
+rest-requires : tie.Need-rest-requires
+rest-requires c κs = search (Cuts, needs)
+
+rest-requires-2 : tie.Need-rest-requires-2
+rest-requires-2 c κs = search (Cuts, needs)
+
+same-length : tie.Need-same-length
+same-length c = search needs
+
+returns : tie.Need-returns
+returns c =
+    let start = c .before .before .before .before .before .before .before .before .before .before .before .before .before .before .before in
+    retained-less _ _ _ (start .args .s) _ _ _ (start .pre .4) (start .pre .5) _ _ (start .pre .6) (start .pre .7) (search needs) (c .before .before .before .before .part .ensures) (c .before .rest .ensures) (c .rest2 .ensures)
+
+part-requires-2 : tie.Need-part-requires-2
+part-requires-2 c κs =
+    let start = c .before .before .before .before .before .before .before .before .before .before in
+    let u = start .pre .3 in
+    (start .pre .2, start .pre .5, both-second _ _ _ _ (start .pre .6) (start .pre .5), search needs, whole-cut _ _ (start .pre .5), under-more _ _ _ (omega arith) u)
+
+rest-requires-3 : tie.Need-rest-requires-3
+rest-requires-3 c κs = search (Cuts, needs)
+
+rest-requires-4 : tie.Need-rest-requires-4
+rest-requires-4 c κs = search (Cuts, needs)
+
+same-length-2 : tie.Need-same-length-2
+same-length-2 c = search needs
+
+returns-2 : tie.Need-returns-2
+returns-2 c =
+    let start = c .before .before .before .before .before .before .before .before .before .before .before .before .before .before .before in
+    retained-more _ _ _ (start .args .s) _ _ _ (start .pre .4) (start .pre .5) _ _ (start .pre .6) (start .pre .7) (search needs) (c .before .before .before .before .part2 .ensures) (c .before .rest3 .ensures) (c .rest4 .ensures)
+
+pub retain-delete-spec : {M : Type 1} → statement M
+retain-delete-spec =
+    tie.close
+    (tie.spec
+    part-requires
+    rest-requires
+    rest-requires-2
+    same-length
+    returns
+    part-requires-2
+    rest-requires-3
+    rest-requires-4
+    same-length-2
+    returns-2)

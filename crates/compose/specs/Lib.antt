@@ -1,2 +1,0 @@
--- compose
-pub mod Composing
