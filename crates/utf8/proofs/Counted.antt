@@ -6,7 +6,7 @@ use mathlib.Core.Path.{_≡_, sym, ap, _∙_}
 use mathlib.Core.Bool.{Bool, true, false, not}
 use mathlib.Core.List.{List}
 use lib.ListN.{length, getD, take, drop, length-drop, length-take, drop-of-length-le, take-append-drop}
-use lib.Seq.{drop-drop, take-all}
+use lib.Seq.{drop-drop}
 use borrow.Author.Tests.{not-true, not-false}
 use Rattle.utf8.specs.Chars.{isCont, numChars}
 use Rattle.utf8.proofs.Walk.{num-cont, num-start}
@@ -47,5 +47,5 @@ module _ (s : List ℕ) (i n : ℕ) (c : Counted s i n) where
         num = omega (arith, c .num, ap (λ j. numChars (take j l)) z, ap numChars (take-append-drop k l), num-append (take k l) (drop k l), ap numChars (drop-drop k i s));
       }
 
-  pub counted-rest : (r : ℕ) → r ≡ numChars (take (length s - i) (drop i s)) → n + r ≡ numChars s
-  counted-rest r e = omega (arith, c .num, ap numChars (take-all (length s - i) (drop i s) (omega (arith, length-drop i s))))
+  pub counted-rest : (r : ℕ) → r ≡ numChars (drop i s) → n + r ≡ numChars s
+  counted-rest r e = omega (arith, c .num)

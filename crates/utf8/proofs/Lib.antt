@@ -9,6 +9,8 @@ pub mod Texts
 pub mod Places
 pub mod Bits
 pub mod Runs
+pub mod Marked
 pub mod Steps
 pub mod Passed
 pub mod Window
+pub mod Moves

@@ -60,7 +60,7 @@ no-tops (b ∷ bs) h =
     ∙ blocks (bitAnd (wordOf bs) (tops (length bs))) (bitAnd b 128)
     ∙ ap₂ _&&_ (top b (h 0)) (no-tops bs (λ k. h (suc k)))
 
-bytes-take : (n : ℕ) (l : List ℕ) → Bytes l → Bytes (take n l)
+pub bytes-take : (n : ℕ) (l : List ℕ) → Bytes l → Bytes (take n l)
 bytes-take zero l h k = lit< tt
 bytes-take (suc n) [] h k = lit< tt
 bytes-take (suc n) (x ∷ l) h zero = h 0

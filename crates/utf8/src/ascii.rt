@@ -12,7 +12,7 @@ fn wide(b: u8) -> u64
 }
 
 // The eight bytes at `at` as one number, the first lowest. Written out, this is one load.
-fn word(text: &[u8], at: usize) -> u64
+pub(crate) fn word(text: &[u8], at: usize) -> u64
     requires { ⌜ at + 8 ≤ length (now text) ⌝ }
     ensures { λ r. ⌜ r ≡ wordOf (take 8 (drop at (now (text .entry)))) ⌝ }
 {

@@ -10,7 +10,7 @@ ghost use Rattle.utf8.specs.Block.{bitOf, dueOf, heldOf, neverOf, outsid
 
 // The number of bytes that aren't continuations. A count in one byte is what makes this fast.
 pub(crate) fn few(text: &[u8]) -> u8
-    requires { ⌜ length (now text) ≤ 64 ⌝ }
+    requires { ⌜ length (now text) ≤ 192 ⌝ }
     ensures { λ r. ⌜ (r ≡ numChars (now (text .entry))) × (r ≤ length (now (text .entry))) ⌝ }
 {
     let mut n: u8 = 0;

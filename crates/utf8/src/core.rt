@@ -7,6 +7,7 @@ ghost use lib.ListN.{length, take, drop};
 ghost use Rattle.utf8.specs.Form.{wellFormed};
 ghost use Rattle.utf8.specs.Chars.{numChars, isCont, takeChars};
 ghost use Rattle.utf8.specs.Order.{byteOrder};
+ghost use Rattle.utf8.specs.Ascii.{Runs};
 ghost use Rattle.utf8.specs.Passed.{formOf};
 
 pub fn continues(b: u8) -> bool
@@ -44,6 +45,34 @@ pub fn form_of(text: &[u8]) -> Form
         return Form::Chars(text.len() - s.conts);
     }
     crate::finish(text, s)
+}
+
+// How many bytes at the front of a text of less than eight are ASCII; 0 of a longer one.
+fn short_run(text: &[u8]) -> usize
+    ensures { λ r. ⌜ Runs (now (text .entry)) 0 r ⌝ }
+{
+    if 8 <= text.len() {
+        return 0;
+    }
+    let mut i = 0;
+    while i < text.len() {
+        if 0x80 <= text[i] {
+            return i;
+        }
+        i += 1;
+    }
+    i
+}
+
+// form_of for texts that are short and ASCII for the most part, as typed ones are.
+pub fn typed_form(text: &[u8]) -> Form
+    ensures { λ r. ⌜ r ≡ formOf (now (text .entry)) ⌝ }
+{
+    let i = short_run(text);
+    if i == text.len() {
+        return Form::Chars(i);
+    }
+    form_of(text)
 }
 
 // The number of bytes that aren't continuations, byte by byte: for short texts.
@@ -126,5 +155,55 @@ pub fn copy_into(dst: &mut [u8], at: usize, src: &[u8])
     while j < src.len() {
         dst[at + j] = src[j];
         j += 1;
+    }
+}
+
+// Four or two bytes, read before any is written: one move.
+fn four(dst: &mut [u8], at: usize, src: &[u8], from: usize)
+    requires { ⌜ (at + 4 ≤ length (now dst)) × (from + 4 ≤ length (now src)) ⌝ }
+    ensures { λ _. ⌜ now (dst .exit) ≡ take at (now (dst .entry)) ++ take 4 (drop from (now (src .entry))) ++ drop (at + 4) (now (dst .entry)) ⌝ }
+{
+    let a = src[from];
+    let b = src[from + 1];
+    let c = src[from + 2];
+    let d = src[from + 3];
+    dst[at] = a;
+    dst[at + 1] = b;
+    dst[at + 2] = c;
+    dst[at + 3] = d;
+}
+
+fn two(dst: &mut [u8], at: usize, src: &[u8], from: usize)
+    requires { ⌜ (at + 2 ≤ length (now dst)) × (from + 2 ≤ length (now src)) ⌝ }
+    ensures { λ _. ⌜ now (dst .exit) ≡ take at (now (dst .entry)) ++ take 2 (drop from (now (src .entry))) ++ drop (at + 2) (now (dst .entry)) ⌝ }
+{
+    let a = src[from];
+    let b = src[from + 1];
+    dst[at] = a;
+    dst[at + 1] = b;
+}
+
+// The same as `copy_into`, for what is mostly short: up to eight bytes by two moves, which may overlap.
+pub fn copy_few(dst: &mut [u8], at: usize, src: &[u8])
+    requires { ⌜ at + length (now src) ≤ length (now dst) ⌝ }
+    ensures { λ _. ⌜ now (dst .exit) ≡ take at (now (dst .entry)) ++ now (src .entry) ++ drop (at + length (now (src .entry))) (now (dst .entry)) ⌝ }
+{
+    let n = src.len();
+    if 8 < n {
+        copy_into(dst, at, src);
+        return;
+    }
+    if 4 <= n {
+        four(dst, at, src, 0);
+        four(dst, at + (n - 4), src, n - 4);
+        return;
+    }
+    if 2 <= n {
+        two(dst, at, src, 0);
+        two(dst, at + (n - 2), src, n - 2);
+        return;
+    }
+    if n == 1 {
+        dst[at] = src[0];
     }
 }

@@ -12,6 +12,7 @@ ghost use Rattle.utf8.specs.Passed.{formOf, spans, Passed};
 mod ascii;
 mod block;
 pub mod core;
+mod marks;
 
 // What a first byte asks for: how many bytes follow it, and the range of the second.
 pub enum Lead {
@@ -25,17 +26,21 @@ fn is_cont(b: u8) -> bool
     0x80 <= b && b <= 0xBF
 }
 
-// The number of bytes that aren't continuations, sixty-four bytes at a time.
+// The number of bytes that aren't continuations: by blocks, each counted in one byte, and then by words.
 pub fn num_chars(bytes: &[u8]) -> usize
     ensures { λ r. ⌜ r ≡ numChars (now (bytes .entry)) ⌝ }
 {
     let mut n = 0;
     let mut i = 0;
+    while 192 <= bytes.len() - i {
+        n += block::few(&bytes[i..i + 192]) as usize;
+        i += 192;
+    }
     while 64 <= bytes.len() - i {
         n += block::few(&bytes[i..i + 64]) as usize;
         i += 64;
     }
-    n + block::few(&bytes[i..]) as usize
+    n + marks::tail(bytes, i)
 }
 
 fn lead_of(b: u8) -> Lead
