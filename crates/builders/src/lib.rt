@@ -13,8 +13,6 @@ ghost use Prim.Native.Nat.{_+_, _^_, _≤_, _<_};
 ghost use lib.Dec.{T};
 ghost use lib.ListN.{length};
 ghost use Rattle.utf8.specs.Form.{wellFormed};
-ghost use Rattle.utf8.specs.Ascii.{Runs};
-ghost use Rattle.utf8.specs.Passed.{formOf};
 ghost use Rattle.utf8.specs.Chars.{numChars};
 ghost use Rattle.utf8.specs.Text.{chars};
 ghost use Rattle.operation.specs.Layout.{recordsOf, textStart};
@@ -206,34 +204,6 @@ fn inserted(rec: &[u8], text: &[u8], num: usize, out: &mut [u8]) -> Written
     }
 }
 
-// How many bytes at the front of a text of less than eight are ASCII; 0 of a longer one.
-fn short_run(text: &[u8]) -> usize
-    ensures { λ r. ⌜ Runs (now (text .entry)) 0 r ⌝ }
-{
-    if 8 <= text.len() {
-        return 0;
-    }
-    let mut i = 0;
-    while i < text.len() {
-        if 0x80 <= text[i] {
-            return i;
-        }
-        i += 1;
-    }
-    i
-}
-
-// A text that is typed is short, and ASCII for the most part.
-fn form_of(text: &[u8]) -> Form
-    ensures { λ r. ⌜ r ≡ formOf (now (text .entry)) ⌝ }
-{
-    let i = short_run(text);
-    if i == text.len() {
-        return Form::Chars(i);
-    }
-    utf8::core::form_of(text)
-}
-
 // The record with a retain of n characters behind it. What counts more than a limit lets no result within the limits.
 pub fn retain(rec: &[u8], n: u64, out: &mut [u8]) -> Written
     ensures { λ r. ⌜ (writtenOf r ≡ retainCall (now (rec .entry)) n (now (out .entry)) .answer) × (now (out .exit) ≡ retainCall (now (rec .entry)) n (now (out .entry)) .out) ⌝ }
@@ -271,7 +241,7 @@ pub fn insert(rec: &[u8], text: &[u8], out: &mut [u8]) -> Written
     match operation::check(rec) {
         Fact::Refused(y) => Written::Refused(y),
         Fact::Is(_) => {
-            let Form::Chars(num) = form_of(text) else {
+            let Form::Chars(num) = utf8::core::typed_form(text) else {
                 return Written::Refused(Refusal::Utf8);
             };
             if 32768 < text.len() {

@@ -52,6 +52,47 @@ module _ (k n : ℕ) where
   unfolding tallied
   count-one t b a o i j m p q u v w = rw (q, u, v, w, p)
 
+  odd-known : (k ≡ 0 → ⊥) → k ≤ 3 → picked (eqb n 0) 1 ≡ odd (entry k n)
+  odd-known z h = ap (λ b. picked b 1) (go n) ∙ ap (λ b. picked (not b) 1) (sound-count z h)
+    where
+      go : (n : ℕ) → eqb n 0 ≡ not (leb 1 n)
+      go zero = refl
+      go (suc n) = rw (ne-eqb (suc n) 0 (λ z. absurd (omega (arith, z))), le-leb 1 (suc n) (omega arith))
+
+  -- by its kind
+  module _ (t : Tally) (last o m : ℕ) (b : Bool) where
+    pub enter-retain : k ≡ 1 → o ≡ picked (eqb n 0) 1 → b ≡ mayFollow last 1 → m ≡ picked (not b) 1
+        → record { odd = t .odd + o; inserts = t .inserts; all = t .all + n; kept = t .kept + n; apart = t .apart + m } ≡ tallied t (entry k n) (not (mayFollow last k))
+    enter-retain e p q s =
+        (λ i. record { odd = t .odd + o; inserts = sym (add-zero (t .inserts)) i; all = t .all + n; kept = t .kept + n; apart = t .apart + m })
+        ∙ count-one t (soundEntry (entry k n)) (not (mayFollow last k)) o 0 n m refl (p ∙ odd-known (λ z. absurd (omega arith)) (omega arith)) (rw (ne-eqb k 2 (λ z. absurd (omega arith)))) (rw (eq-eqb k 1 e)) (s ∙ ap (λ x. picked (not x) 1) (q ∙ ap (mayFollow last) (sym e)))
+
+    pub enter-insert : k ≡ 2 → o ≡ picked (eqb n 0) 1 → b ≡ mayFollow last 2 → m ≡ picked (not b) 1
+        → record { odd = t .odd + o; inserts = t .inserts + n; all = t .all + n; kept = t .kept; apart = t .apart + m } ≡ tallied t (entry k n) (not (mayFollow last k))
+    enter-insert e p q s =
+        (λ i. record { odd = t .odd + o; inserts = t .inserts + n; all = t .all + n; kept = sym (add-zero (t .kept)) i; apart = t .apart + m })
+        ∙ count-one t (soundEntry (entry k n)) (not (mayFollow last k)) o n 0 m refl (p ∙ odd-known (λ z. absurd (omega arith)) (omega arith)) (rw (eq-eqb k 2 e)) (rw (ne-eqb k 1 (λ z. absurd (omega arith)))) (s ∙ ap (λ x. picked (not x) 1) (q ∙ ap (mayFollow last) (sym e)))
+
+    -- what adds to neither
+    enter-neither : (k ≡ 1 → ⊥) → (k ≡ 2 → ⊥) → o ≡ odd (entry k n) → b ≡ mayFollow last k → m ≡ picked (not b) 1
+        → record { odd = t .odd + o; inserts = t .inserts; all = t .all + n; kept = t .kept; apart = t .apart + m } ≡ tallied t (entry k n) (not (mayFollow last k))
+    enter-neither x y p q s =
+        (λ i. record { odd = t .odd + o; inserts = sym (add-zero (t .inserts)) i; all = t .all + n; kept = sym (add-zero (t .kept)) i; apart = t .apart + m })
+        ∙ count-one t (soundEntry (entry k n)) (not (mayFollow last k)) o 0 0 m refl p (rw (ne-eqb k 2 y)) (rw (ne-eqb k 1 x)) (s ∙ ap (λ x. picked (not x) 1) q)
+
+    pub enter-delete : k ≡ 3 → o ≡ picked (eqb n 0) 1 → b ≡ mayFollow last 3 → m ≡ picked (not b) 1
+        → record { odd = t .odd + o; inserts = t .inserts; all = t .all + n; kept = t .kept; apart = t .apart + m } ≡ tallied t (entry k n) (not (mayFollow last k))
+    enter-delete e p q s =
+        enter-neither (λ z. absurd (omega arith)) (λ z. absurd (omega arith)) (p ∙ odd-known (λ z. absurd (omega arith)) (omega arith)) (q ∙ ap (mayFollow last) (sym e)) s
+
+  pub enter-other : (t : Tally) (last m : ℕ) (b : Bool) → (k ≡ 1 → ⊥) → (k ≡ 2 → ⊥) → (k ≡ 3 → ⊥) → b ≡ mayFollow last k → m ≡ picked (not b) 1
+      → record { odd = t .odd + 1; inserts = t .inserts; all = t .all + n; kept = t .kept; apart = t .apart + m } ≡ tallied t (entry k n) (not (mayFollow last k))
+  enter-other t last m b x y w q s = enter-neither t last 1 m b x y (sym (ap (λ b. picked (not b) 1) (unknown (eqb k 0) refl))) q s
+    where
+      unknown : (c : Bool) → eqb k 0 ≡ c → soundEntry (entry k n) ≡ false
+      unknown true e = sym (sound-low (eqb-true k 0 e))
+      unknown false e = sym (sound-high (omega (arith, eqb-false k 0 e)))
+
   pub part-one : (p : Parts) (o i j m : ℕ) → o ≡ picked (eqb n 0) 1 → i ≡ picked (eqb k 2) n → j ≡ picked (eqb k 1) n → m ≡ picked (eqb k 3) n
       → record { empty = p .empty + o; inserts = p .inserts + i; kept = p .kept + j; deleted = p .deleted + m } ≡ partedBy p (entry k n)
   unfolding partedBy
@@ -90,14 +131,14 @@ sum-under f k n h =
     let e : n ≡ k + 1 + (n - (k + 1)) = omega arith in
     omega (arith, ap (sumFrom f 0) e, sum-join f 0 (k + 1) (n - (k + 1)), sum-more f k)
 
-tally-none : (r : List ℕ) → Tallied r 0 (record { odd = 0; inserts = 0; all = 0; kept = 0; apart = 0 })
+pub tally-none : (r : List ℕ) → Tallied r 0 (record { odd = 0; inserts = 0; all = 0; kept = 0; apart = 0 })
 tally-none r =
     record {
       odds = refl;
       inserted = refl;
       counts = refl;
       retained = refl;
-      neighbours = refl;
+      neighbours = λ z. refl;
       few = omega arith;
       less = omega arith;
       fewer = omega arith;
@@ -152,7 +193,7 @@ module _ (r : List ℕ) (k kind count : ℕ) (q : kind ≡ kindAt r k) (c : coun
       ∙ sym (none-both (sumOf f r k) (f (entry kind count)))
       ∙ ap (λ x. eqb x 0) (more f refl)
 
-  tally-step : (t u : Tally) (b : Bool) → Tallied r k t → count < 65536 → u ≡ tallied t (entry kind count) b → t .apart + picked b 1 ≡ sumFrom (apartAt r) 0 (k + 1 - 1) → Tallied r (k + 1) u
+  tally-step : (t u : Tally) (b : Bool) → Tallied r k t → count < 65536 → u ≡ tallied t (entry kind count) b → (t .odd + odd (entry kind count) ≡ 0 → t .apart + picked b 1 ≡ sumFrom (apartAt r) 0 (k + 1 - 1)) → Tallied r (k + 1) u
   unfolding tallied
   tally-step t u b g h v w =
       let o = picked-le (not (soundEntry (entry kind count))) 1 in
@@ -175,7 +216,7 @@ module _ (r : List ℕ) (k kind count : ℕ) (q : kind ≡ kindAt r k) (c : coun
       )
 
   pub tally-more : (t u : Tally) (last : ℕ) (b : Bool) → Tallied r k t → count < 65536 → 1 ≤ k → last ≡ kindAt r (k - 1) → b ≡ mayFollow last kind → u ≡ tallied t (entry kind count) (not b) → Tallied r (k + 1) u
-  tally-more t u last b g h l e f v = tally-step t u (not b) g h v (apart-more r 1 k last kind (picked (not b) 1) (t .apart) b (omega arith) l e q f refl (g .neighbours))
+  tally-more t u last b g h l e f v = tally-step t u (not b) g h v (λ z. apart-more r 1 k last kind (picked (not b) 1) (t .apart) b (omega arith) l e q f refl (g .neighbours (omega (arith, z))))
 
   pub part-more : (p u : Parts) → Parted r k p → u ≡ partedBy p (entry kind count) → Parted r (k + 1) u
   unfolding partedBy
@@ -204,7 +245,29 @@ module _ (r : List ℕ) where
   tally-empty n e = rw e (tally-none r)
 
   pub tally-first : (kind count : ℕ) (u : Tally) → kind ≡ kindAt r 0 → count ≡ countAt r 0 → count < 65536 → u ≡ tallied (record { odd = 0; inserts = 0; all = 0; kept = 0; apart = 0 }) (entry kind count) false → Tallied r 1 u
-  tally-first kind count u q c h v = tally-step r 0 kind count q c (record { odd = 0; inserts = 0; all = 0; kept = 0; apart = 0 }) u false (tally-none r) h v refl
+  tally-first kind count u q c h v = tally-step r 0 kind count q c (record { odd = 0; inserts = 0; all = 0; kept = 0; apart = 0 }) u false (tally-none r) h v (λ z. refl)
+
+-- the kind before record k, and 0 before the first
+abbrev pub lastKind : List ℕ → ℕ → ℕ
+lastKind r zero = 0
+lastKind r (suc k) = kindAt r k
+
+pub last-more : (r : List ℕ) (k kind : ℕ) → kind ≡ kindAt r k → kind ≡ lastKind r (k + 1)
+last-more r k kind q = q ∙ ap (lastKind r) (sym (add-one k))
+
+-- whatever can be may follow 0
+first-follows : (last kind count : ℕ) → last ≡ 0 → odd (entry kind count) ≡ 0 → mayFollow last kind ≡ true
+unfolding mayFollow
+first-follows last kind count e z =
+    let f : kind ≡ 0 → odd (entry kind count) ≡ 1 = λ y. ap (λ b. picked (not b) 1) (sym (sound-low kind count y)) in
+    rw (e, ne-eqb 0 kind (λ y. absurd (omega (arith, z, f (sym y)))))
+
+pub tally-next : (r : List ℕ) (k kind count : ℕ) → kind ≡ kindAt r k → count ≡ countAt r k → (t u : Tally) (last : ℕ) → Tallied r k t → count < 65536 → last ≡ lastKind r k → u ≡ tallied t (entry kind count) (not (mayFollow last kind)) → Tallied r (k + 1) u
+tally-next r zero kind count q c t u last g h e v =
+    tally-step r 0 kind count q c t u (not (mayFollow last kind)) g h v (λ z. omega (arith, z, g .neighbours (omega (arith, z)), ap (λ b. picked (not b) 1) (first-follows last kind count e (omega (arith, z)))))
+tally-next r (suc k) kind count q c t u last g h e v =
+    let x : k ≡ suc k - 1 = omega arith in
+    tally-more r (suc k) kind count q c t u last (mayFollow last kind) g h (omega arith) (e ∙ ap (kindAt r) x) refl v
 
 -- all counts
 pub whole-few : (r : List ℕ) (n : ℕ) → Whole r n 65536
@@ -300,7 +363,7 @@ module _ (r : List ℕ) where
           inserted = g .inserted;
           counts = w .counts l;
           retained = g .retained;
-          neighbours = e;
+          neighbours = λ z. e;
           few = omega (arith, g .few);
           less = omega arith;
           fewer = omega arith;
@@ -424,7 +487,7 @@ module _ (r : List ℕ) (n : ℕ) (t : Tally) (e : n ≡ recordsOf r) (g : Talli
         let y : t .all ≡ insertBytes (entries r) + base (byteOps r) = g .counts ∙ base-sum r 0 n (textOf r) ∙ ap (λ m. insertBytes (entriesFrom r 0 m) + base (operations (entriesFrom r 0 m) (textOf r))) e in
         let w : t .all - t .inserts ≡ base (byteOps r) = omega arith in
         let v : t .kept ≡ total keeps (byteOps r) = g .retained ∙ kept-sum r 0 n (textOf r) ∙ ap (λ m. total keeps (operations (entriesFrom r 0 m) (textOf r))) e in
-        rw (all-sound) (λ i. Of (record { inserts = x i; linked = (ap (λ j. eqb j 0) (g .neighbours) ∙ none-apart r n e (known all-sound)) i; base = w i; kept = v i }))
+        rw (all-sound) (λ i. Of (record { inserts = x i; linked = (ap (λ j. eqb j 0) (g .neighbours z) ∙ none-apart r n e (known all-sound)) i; base = w i; kept = v i }))
 
 chars-part : (n m : ℕ) (t : List ℕ) → numChars (take (n + m) t) ≡ numChars (take n t) + numChars (take m (drop n t))
 chars-part n m t = ap numChars (take-add n m t) ∙ num-append (take n t) (take m (drop n t))

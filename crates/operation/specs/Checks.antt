@@ -62,13 +62,13 @@ tallied t e apart =
       apart = t .apart + picked apart 1;
     }
 
--- the first n entries
+-- the first n entries; their neighbours, where none is odd
 pub record Tallied (r : List ℕ) (n : ℕ) (t : Tally) : Type 0 where
   pub odds : eqb (t .odd) 0 ≡ eqb (sumOf odd r n) 0
   pub inserted : t .inserts ≡ sumOf (ofKind 2) r n
   pub counts : t .all ≡ sumOf (λ e. e .count) r n
   pub retained : t .kept ≡ sumOf (ofKind 1) r n
-  pub neighbours : t .apart ≡ sumFrom (apartAt r) 0 (n - 1)
+  pub neighbours : t .odd ≡ 0 → t .apart ≡ sumFrom (apartAt r) 0 (n - 1)
   pub few : t .odd ≤ 65537 * n
   pub less : t .inserts ≤ t .all
   pub fewer : t .kept ≤ t .all

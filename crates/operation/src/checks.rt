@@ -1,6 +1,7 @@
 // The parts of a record's check.
 use utf8::core::Form;
 ghost use mathlib.Core.Path.{_≡_};
+ghost use mathlib.Core.Bool.{not};
 ghost use Prim.Native.Nat.{_+_, _-_, _^_, _≤_, _<_};
 ghost use lib.ListN.{length, drop};
 ghost use Rattle.operation.specs.Layout.{recordsOf, textBytesOf, textStart};
@@ -47,8 +48,8 @@ pub(crate) enum Entries {
     Of(Sums),
 }
 
-// The passes over the entries have no branch, so they are done several entries at a time: the more, the narrower their
-// numbers are.
+// The passes over eight entries and more have no branch, so they are done several entries at a time: the more, the
+// narrower their numbers are.
 
 // n where it counts, else 0.
 fn pick(counts: bool, n: u32) -> u32
@@ -142,6 +143,74 @@ fn any(rec: &[u8], n: usize) -> Tally
         let kind = crate::layout::kind(rec, k);
         let count = crate::layout::count(rec, n, k);
         t = counted(t, kind, count, !may_follow(last, kind));
+        k += 1;
+    }
+    t
+}
+
+// One entry more, by its kind.
+fn entered(t: Tally, last: u8, kind: u8, count: u32) -> Tally
+    requires { ⌜ (t .odd ≤ 2 ^ 31) × (t .all ≤ 2 ^ 31) × (t .inserts ≤ t .all) × (t .kept ≤ t .all) × (t .apart ≤ 2 ^ 31) × (count < 65536) ⌝ }
+    ensures { λ r. ⌜ r ≡ tallied t (entry kind count) (not (mayFollow last kind)) ⌝ }
+{
+    let odd = t.odd + pick(count == 0, 1);
+    let all = t.all + count;
+    if kind == 1 {
+        return Tally {
+            odd,
+            inserts: t.inserts,
+            all,
+            kept: t.kept + count,
+            apart: t.apart + pick(!may_follow(last, 1), 1),
+        };
+    }
+    if kind == 2 {
+        return Tally {
+            odd,
+            inserts: t.inserts + count,
+            all,
+            kept: t.kept,
+            apart: t.apart + pick(!may_follow(last, 2), 1),
+        };
+    }
+    if kind == 3 {
+        return Tally {
+            odd,
+            inserts: t.inserts,
+            all,
+            kept: t.kept,
+            apart: t.apart + pick(!may_follow(last, 3), 1),
+        };
+    }
+    Tally {
+        odd: t.odd + 1,
+        inserts: t.inserts,
+        all,
+        kept: t.kept,
+        apart: t.apart + pick(!may_follow(last, kind), 1),
+    }
+}
+
+// A few entries, one after another: with branches that is the fewest instructions for those of a keystroke. Kind 0 stands
+// before the first: only what can't be may not follow it.
+fn few(rec: &[u8], n: usize) -> Tally
+    requires { ⌜ (n ≡ recordsOf (now rec)) × (n ≤ 1024) × (textStart n ≤ length (now rec)) ⌝ }
+    ensures { λ r. ⌜ Tallied (now (rec .entry)) n r ⌝ }
+{
+    let mut t = Tally {
+        odd: 0,
+        inserts: 0,
+        all: 0,
+        kept: 0,
+        apart: 0,
+    };
+    let mut last: u8 = 0;
+    let mut k = 0;
+    while k < n {
+        let kind = crate::layout::kind(rec, k);
+        let count = crate::layout::count(rec, n, k) as u32;
+        t = entered(t, last, kind, count);
+        last = kind;
         k += 1;
     }
     t
@@ -242,6 +311,9 @@ fn count_up(rec: &[u8], n: usize) -> Tally
     requires { ⌜ (n ≡ recordsOf (now rec)) × (n ≤ 1024) × (textStart n ≤ length (now rec)) ⌝ }
     ensures { λ r. ⌜ Tallied (now (rec .entry)) n r ⌝ }
 {
+    if n < 8 {
+        return few(rec, n);
+    }
     let all = all_counts(rec, n);
     if 65535 < all {
         return any(rec, n);
@@ -315,7 +387,7 @@ pub(crate) fn inserted_chars(rec: &[u8], n: usize, text: usize, linked: bool) ->
     let from = crate::layout::text_start(n);
     let to = from + text;
     let all = &rec[from..to];
-    let Form::Chars(chars) = utf8::core::form_of(all) else {
+    let Form::Chars(chars) = utf8::core::typed_form(all) else {
         return Inserted::IllFormed;
     };
     if chars < text {

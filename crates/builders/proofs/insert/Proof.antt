@@ -19,8 +19,8 @@ enum-known-y c = search needs
 enum-told : tie.Need-enum-told
 enum-told c = search needs
 
-form-of-requires : tie.Need-form-of-requires
-form-of-requires c κs = search needs
+typed-form-requires : tie.Need-typed-form-requires
+typed-form-requires c κs = search needs
 
 enum-known-num : tie.Need-enum-known-num
 enum-known-num c = search needs
@@ -69,7 +69,7 @@ insert-spec =
     check-requires
     enum-known-y
     enum-told
-    form-of-requires
+    typed-form-requires
     enum-known-num
     enum-told-2
     returns
