@@ -26,7 +26,7 @@ use Rattle.operational_transform.proofs.Building.{addAll-append}
 use Rattle.operational_transform.proofs.Growing.{total-reverse}
 use Rattle.operational_transform.proofs.Loops.{add-base, add-target}
 use Rattle.operational_transform.proofs.Widths.{bytes-most}
-use Rattle.operational_transform.proofs.Over.{over-nil, over-none}
+use Rattle.operational_transform.proofs.Over.{over-nil, over-none, over-behind}
 use Rattle.operational_transform.proofs.Emitting.{flushed-few, opens-same, opens-again, spilled-same, spilled-again, spilled-none, group-text, group-length, lay-group, lay-text}
 
 -- ---- a run of builders
@@ -395,6 +395,10 @@ module _ (r : List ℕ) (f : Front) (k mid : ℕ) (s : Stands r f) (h : k ≤ f 
 
     pub part-deletes : 0 < k → (f .kind ≡ 1 → ⊥) → (f .kind ≡ 2 → ⊥) → e′ ≡ deletedBy k e → o′ ≡ spilled n e o → Adds n (cut k (frontOp r f) ∷ []) e o e′ o′
     part-deletes l y z w p = rw (op-delete r f y z) (adds-deletes n k e o (omega (arith, s .small)) (λ v. absurd (omega arith)) w p)
+
+    -- where there is no place for text
+    pub mark-inserts : 0 < k → f .kind ≡ 2 → length o ≤ textStart n → e′ ≡ insertedBy (mid - f .from) k e → o′ ≡ spilled n e o → length o′ ≡ length o → Adds n (cut k (frontOp r f) ∷ []) e o e′ o′
+    mark-inserts l z m w p q = part-inserts l z w refl p (over-behind (textStart n + e .text) (take (mid - f .from) (drop (f .from) r)) o′ (omega arith))
 
 -- cut behind its last character, it is whole
 pub whole-op : (r : List ℕ) (f : Front) → Stands r f → cut (f .left) (frontOp r f) ≡ frontOp r f

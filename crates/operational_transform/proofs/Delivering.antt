@@ -100,7 +100,7 @@ pub record Inside (e : Emitter) : Type 0 where
   pub target : e .target ≤ 32768
 
 module _ (e : Emitter) where
-  within-inside : T (within e) → Inside e
+  pub within-inside : T (within e) → Inside e
   within-inside h =
       let (a, h₁) = le-and (e .records) 1024 _ .0 h in
       let (b, h₂) = le-and (e .text) 32768 _ .0 h₁ in

@@ -17,6 +17,7 @@ pub mod Loops
 pub mod Outputs
 pub mod Examples
 pub mod Theorems
+pub mod Counting
 pub mod Results
 pub mod Widths
 pub mod Over

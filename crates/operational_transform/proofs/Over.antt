@@ -77,7 +77,7 @@ over-room zero (suc k) (x ∷ xs) (y ∷ o) h = ap (λ r. x ∷ r) (over-room ze
 over-room (suc p) k xs [] h = refl
 over-room (suc p) k xs (y ∷ o) h = ap (λ r. y ∷ r) (over-room p k xs o (omega arith))
 
-over-behind : (p : ℕ) (xs o : List ℕ) → length o ≤ p → o ≡ over p xs o
+pub over-behind : (p : ℕ) (xs o : List ℕ) → length o ≤ p → o ≡ over p xs o
 over-behind p xs o h = sym (over-nil p o) ∙ over-room p 0 xs o (omega arith)
 
 -- ---- `put`, `put16`, `copy`

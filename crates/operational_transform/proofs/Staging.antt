@@ -11,7 +11,7 @@ use Rattle.utf8.proofs.Tests.{known, le-and}
 use Rattle.operation.specs.Layout.{kindsStart, countsStart, textStart}
 use Rattle.operation.specs.Record.{Seq, inBytes, text}
 use Rattle.operational_transform.specs.declared.core.Emitter.{Emitter}
-use Rattle.operational_transform.specs.Emit.{over, kindsOf, countsOf, textsOf, laid, Done, Writes, Staged, headed, settled}
+use Rattle.operational_transform.specs.Emit.{over, kindsOf, countsOf, textsOf, Under, laid, Sizes, Done, Writes, Staged, Marked, headed, settledRecords, settled}
 use Rattle.operational_transform.proofs.Over.{length-over, over-swap}
 use Rattle.operational_transform.proofs.Emitting.{length-kinds, length-counts}
 use Rattle.operational_transform.proofs.Delivering.{text-ahead}
@@ -28,7 +28,7 @@ over-read (suc p) xs (y ∷ o) h = over-read p xs o (omega arith)
 read-back : (p k : ℕ) (xs o o′ : List ℕ) → o′ ≡ over p xs o → length xs ≡ k → p + k ≤ length o → take k (drop p o′) ≡ xs
 read-back p k xs o o′ e l h = rw (e, ← l) (over-read p xs o (omega arith))
 
-module _ (slots : ℕ) (w : Seq) (t o : List ℕ) (few : length w ≤ slots) (room : textStart slots + length t ≤ length o) where
+module _ (slots : ℕ) (w : Seq) (t o : List ℕ) (few : length w ≤ slots) (room : textStart slots ≤ length o) where
   abbrev kinds : List ℕ
   kinds = kindsOf w
 
@@ -51,19 +51,50 @@ module _ (slots : ℕ) (w : Seq) (t o : List ℕ) (few : length w ≤ slots) (ro
       (length-counts w)
       (omega (arith, length-over kindsStart kinds x, length-over (textStart slots) t o))
 
-  text-read : take (length t) (drop (textStart slots) (laid slots w t o)) ≡ t
+  text-read : textStart slots + length t ≤ length o → take (length t) (drop (textStart slots) (laid slots w t o)) ≡ t
   unfolding laid
-  text-read =
+  text-read h =
       let x = over (countsStart slots) counts o in
       read-back (textStart slots) (length t) t (over kindsStart kinds x) _
       (ap (over kindsStart kinds) (sym (over-swap (countsStart slots) (textStart slots) counts t o (omega (arith, length-counts w)))) ∙ sym (over-swap kindsStart (textStart slots) kinds t x (omega (arith, length-kinds w))))
       refl
       (omega (arith, length-over kindsStart kinds x, length-over (countsStart slots) counts o))
 
--- `settle` gives what a run of as many places as there are operations writes
+text-of : (s : Seq) → text (map inBytes s) ≡ textsOf (reverse s)
+text-of s = ap (λ u. text (map inBytes u)) (sym (reverse-reverse s)) ∙ text-ahead (reverse s)
+
+-- `settle_records` with the text in its place gives what a run of as many places as there are operations writes
+pub marked-writes : (slots : ℕ) (s : Seq) (e : Emitter) (stage t out out′ : List ℕ) → Marked slots s stage → Sizes s e → Under (2 ^ 40) e → e .records ≤ slots → textStart slots ≤ length stage → t ≡ text (map inBytes s)
+    → out′ ≡ headed e (settledRecords slots (e .records) (e .records) stage (over (textStart (e .records)) t out)) → Writes (e .records) s out out′
+unfolding laid
+marked-writes slots s e stage t out out′ g z u few room tt p =
+    let o = g .before in
+    let w = reverse s in
+    let n : e .records ≡ length w = z .records ∙ sym (length-reverse s) in
+    let q = g .wrote (omega (arith, z .records)) in
+    let fw : length w ≤ slots = omega arith in
+    let r : textStart slots ≤ length o = omega (arith, g .as-long) in
+    let kr = (λ i. take (n i) (drop kindsStart (q i))) ∙ kinds-read slots w (textsOf w) o fw r in
+    let cr = (λ i. take (2 * n i) (drop (countsStart slots) (q i))) ∙ counts-read slots w (textsOf w) o fw r in
+    let tr = tt ∙ text-of s in
+    record {
+      emitter = e;
+      before = settledRecords slots (e .records) (e .records) stage (over (textStart (e .records)) t out);
+      done = record {
+        small = u;
+        sizes = z;
+        wrote = λ _ i. over kindsStart (kr i) (over (countsStart (e .records)) (cr i) (over (textStart (e .records)) (tr i) out));
+      };
+      is = p;
+    }
+
+pub marks : {slots : ℕ} {s : Seq} {o stage : List ℕ} {e : Emitter} → Done slots s o e stage → length stage ≡ length o → Marked slots s stage
+marks {slots} {s} {o} d l = record { before = o; as-long = l; wrote = λ h. d .wrote (omega (arith, d .sizes .records)) }
+
+-- and so does `settle` with the stage's text
 pub staged-writes : (slots : ℕ) (s : Seq) (e : Emitter) (stage out out′ : List ℕ) → Staged slots s e stage → e .records ≤ slots → textStart slots + e .text ≤ length stage
     → out′ ≡ headed e (settled slots (e .records) (e .records) (e .text) stage out) → Writes (e .records) s out out′
-unfolding settled laid
+unfolding settled
 staged-writes slots s e stage out out′ g few room p =
     let d = g .done in
     let o = g .before in
@@ -72,24 +103,8 @@ staged-writes slots s e stage out out′ g few room p =
     let n : e .records ≡ length w = d .sizes .records ∙ sym (length-reverse s) in
     let t : e .text ≡ length (textsOf w) = d .sizes .text-bytes ∙ ap length (text-of s) in
     let q = d .wrote few in
-    let fw : length w ≤ slots = omega arith in
-    let rt : textStart slots + length (textsOf w) ≤ length o = omega arith in
-    let kr = (λ i. take (n i) (drop kindsStart (q i))) ∙ kinds-read slots w (textsOf w) o fw rt in
-    let cr = (λ i. take (2 * n i) (drop (countsStart slots) (q i))) ∙ counts-read slots w (textsOf w) o fw rt in
-    let tr = (λ i. take (t i) (drop (textStart slots) (q i))) ∙ text-read slots w (textsOf w) o fw rt in
-    record {
-      emitter = e;
-      before = settled slots (e .records) (e .records) (e .text) stage out;
-      done = record {
-        small = d .small;
-        sizes = d .sizes;
-        wrote = λ z i. over kindsStart (kr i) (over (countsStart (e .records)) (cr i) (over (textStart (e .records)) (tr i) out));
-      };
-      is = p;
-    }
-  where
-    text-of : (s : Seq) → text (map inBytes s) ≡ textsOf (reverse s)
-    text-of s = ap (λ u. text (map inBytes u)) (sym (reverse-reverse s)) ∙ text-ahead (reverse s)
+    let tr = (λ i. take (t i) (drop (textStart slots) (q i))) ∙ text-read slots w (textsOf w) o (omega arith) (omega arith) (omega arith) in
+    marked-writes slots s e stage (take (e .text) (drop (textStart slots) stage)) out out′ (marks d l) (d .sizes) (d .small) few (omega arith) (tr ∙ sym (text-of s)) p
 
 pub stages : {slots : ℕ} {s : Seq} {o stage : List ℕ} {e : Emitter} → Done slots s o e stage → length stage ≡ length o → Staged slots s e stage
 stages {slots} {s} {o} d l = record { before = o; done = d; as-long = l }
@@ -120,14 +135,18 @@ module _ (e : Emitter) (slots room : ℕ) where
 part-is : (p q a b m : ℕ) (s o : List ℕ) → p ≡ q → a ≡ b → over p (take (a + m - a) (drop a s)) o ≡ over q (take m (drop b s)) o
 part-is p q a b m s o x y = let z : a + m - a ≡ m = omega arith in λ i. over (x i) (take (z i) (drop (y i) s)) o
 
-pub settles : (slots n k t : ℕ) (stage o : List ℕ) {a c f x d : ℕ} {o₁ o₂ o₃ : List ℕ} → a ≡ kindsStart + 0 → c ≡ countsStart slots + 2 * 0 → f ≡ textStart slots → x ≡ textStart n → d ≡ countsStart n + 2 * 0
-    → o₁ ≡ over x (take (f + t - f) (drop f stage)) o → o₂ ≡ over d (take (c + 2 * k - c) (drop c stage)) o₁ → o₃ ≡ over a (take (a + k - a) (drop a stage)) o₂ → o₃ ≡ settled slots n k t stage o
-unfolding settled
-settles slots n k t stage o {a} {c} {f} {x} {d} pa pc pf px pd p q r =
+pub settles-records : (slots n k : ℕ) (stage o : List ℕ) {a c d : ℕ} {o₁ o₂ : List ℕ} → a ≡ kindsStart + 0 → c ≡ countsStart slots + 2 * 0 → d ≡ countsStart n + 2 * 0
+    → o₁ ≡ over d (take (c + 2 * k - c) (drop c stage)) o → o₂ ≡ over a (take (a + k - a) (drop a stage)) o₁ → o₂ ≡ settledRecords slots n k stage o
+settles-records slots n k stage o {a} {c} {d} pa pc pd q r =
     let a8 : a ≡ kindsStart = omega arith in
     let cs : c ≡ countsStart slots = omega arith in
     let dn : d ≡ countsStart n = omega arith in
     r
     ∙ part-is a kindsStart a kindsStart k stage _ a8 a8
-    ∙ ap (over kindsStart (take k (drop kindsStart stage)))
-    (q ∙ part-is d (countsStart n) c (countsStart slots) (2 * k) stage _ dn cs ∙ ap (over (countsStart n) (take (2 * k) (drop (countsStart slots) stage))) (p ∙ part-is x (textStart n) f (textStart slots) t stage o px pf))
+    ∙ ap (over kindsStart (take k (drop kindsStart stage))) (q ∙ part-is d (countsStart n) c (countsStart slots) (2 * k) stage o dn cs)
+
+pub settles : (slots n k t : ℕ) (stage o : List ℕ) {a c f x d : ℕ} {o₁ o₂ o₃ : List ℕ} → a ≡ kindsStart + 0 → c ≡ countsStart slots + 2 * 0 → f ≡ textStart slots → x ≡ textStart n → d ≡ countsStart n + 2 * 0
+    → o₁ ≡ over x (take (f + t - f) (drop f stage)) o → o₂ ≡ over d (take (c + 2 * k - c) (drop c stage)) o₁ → o₃ ≡ over a (take (a + k - a) (drop a stage)) o₂ → o₃ ≡ settled slots n k t stage o
+unfolding settled
+settles slots n k t stage o {a} {c} {f} {x} {d} {o₁} pa pc pf px pd p q r =
+    settles-records slots n k stage o₁ pa pc pd q r ∙ ap (settledRecords slots n k stage) (p ∙ part-is x (textStart n) f (textStart slots) t stage o px pf)

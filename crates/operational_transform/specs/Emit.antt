@@ -178,12 +178,20 @@ pub record Staged (slots : ℕ) (s : Seq) (e : Emitter) (stage : List ℕ) : Typ
   pub done : Done slots s before e stage
   pub as-long : length stage ≡ length before
 
--- the first k kinds and counts and t bytes of text of a record with places for `slots` operations, at their places in one of n
+-- the kinds and counts were, and as much of the text as had a place
+pub record Marked (slots : ℕ) (s : Seq) (stage : List ℕ) : Type 0 where
+  pub before : List ℕ
+  pub as-long : length stage ≡ length before
+  pub wrote : length s ≤ slots → stage ≡ laid slots (reverse s) (textsOf (reverse s)) before
+
+-- the first k kinds and counts of a record with places for `slots` operations, at their places in one of n
+abbrev pub settledRecords : ℕ → ℕ → ℕ → List ℕ → List ℕ → List ℕ
+settledRecords slots n k stage o = over kindsStart (take k (drop kindsStart stage)) (over (countsStart n) (take (2 * k) (drop (countsStart slots) stage)) o)
+
+-- and t bytes of its text
 unfoldable pub settled : ℕ → ℕ → ℕ → ℕ → List ℕ → List ℕ → List ℕ
 unfolding over
-settled slots n k t stage o =
-    over kindsStart (take k (drop kindsStart stage))
-    (over (countsStart n) (take (2 * k) (drop (countsStart slots) stage)) (over (textStart n) (take t (drop (textStart slots) stage)) o))
+settled slots n k t stage o = settledRecords slots n k stage (over (textStart n) (take t (drop (textStart slots) stage)) o)
 
 -- ---- the answer of a call that would write a record of these sizes: 9, then 10
 

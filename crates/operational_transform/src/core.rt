@@ -19,7 +19,7 @@ ghost use Rattle.utf8.specs.Text.{chars};
 ghost use Rattle.operation.specs.Layout.{textStart};
 ghost use Rattle.operation.specs.Op.{insert, delete, cut};
 ghost use Rattle.operation.specs.Front.{frontOp, Stands, Cut};
-ghost use Rattle.operational_transform.specs.Emit.{over, bytes16, one, emitted, flushedAt, opens, spilled, insertedBy, deletedBy, Under, nothing, Adds, Retains, Finishes, headed, within, sizeIn, judged, settled};
+ghost use Rattle.operational_transform.specs.Emit.{over, bytes16, one, emitted, flushedAt, opens, spilled, insertedBy, deletedBy, Under, nothing, Adds, Retains, Finishes, headed, within, sizeIn, judged, settledRecords, settled};
 
 pub struct Emitter {
     // the pending group: bytes of the insert, characters of the delete and of the retain
@@ -61,6 +61,18 @@ pub fn copy(out: &mut [u8], at: usize, src: &[u8], from: usize, to: usize)
     }
     let len = lesser(to - from, out.len() - at);
     utf8::core::copy_into(out, at, &src[from..from + len]);
+}
+
+// The same where few bytes are the rule. In the emitter `copy` is taken into loops, and has to be short itself.
+pub fn copy_short(out: &mut [u8], at: usize, src: &[u8], from: usize, to: usize)
+    requires { ⌜ (at ≤ 2 ^ 50) × (from ≤ to) × (to ≤ length (now src)) ⌝ }
+    ensures { λ _. ⌜ now (out .exit) ≡ over at (take (to - from) (drop from (now (src .entry)))) (now (out .entry)) ⌝ }
+{
+    if out.len() <= at {
+        return;
+    }
+    let len = lesser(to - from, out.len() - at);
+    utf8::core::copy_few(out, at, &src[from..from + len]);
 }
 
 pub fn lesser(a: usize, b: usize) -> usize
@@ -115,7 +127,7 @@ pub fn flush(out: &mut [u8], n: usize, records: usize, ins: usize, del: usize, r
 }
 
 // A pending retain closes the group: what is added behind it begins another.
-fn spill(out: &mut [u8], n: usize, e: Emitter)
+pub fn spill(out: &mut [u8], n: usize, e: Emitter)
     requires { ⌜ (n ≤ 2 ^ 40) × Under (2 ^ 40) e ⌝ }
     ensures { λ _. ⌜ now (out .exit) ≡ spilled n e (now (out .entry)) ⌝ }
 {
@@ -149,7 +161,7 @@ fn opened(e: Emitter) -> Emitter
 }
 
 // The numbers after an insert of `len` bytes and `num` characters.
-fn inserted(e: Emitter, len: usize, num: usize) -> Emitter
+pub fn inserted(e: Emitter, len: usize, num: usize) -> Emitter
     requires { ⌜ (len ≤ 2 ^ 18) × (num ≤ 2 ^ 18) × Under (2 ^ 40) e ⌝ }
     ensures { λ r. ⌜ r ≡ insertedBy len num e ⌝ }
 {
@@ -256,6 +268,30 @@ pub fn part(
     deleted(e, k)
 }
 
+// The same where the buffer has no place for text: none is copied.
+pub fn mark(
+    out: &mut [u8],
+    n: usize,
+    e: Emitter,
+    src: &[u8],
+    f: Front,
+    k: usize,
+    mid: usize,
+) -> Emitter
+    requires { ⌜ (n ≤ 2 ^ 40) × (length (now out) ≤ textStart n) × Stands (now src) f × (0 < k) × (k ≤ f .left) × Cut (now src) f k mid × Under (2 ^ 40) e ⌝ }
+    ensures { λ r. ⌜ Adds n (cut k (frontOp (now (src .entry)) f) ∷ []) e (now (out .entry)) r (now (out .exit)) ⌝ }
+{
+    let kind = f.kind;
+    if kind == 1 {
+        return retain(e, k);
+    }
+    spill(out, n, e);
+    if kind == 2 {
+        return inserted(e, mid - f.from, k);
+    }
+    deleted(e, k)
+}
+
 // The pending group is written, too.
 pub fn finish(out: &mut [u8], n: usize, e: Emitter) -> Emitter
     requires { ⌜ (n ≤ 2 ^ 40) × Under (2 ^ 39) e ⌝ }
@@ -335,7 +371,24 @@ pub fn has_place(e: Emitter, slots: usize, room: usize) -> bool
     operation::core::text_start(slots) + e.text <= room
 }
 
-// From a record with places for `slots` records the text and the first k counts and kinds go to their places in one of n.
+// From a record with places for `slots` records the first k counts and kinds go to their places in one of n.
+pub fn settle_records(out: &mut [u8], n: usize, stage: &[u8], slots: usize, k: usize)
+    requires { ⌜ (n ≤ 2 ^ 40) × (slots ≤ 2 ^ 40) × (k ≤ slots) × (textStart slots ≤ length (now stage)) ⌝ }
+    ensures { λ _. ⌜ now (out .exit) ≡ settledRecords slots n k (now (stage .entry)) (now (out .entry)) ⌝ }
+{
+    let kinds = operation::core::kind_place(0);
+    let from = operation::core::count_place(slots, 0);
+    copy_short(
+        out,
+        operation::core::count_place(n, 0),
+        stage,
+        from,
+        from + 2 * k,
+    );
+    copy_short(out, kinds, stage, kinds, kinds + k);
+}
+
+// The text, too. (Written out: what calls this calls nothing below it.)
 pub fn settle(out: &mut [u8], n: usize, stage: &[u8], slots: usize, k: usize, text: usize)
     requires { ⌜ (n ≤ 2 ^ 40) × (slots ≤ 2 ^ 40) × (k ≤ slots) × (textStart slots + text ≤ length (now stage)) ⌝ }
     ensures { λ _. ⌜ now (out .exit) ≡ settled slots n k text (now (stage .entry)) (now (out .entry)) ⌝ }
@@ -343,19 +396,19 @@ pub fn settle(out: &mut [u8], n: usize, stage: &[u8], slots: usize, k: usize, te
     let kinds = operation::core::kind_place(0);
     let counts = operation::core::count_place(slots, 0);
     let from = operation::core::text_start(slots);
-    copy(
+    copy_short(
         out,
         operation::core::text_start(n),
         stage,
         from,
         from + text,
     );
-    copy(
+    copy_short(
         out,
         operation::core::count_place(n, 0),
         stage,
         counts,
         counts + 2 * k,
     );
-    copy(out, kinds, stage, kinds, kinds + k);
+    copy_short(out, kinds, stage, kinds, kinds + k);
 }

@@ -56,7 +56,7 @@ fn step(out: &mut [u8], rec: &[u8], n: usize, text: &[u8], chars: usize, s: Stat
     let count = operation::core::count(rec, n, k);
     if kind == 2 {
         let to = from + count;
-        operational_transform::core::copy(out, len, rec, from, to);
+        operational_transform::core::copy_short(out, len, rec, from, to);
         return State {
             k: k + 1,
             from: to,
@@ -66,7 +66,7 @@ fn step(out: &mut [u8], rec: &[u8], n: usize, text: &[u8], chars: usize, s: Stat
     }
     let end = end_of(text, chars, at, count, n - k);
     if kind == 1 {
-        operational_transform::core::copy(out, len, text, at, end);
+        operational_transform::core::copy_short(out, len, text, at, end);
         return State {
             k: k + 1,
             from,

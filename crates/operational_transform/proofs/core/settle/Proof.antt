@@ -15,29 +15,29 @@ text-start-requires c κs = search needs
 text-start-requires-2 : tie.Need-text-start-requires-2
 text-start-requires-2 c κs = search needs
 
-add-copy : tie.Need-add-copy
-add-copy c = search needs
+add-copy-short : tie.Need-add-copy-short
+add-copy-short c = search needs
 
-copy-requires : tie.Need-copy-requires
-copy-requires c κs = search needs
+copy-short-requires : tie.Need-copy-short-requires
+copy-short-requires c κs = search needs
 
 count-place-requires-2 : tie.Need-count-place-requires-2
 count-place-requires-2 c κs = search needs
 
-mul-copy : tie.Need-mul-copy
-mul-copy c = search needs
+mul-copy-short : tie.Need-mul-copy-short
+mul-copy-short c = search needs
 
-add-copy-2 : tie.Need-add-copy-2
-add-copy-2 c = search needs
+add-copy-short-2 : tie.Need-add-copy-short-2
+add-copy-short-2 c = search needs
 
-copy-requires-2 : tie.Need-copy-requires-2
-copy-requires-2 c κs = search needs
+copy-short-requires-2 : tie.Need-copy-short-requires-2
+copy-short-requires-2 c κs = search needs
 
-add-copy-3 : tie.Need-add-copy-3
-add-copy-3 c = search needs
+add-copy-short-3 : tie.Need-add-copy-short-3
+add-copy-short-3 c = search needs
 
-copy-requires-3 : tie.Need-copy-requires-3
-copy-requires-3 c κs = search needs
+copy-short-requires-3 : tie.Need-copy-short-requires-3
+copy-short-requires-3 c κs = search needs
 
 same-length : tie.Need-same-length
 same-length c = search needs
@@ -53,13 +53,13 @@ settle-spec =
     count-place-requires
     text-start-requires
     text-start-requires-2
-    add-copy
-    copy-requires
+    add-copy-short
+    copy-short-requires
     count-place-requires-2
-    mul-copy
-    add-copy-2
-    copy-requires-2
-    add-copy-3
-    copy-requires-3
+    mul-copy-short
+    add-copy-short-2
+    copy-short-requires-2
+    add-copy-short-3
+    copy-short-requires-3
     same-length
     returns)

@@ -12,8 +12,8 @@ count-requires c κs = search needs
 add-to : tie.Need-add-to
 add-to c = search needs
 
-copy-requires : tie.Need-copy-requires
-copy-requires c κs = (search needs, search needs, search insert-room)
+copy-short-requires : tie.Need-copy-short-requires
+copy-short-requires c κs = (search needs, search needs, search insert-room)
 
 add-t19 : tie.Need-add-t19
 add-t19 c = search needs
@@ -33,8 +33,8 @@ sub-end-of c = search needs
 end-of-requires : tie.Need-end-of-requires
 end-of-requires c κs = (search needs, search needs, search needs, search needs, search chars-room, search takes-rest)
 
-copy-requires-2 : tie.Need-copy-requires-2
-copy-requires-2 c κs = search needs
+copy-short-requires-2 : tie.Need-copy-short-requires-2
+copy-short-requires-2 c κs = search needs
 
 add-t25 : tie.Need-add-t25
 add-t25 c = search needs
@@ -64,14 +64,14 @@ step-spec =
     kind-requires
     count-requires
     add-to
-    copy-requires
+    copy-short-requires
     add-t19
     add-t20
     same-length
     returns
     sub-end-of
     end-of-requires
-    copy-requires-2
+    copy-short-requires-2
     add-t25
     sub-t26
     add-t27
