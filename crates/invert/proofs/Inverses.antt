@@ -73,7 +73,7 @@ module _ {C : Type 0} where
   undo-put (delete n) t (delete m ∷ delete i ∷ r) h = absurd h
 
   -- nothing runs out, so what undoes an operation has its size
-  undo-size : (o : Op C) (t : List C) → takes o ≤ length t → size (undo o t) ≡ size o
+  pub undo-size : (o : Op C) (t : List C) → takes o ≤ length t → size (undo o t) ≡ size o
   undo-size (retain n) t h = refl
   undo-size (insert s) t h = refl
   undo-size (delete n) t h = length-take-le n t h
@@ -120,11 +120,11 @@ module _ {C : Type 0} where
   undo-target (insert x ∷ s) t l = ap (λ k. 0 + k) (undo-target s t (omega arith))
   undo-target (delete n ∷ s) t l = ap₂ _+_ (length-take-le n t (omega arith)) (undo-target s (drop n t) (simp length-drop (omega arith)))
 
-  invert-base : (s : List (Op C)) (t : List C) → base (invert s t) ≡ target s
+  pub invert-base : (s : List (Op C)) (t : List C) → base (invert s t) ≡ target s
   unfolding invert
   invert-base s t = ap (λ m. m .before) (build-mean (undoAll s t)) ∙ undo-base s t
 
-  invert-target : (s : List (Op C)) (t : List C) → base s ≤ length t → target (invert s t) ≡ base s
+  pub invert-target : (s : List (Op C)) (t : List C) → base s ≤ length t → target (invert s t) ≡ base s
   unfolding invert
   invert-target s t l = ap (λ m. m .after) (build-mean (undoAll s t)) ∙ undo-target s t l
 
@@ -160,13 +160,13 @@ module _ (r t : List ℕ) (z : recordFault r ≡ 0) (w : T (wellFormed t)) (n : 
   abbrev inverse : Seq
   inverse = invert (ops r) (chars t)
 
-  enough : base (ops r) ≤ length (chars t)
+  pub enough : base (ops r) ≤ length (chars t)
   enough = omega (arith, ops-base r z, chars-length t w)
 
-  inverse-length : length inverse ≡ recordsOf r
+  pub inverse-length : length inverse ≡ recordsOf r
   inverse-length = invert-length (ops r) (chars t) (ops-good r z .is-built) enough ∙ ops-length r z
 
-  inverse-text : length (text (map inBytes inverse)) ≤ length t
+  pub inverse-text : length (text (map inBytes inverse)) ≤ length t
   inverse-text = omega (arith, invert-text (ops r) (chars t), ap length (bytes-chars t w))
 
   inverse-limits : length t ≤ 32768 → Limits inverse
@@ -181,14 +181,14 @@ module _ (r t : List ℕ) (z : recordFault r ≡ 0) (w : T (wellFormed t)) (n : 
 
   -- so nothing is refused, and a run with as many places as the record has leaves what is to be delivered
   module _ (l : length t ≤ 32768) (records : ℕ) (p : records ≡ recordsOf r) (o : List ℕ) (room : textStart records + length t ≤ length o) where
-    pub straight-gives : (o′ : List ℕ) (start more : ℕ) → start ≡ textStart records → more ≡ length (text (map inBytes inverse)) → Writes records inverse o o′ → Gives (deliver 0 inverse o) (Bytes (start + more)) o′
-    straight-gives o′ start more ps pm u =
+    pub straight-gives : (o′ : List ℕ) (k : ℕ) → k ≡ textStart records + length (text (map inBytes inverse)) → Writes records inverse o o′ → Gives (deliver 0 inverse o) (Bytes k) o′
+    straight-gives o′ k q u =
         let e = u .emitter in
         let d = u .done in
         let n : e .records ≡ records = d .sizes .records ∙ inverse-length ∙ sym p in
         let f = sym (sized-fits inverse e (d .sizes) ∙ holds _ (fits-limits inverse .1 (inverse-limits l))) in
-        let k : start + more ≡ textStart (e .records) + e .text = omega (arith, d .sizes .text-bytes) in
-        gives-written inverse o e o (u .before) d (Bytes (start + more)) (judge-bytes e (length o) true f (start + more) refl k (omega (arith, inverse-text))) (start + more) o′ refl (rw n u)
+        let j : k ≡ textStart (e .records) + e .text = omega (arith, d .sizes .text-bytes) in
+        gives-written inverse o e o (u .before) d (Bytes k) (judge-bytes e (length o) true f k refl j (omega (arith, inverse-text))) k o′ refl (rw n u)
 
 -- ---- `evident`
 

@@ -2,3 +2,4 @@
 pub mod Passing
 pub mod Undoing
 pub mod Inverses
+pub mod Placing

@@ -8,11 +8,11 @@ use lib.ListN.{length, take, drop, length-take, length-drop}
 use lib.Seq.{length-take-le}
 use borrow.Author.Tests.{eq-eqb, ne-eqb}
 use Rattle.utf8.specs.Form.{wellFormed}
-use Rattle.utf8.specs.Chars.{numChars, takeChars}
-use Rattle.utf8.specs.Text.{Char, chars}
+use Rattle.utf8.specs.Chars.{numChars}
+use Rattle.utf8.specs.Text.{Char, chars, bytes}
 use Rattle.utf8.specs.Places.{Passes}
 use Rattle.utf8.proofs.Texts.{chars-bytes, bytes-well}
-use Rattle.utf8.proofs.Places.{skips, skips-plain, stays-there}
+use Rattle.utf8.proofs.Places.{skips-plain, stays-there}
 use Rattle.operation.specs.declared.core.Front.{Front}
 use Rattle.operation.specs.Op.{insert, delete, size, takes}
 use Rattle.operation.specs.Front.{frontOp, Stands}
@@ -30,11 +30,15 @@ module _ (t : List ℕ) (at : ℕ) (h : at ≤ length t) (w : T (wellFormed (dro
   pub stays : (f : Front) → f .kind ≡ 2 → Passes t at (taken f) at
   stays f e = rw (eq-eqb (f .kind) 2 e) (stays-there t at h w)
 
-  pub moves-plain : (f : Front) (n l : ℕ) → (f .kind ≡ 2 → ⊥) → n ≡ numChars t → n ≡ length t → l ≡ min (f .left) (length t - at) → Passes t at (taken f) (at + l)
-  moves-plain f n l e p q m = rw (ne-eqb (f .kind) 2 e) (skips-plain t at (f .left) h w (sym p ∙ q) (at + l) (ap (λ i. at + i) m))
+  pub passes-plain : (k n l : ℕ) → n ≡ numChars t → n ≡ length t → l ≡ min k (length t - at) → Passes t at k (at + l)
+  passes-plain k n l p q m = skips-plain t at k h w (sym p ∙ q) (at + l) (ap (λ i. at + i) m)
 
-  pub moves : (f : Front) (to : ℕ) → (f .kind ≡ 2 → ⊥) → to ≡ at + length (takeChars (f .left) (drop at t)) → Passes t at (taken f) to
-  moves f to e p = rw (ne-eqb (f .kind) 2 e) (skips t at (f .left) h w to p)
+pub moves : (t : List ℕ) (at : ℕ) (f : Front) (to : ℕ) → (f .kind ≡ 2 → ⊥) → Passes t at (f .left) to → Passes t at (taken f) to
+moves t at f to e p = rw (ne-eqb (f .kind) 2 e) p
+
+-- the bytes of the characters passed
+pub part-wide : (t : List ℕ) (at k to : ℕ) → Passes t at k to → to - at ≡ length (bytes (take k (chars (drop at t))))
+part-wide t at k to p = sym (length-take-le (to - at) (drop at t) (omega (arith, p .below, length-drop at t))) ∙ ap length (p .part)
 
 -- ---- what is given
 
@@ -52,9 +56,8 @@ module _ (t : List ℕ) (f : Front) (at to : ℕ) (p : Passes t at (taken f) to)
   pub part-few : f .left < 65536 → (f .kind ≡ 2 → ⊥) → to - at ≤ 2 ^ 18
   part-few s e =
       let x = take (taken f) (chars (drop at t)) in
-      let l : length (take (to - at) (drop at t)) ≡ to - at = length-take-le (to - at) (drop at t) (omega (arith, p .below, length-drop at t)) in
       let k : taken f ≡ f .left = rw (ne-eqb (f .kind) 2 e) in
-      omega (arith, l, ap length (p .part), bytes-most x, length-take (taken f) (chars (drop at t)))
+      omega (arith, part-wide t at (taken f) to p, bytes-most x, length-take (taken f) (chars (drop at t)))
 
   module _ (n : ℕ) (e : Emitter) (o : List ℕ) (r : Emitter) where
     pub gives-retain : f .kind ≡ 1 → Retains (f .left) e r → Adds n (undone f (chars (drop at t)) ∷ []) e o r o

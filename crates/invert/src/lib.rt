@@ -7,7 +7,7 @@ use operational_transform::core::Emitter;
 use utf8::core::Form;
 ghost use mathlib.Core.Path.{_≡_};
 ghost use mathlib.Core.Bool.{_&&_};
-ghost use mathlib.Core.List.{[], _∷_, map};
+ghost use mathlib.Core.List.{[], _∷_};
 ghost use Prim.Native.Nat.{_+_, _-_, _^_, _≤_, _<_};
 ghost use lib.Dec.{T, leb, eqb};
 ghost use lib.ListN.{length, take, drop};
@@ -15,16 +15,27 @@ ghost use Rattle.utf8.specs.Form.{wellFormed};
 ghost use Rattle.utf8.specs.Chars.{numChars};
 ghost use Rattle.utf8.specs.Text.{chars as charsOf};
 ghost use Rattle.utf8.specs.Places.{Passes};
-ghost use Rattle.operation.specs.Layout.{recordsOf, baseOf, textStart};
-ghost use Rattle.operation.specs.Record.{inBytes, text as textIn, ops, recordFault};
+ghost use Rattle.operation.specs.Layout.{recordsOf, baseOf, textStart, kindAt, countAt};
+ghost use Rattle.operation.specs.Record.{ops, recordFault};
 ghost use Rattle.operational_transform.specs.Invert.{invert as invertOf};
 ghost use Rattle.operational_transform.specs.Calls.{deliver, invertCall};
 ghost use Rattle.operational_transform.specs.Emit.{writtenOf, Under, Adds, Done, Writes, Staged};
 ghost use Rattle.operational_transform.specs.Given.{Gives};
-ghost use Rattle.invert.specs.Inverting.{taken, undone, lastRetain};
+ghost use Rattle.invert.specs.Inverting.{taken, undone, lastRetain, entered, deleteBehind, restored, Restores, Reached, Undoes};
 
-// The place in the text behind what the operation takes from it, or the end where the characters run out. The text has
-// `chars` characters: where that is its length in bytes each is one byte.
+// The place k characters behind `at`, or the end where they run out. The text has `chars` characters: where that is its length in
+// bytes each is one byte.
+fn behind(text: &[u8], chars: usize, at: usize, k: usize) -> usize
+    requires { ⌜ (chars ≡ numChars (now text)) × (at ≤ length (now text)) × T (wellFormed (drop at (now text))) ⌝ }
+    ensures { λ to. ⌜ Passes (now (text .entry)) at k to ⌝ }
+{
+    if chars == text.len() {
+        return at + operational_transform::core::lesser(k, text.len() - at);
+    }
+    utf8::core::skip(text, at, k)
+}
+
+// The place in the text behind what the operation takes from it.
 fn past(text: &[u8], chars: usize, at: usize, f: Front) -> usize
     requires { ⌜ (chars ≡ numChars (now text)) × (at ≤ length (now text)) × T (wellFormed (drop at (now text))) ⌝ }
     ensures { λ to. ⌜ Passes (now (text .entry)) at (taken f) to ⌝ }
@@ -32,10 +43,7 @@ fn past(text: &[u8], chars: usize, at: usize, f: Front) -> usize
     if f.kind == 2 {
         return at;
     }
-    if chars == text.len() {
-        return at + operational_transform::core::lesser(f.left, text.len() - at);
-    }
-    utf8::core::skip(text, at, f.left)
+    behind(text, chars, at, f.left)
 }
 
 // How many characters text[at..to] has: the k that were to be passed, unless the text ran out.
@@ -46,7 +54,7 @@ fn passed(text: &[u8], at: usize, k: usize, to: usize) -> usize
     if to < text.len() {
         return k;
     }
-    utf8::num_chars(&text[at..to])
+    utf8::core::count_in(text, at, to)
 }
 
 // What undoes the operation, which takes text[at..to].
@@ -104,14 +112,13 @@ fn run(rec: &[u8], records: usize, text: &[u8], chars: usize, out: &mut [u8], n:
     operational_transform::core::finish(out, n, e)
 }
 
-// The record of a result of n records; how many bytes of text it has.
-fn write(rec: &[u8], records: usize, text: &[u8], chars: usize, out: &mut [u8], n: usize) -> usize
+// The record of a result of n records.
+fn write(rec: &[u8], records: usize, text: &[u8], chars: usize, out: &mut [u8], n: usize)
     requires { ⌜ (recordFault (now rec) ≡ 0) × (records ≡ recordsOf (now rec)) × (records ≤ 1024) × T (wellFormed (now text)) × (chars ≡ numChars (now text)) × (n ≤ 2 ^ 40) ⌝ }
-    ensures { λ r. ⌜ Writes n (invertOf (ops (now (rec .entry))) (charsOf (now (text .entry)))) (now (out .entry)) (now (out .exit)) × (r ≡ length (textIn (map inBytes (invertOf (ops (now (rec .entry))) (charsOf (now (text .entry))))))) ⌝ }
+    ensures { λ _. ⌜ Writes n (invertOf (ops (now (rec .entry))) (charsOf (now (text .entry)))) (now (out .entry)) (now (out .exit)) ⌝ }
 {
     let e = run(rec, records, text, chars, out, n);
     operational_transform::core::header(out, e);
-    e.text
 }
 
 // Whether nothing can be refused: on a text of base characters the inverse has as many records as the record, and no more text
@@ -129,13 +136,160 @@ fn evident(rec: &[u8], records: usize, text: &[u8], chars: usize, room: usize) -
     operation::core::text_start(records) + text.len() <= room
 }
 
-// Where that is so, written to its place in one run.
+// How far the record and the text were gone through: the next record, the places of the next insert's text and of the next
+// character, and the place of the next byte of text in the output.
+struct State {
+    k: usize,
+    from: usize,
+    at: usize,
+    put: usize,
+}
+
+// Kind and count of record k of n.
+fn entry(out: &mut [u8], n: usize, k: usize, kind: u8, count: usize)
+    requires { ⌜ (n ≤ 1024) × (k < n) × (textStart n ≤ length (now out)) ⌝ }
+    ensures { λ _. ⌜ now (out .exit) ≡ entered n k kind count (now (out .entry)) ⌝ }
+{
+    let p = operation::core::kind_place(k);
+    let at = operation::core::count_place(n, k);
+    out[p] = kind;
+    out[at] = (count % 256) as u8;
+    out[at + 1] = (count / 256 % 256) as u8;
+}
+
+// Record k inserts again what a delete took: `count` characters from `at` on. The place behind them.
+fn restore(
+    text: &[u8],
+    chars: usize,
+    out: &mut [u8],
+    n: usize,
+    k: usize,
+    at: usize,
+    put: usize,
+    count: usize,
+) -> usize
+    requires { ⌜ (chars ≡ numChars (now text)) × (at ≤ length (now text)) × T (wellFormed (drop at (now text))) × (n ≤ 1024) × (k < n) × (textStart n ≤ length (now out)) × (put ≤ 2 ^ 50) ⌝ }
+    ensures { λ to. ⌜ Restores n (now (text .entry)) k at put count (now (out .entry)) to (now (out .exit)) ⌝ }
+{
+    let to = behind(text, chars, at, count);
+    entry(out, n, k, 2, to - at);
+    operational_transform::core::copy(out, put, text, at, to);
+    to
+}
+
+// A delete of `count` characters that no insert stands before.
+fn undo_delete(text: &[u8], chars: usize, out: &mut [u8], n: usize, s: State, count: usize) -> State
+    requires { ⌜ (chars ≡ numChars (now text)) × (s .at ≤ length (now text)) × T (wellFormed (drop (s .at) (now text))) × (length (now text) ≤ 32768) × (n ≤ 1024) × (s .k < n) × (textStart n ≤ length (now out)) × (s .put ≤ textStart n + s .at) ⌝ }
+    ensures { λ u. ⌜ (u ≡ restored s (u .at)) × Restores n (now (text .entry)) (s .k) (s .at) (s .put) count (now (out .entry)) (u .at) (now (out .exit)) ⌝ }
+{
+    let to = restore(text, chars, out, n, s.k, s.at, s.put, count);
+    State {
+        k: s.k + 1,
+        from: s.from,
+        at: to,
+        put: s.put + (to - s.at),
+    }
+}
+
+// Whether a delete stands behind record k of n.
+fn delete_follows(rec: &[u8], n: usize, k: usize) -> bool
+    requires { ⌜ (recordFault (now rec) ≡ 0) × (n ≡ recordsOf (now rec)) × (k < n) ⌝ }
+    ensures { λ r. ⌜ r ≡ deleteBehind (now (rec .entry)) n k ⌝ }
+{
+    if k + 1 < n {
+        return operation::core::kind(rec, k + 1) == 3;
+    }
+    false
+}
+
+// An insert of `count` bytes becomes a delete of its characters. What undoes a delete behind it stands before that.
+fn undo_insert(
+    rec: &[u8],
+    n: usize,
+    text: &[u8],
+    chars: usize,
+    out: &mut [u8],
+    s: State,
+    count: usize,
+) -> State
+    requires { ⌜ (recordFault (now rec) ≡ 0) × (n ≡ recordsOf (now rec)) × (chars ≡ numChars (now text)) × (length (now text) ≤ 32768) × (textStart n ≤ length (now out)) × Reached n (now rec) (now text) s × (s .k < n) × (kindAt (now rec) (s .k) ≡ 2) × (count ≡ countAt (now rec) (s .k)) × (count < 65536) ⌝ }
+    ensures { λ u. ⌜ Undoes n (now (rec .entry)) (now (text .entry)) s (now (out .entry)) u (now (out .exit)) ⌝ }
+{
+    let k = s.k;
+    let num = utf8::core::count_in(rec, s.from, s.from + count);
+    if delete_follows(rec, n, k) {
+        let next = k + 1;
+        let more = operation::core::count(rec, n, next);
+        entry(out, n, next, 3, num);
+        let to = restore(text, chars, out, n, k, s.at, s.put, more);
+        return State {
+            k: k + 2,
+            from: s.from + count,
+            at: to,
+            put: s.put + (to - s.at),
+        };
+    }
+    entry(out, n, k, 3, num);
+    State {
+        k: k + 1,
+        from: s.from + count,
+        at: s.at,
+        put: s.put,
+    }
+}
+
+// The next operation, or an insert and the delete behind it. Behind a last retain no character is asked for.
+fn undo(rec: &[u8], n: usize, text: &[u8], chars: usize, out: &mut [u8], s: State) -> State
+    requires { ⌜ (recordFault (now rec) ≡ 0) × (n ≡ recordsOf (now rec)) × (chars ≡ numChars (now text)) × (length (now text) ≤ 32768) × (textStart n ≤ length (now out)) × Reached n (now rec) (now text) s × (s .k < n) ⌝ }
+    ensures { λ u. ⌜ Undoes n (now (rec .entry)) (now (text .entry)) s (now (out .entry)) u (now (out .exit)) ⌝ }
+{
+    let kind = operation::core::kind(rec, s.k);
+    let count = operation::core::count(rec, n, s.k);
+    if kind == 1 {
+        entry(out, n, s.k, 1, count);
+        if s.k + 1 == n {
+            return State {
+                k: s.k + 1,
+                from: s.from,
+                at: s.at,
+                put: s.put,
+            };
+        }
+        let to = behind(text, chars, s.at, count);
+        return State {
+            k: s.k + 1,
+            from: s.from,
+            at: to,
+            put: s.put,
+        };
+    }
+    if kind == 3 {
+        return undo_delete(text, chars, out, n, s, count);
+    }
+    undo_insert(rec, n, text, chars, out, s, count)
+}
+
+// Where nothing can be refused each record is written to its place at once.
 fn straight(rec: &[u8], records: usize, text: &[u8], chars: usize, out: &mut [u8]) -> Written
     requires { ⌜ (recordFault (now rec) ≡ 0) × (records ≡ recordsOf (now rec)) × (records ≤ 1024) × T (wellFormed (now text)) × (chars ≡ numChars (now text)) × (chars ≡ baseOf (now rec)) × (length (now text) ≤ 32768) × (textStart records + length (now text) ≤ length (now out)) ⌝ }
     ensures { λ r. ⌜ Gives (deliver 0 (invertOf (ops (now (rec .entry))) (charsOf (now (text .entry)))) (now (out .entry))) r (now (out .exit)) ⌝ }
 {
-    let bytes = write(rec, records, text, chars, out, records);
-    Written::Bytes(operation::core::text_start(records) + bytes)
+    let start = operation::core::text_start(records);
+    let mut s = State {
+        k: 0,
+        from: start,
+        at: 0,
+        put: start,
+    };
+    while s.k < records {
+        s = undo(rec, records, text, chars, out, s);
+    }
+    operational_transform::core::put16(out, 0, records);
+    operational_transform::core::put16(out, 2, s.put - start);
+    // base and target change places
+    operational_transform::core::put16(out, 4, operation::core::target(rec));
+    operational_transform::core::put16(out, 6, operation::core::base(rec));
+    Written::Bytes(s.put)
 }
 
 // From a stage, if all of the result has a place there; else by a run of its own.

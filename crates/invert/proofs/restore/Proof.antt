@@ -1,0 +1,26 @@
+use Rattle.invert.proofs.Placing.{restores}
+use borrow.Author.Needs.{needs}
+use Rattle.invert.proofs.restore.Statement.{statement}
+use Rattle.invert.proofs.restore.Tie as tie
+
+behind-requires : tie.Need-behind-requires
+behind-requires c κs = search needs
+
+sub-entry : tie.Need-sub-entry
+sub-entry c = search needs
+
+entry-requires : tie.Need-entry-requires
+entry-requires c κs = search needs
+
+copy-requires : tie.Need-copy-requires
+copy-requires c κs = search needs
+
+same-length : tie.Need-same-length
+same-length c = search needs
+
+returns : tie.Need-returns
+returns c = search restores
+
+pub restore-spec : {M : Type 1} → statement M
+restore-spec =
+    tie.close (tie.spec behind-requires sub-entry entry-requires copy-requires same-length returns)
