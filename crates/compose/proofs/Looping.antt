@@ -13,26 +13,64 @@ use Rattle.operation.specs.declared.Fact.{Fact}
 use Rattle.operation.specs.declared.Fact.the-variants as fact
 use Rattle.operation.specs.Answer.{number, factOf, needs, first}
 use Rattle.operation.specs.Layout.{recordsOf, baseOf, targetOf}
+use Rattle.operation.specs.Op.{base, target}
 use Rattle.operation.specs.Record.{Seq, ops, recordFault}
 use Rattle.operation.specs.Calls.{checkCall}
 use Rattle.operation.proofs.Answers.{Stopped, stopped}
+use Rattle.operation.proofs.Records.{ops-base, ops-target}
 use Rattle.operational_transform.specs.declared.Written.{Written}
 use Rattle.operational_transform.specs.declared.Written.the-variants as written
 use Rattle.operational_transform.specs.declared.core.Emitter.{Emitter}
 use Rattle.operational_transform.specs.Compose.{composeTurn, made, compose}
 use Rattle.operational_transform.specs.Calls.{recordsFault, deliver, composeCall}
-use Rattle.operational_transform.specs.Emit.{Under, nothing, Rep, Done, Finishes, Writes, judged}
+use Rattle.operational_transform.specs.Emit.{Under, nothing, Rep, Done, Finishes, Writes, Staged, headed, judged}
 use Rattle.operational_transform.proofs.Loops.{compose-runs}
+use Rattle.operational_transform.proofs.Theorems.{compose-base, compose-target}
 use Rattle.operational_transform.specs.Given.{Gives}
 use Rattle.operational_transform.proofs.Giving.{refuses, gives-refused, gives-written}
 use Rattle.turns.specs.Turns.{liveIs}
 use Rattle.turns.specs.declared.core.State.{State}
 use Rattle.turns.proofs.Going.{Going, going-all}
+use Rattle.compose.specs.declared.core.Sizes.{Sizes}
+use Rattle.compose.specs.Sized.{between}
 
-pub going-done : (n : ℕ) (a b out0 : List ℕ) (s : State) (o : List ℕ) (v : Bool) (r : Emitter) (o′ : List ℕ) → Going composeTurn made n a b out0 s o → v ≡ liveIs (s .x) (s .y) → v ≡ false → Finishes n (s .e) o r o′
-    → Done n (compose (ops a) (ops b)) out0 r o′
-going-done n a b out0 s o v r o′ g w l f =
-    rw (compose-runs (ops a) (ops b), ← going-all composeTurn made n a b out0 s o g (sym w ∙ l)) (f .done out0 (g .acc) (g .rep))
+-- base and target of the result are those of the operands
+module _ (n : ℕ) (a b out0 : List ℕ) (za : recordFault a ≡ 0) (zb : recordFault b ≡ 0) (h : targetOf a ≡ baseOf b) where
+  meets : target (ops a) ≡ base (ops b)
+  meets = ops-target a za ∙ h ∙ sym (ops-base b zb)
+
+  done-between : (e : Emitter) (o : List ℕ) → Done n (compose (ops a) (ops b)) out0 e o → Done n (compose (ops a) (ops b)) out0 (between a b (record { records = e .records; text = e .text })) o
+  done-between e o d =
+      let p : base (compose (ops a) (ops b)) ≡ baseOf a = compose-base (ops a) (ops b) meets ∙ ops-base a za in
+      let q : target (compose (ops a) (ops b)) ≡ targetOf b = compose-target (ops a) (ops b) meets ∙ ops-target b zb in
+      record {
+        small = record { ins = omega arith; del = omega arith; ret = omega arith; records = d .small .records; text = d .small .text; base = omega (arith, p, d .sizes .base-is, d .small .base); target = omega (arith, q, d .sizes .target-is, d .small .target) };
+        sizes = record { records = d .sizes .records; text-bytes = d .sizes .text-bytes; base-is = sym p; target-is = sym q };
+        wrote = d .wrote;
+      }
+
+  pub going-done : (s : State) (o : List ℕ) (v : Bool) (e : Emitter) (o′ : List ℕ) → Going composeTurn made n a b out0 s o → v ≡ liveIs (s .x) (s .y) → v ≡ false → Finishes n (s .e) o e o′
+      → Done n (compose (ops a) (ops b)) out0 (between a b (record { records = e .records; text = e .text })) o′
+  going-done s o v e o′ g w l f =
+      done-between e o′ (rw (compose-runs (ops a) (ops b), ← going-all composeTurn made n a b out0 s o g (sym w ∙ l)) (f .done out0 (g .acc) (g .rep)))
+
+-- all sizes, as they were found
+module _ (a b : List ℕ) (z : Sizes) where
+  pub sized-is : (p q : ℕ) → p ≡ baseOf a → q ≡ targetOf b → _≡_ {A = Emitter} (record { ins = 0; del = 0; ret = 0; records = z .records; text = z .text; base = p; target = q }) (between a b z)
+  sized-is p q e f = rw (e, f)
+
+  module _ (n : ℕ) (s : Seq) (o o′ : List ℕ) (e : Emitter) (d : Done n s o (between a b z) o′) (p : e ≡ between a b z) where
+    pub sized-done : Done n s o e o′
+    sized-done = rw p d
+
+    pub sized-under : Under (2 ^ 40) e
+    sized-under = sized-done .small
+
+    pub sized-staged : length o′ ≡ length o → Staged n s e o′
+    sized-staged l = record { before = o; done = sized-done; as-long = l }
+
+    pub sized-writes : (w : List ℕ) → w ≡ headed e o′ → Writes n s o w
+    sized-writes w q = record { emitter = e; before = o′; done = sized-done; is = q }
 
 -- ---- the answers
 

@@ -157,7 +157,10 @@ module _ (a b : List ℕ) (x y : Front) where
   pub both-second : Chooses composeTurn a b x y Together → Stands b y → 0 < y .left
   both-second c s = s .some (c .chosen .1 .0)
 
-pub ruleset Cuts = (whole-cut, retain-cut, second-cut, first-some, second-some, both-first, both-second)
+  pub both-some : (k : ℕ) → Chooses composeTurn a b x y Together → Stands a x → Stands b y → k ≡ min (x .left) (y .left) → 0 < k
+  both-some k c s t e = omega (arith, both-first c s, both-second c t)
+
+pub ruleset Cuts = (whole-cut, retain-cut, second-cut, first-some, second-some, both-some)
 
 -- ---- the step
 
@@ -190,37 +193,20 @@ module _ (n : ℕ) (a b : List ℕ) (s : State) (o : List ℕ) (f : Emitter) (o�
         → Went composeTurn made n a b s o (record { x = g; y = h; e = f }) o′
     went-both k e l m u = went Together k g h (moves-together composeTurn a b (s .x) (s .y) sx sy g h k (c .chosen) e l m) u
 
-    -- what the first retains
-    module _ (z : s .x .kind ≡ 1) where
-      pub retained-less : s .x .left < s .y .left → Adds n (cut (s .x .left) (frontOp b (s .y)) ∷ []) (s .e) o f o′ → Leaves a (s .x) (s .x .left) g → Leaves b (s .y) (s .x .left) h
+    module _ (k : ℕ) (e : k ≡ min (s .x .left) (s .y .left)) where
+      -- what the first retains
+      pub went-retained : s .x .kind ≡ 1 → Adds n (cut k (frontOp b (s .y)) ∷ []) (s .e) o f o′ → Leaves a (s .x) k g → Leaves b (s .y) k h
           → Went composeTurn made n a b s o (record { x = g; y = h; e = f }) o′
-      retained-less w u l m =
-          went-both (s .x .left) (omega arith) l m (meet-retain n a b (s .x) (s .y) (s .x .left) (s .e) o f o′ z u)
+      went-retained z u l m = went-both k e l m (meet-retain n a b (s .x) (s .y) k (s .e) o f o′ z u)
 
-      pub retained-more : (s .x .left < s .y .left → ⊥) → Adds n (cut (s .y .left) (frontOp b (s .y)) ∷ []) (s .e) o f o′ → Leaves a (s .x) (s .y .left) g → Leaves b (s .y) (s .y .left) h
+      -- what it inserts, and the second retains
+      pub went-inserted : s .x .kind ≡ 2 → s .y .kind ≡ 1 → Adds n (cut k (frontOp a (s .x)) ∷ []) (s .e) o f o′ → Leaves a (s .x) k g → Leaves b (s .y) k h
           → Went composeTurn made n a b s o (record { x = g; y = h; e = f }) o′
-      retained-more w u l m =
-          went-both (s .y .left) (omega arith) l m (meet-retain n a b (s .x) (s .y) (s .y .left) (s .e) o f o′ z u)
-
-    -- what it inserts, and the second retains
-    module _ (z : s .x .kind ≡ 2) (v : s .y .kind ≡ 1) where
-      pub inserted-less : s .x .left < s .y .left → Adds n (cut (s .x .left) (frontOp a (s .x)) ∷ []) (s .e) o f o′ → Leaves a (s .x) (s .x .left) g → Leaves b (s .y) (s .x .left) h
-          → Went composeTurn made n a b s o (record { x = g; y = h; e = f }) o′
-      inserted-less w u l m =
-          went-both (s .x .left) (omega arith) l m (meet-insert n a b (s .x) (s .y) (s .x .left) (s .e) o f o′ c (λ q. absurd (omega arith)) v u)
-
-      pub inserted-more : (s .x .left < s .y .left → ⊥) → Adds n (cut (s .y .left) (frontOp a (s .x)) ∷ []) (s .e) o f o′ → Leaves a (s .x) (s .y .left) g
-          → Leaves b (s .y) (s .y .left) h → Went composeTurn made n a b s o (record { x = g; y = h; e = f }) o′
-      inserted-more w u l m =
-          went-both (s .y .left) (omega arith) l m (meet-insert n a b (s .x) (s .y) (s .y .left) (s .e) o f o′ c (λ q. absurd (omega arith)) v u)
+      went-inserted z v u l m = went-both k e l m (meet-insert n a b (s .x) (s .y) k (s .e) o f o′ c (λ q. absurd (omega arith)) v u)
 
 -- what it inserts, and the second deletes
-module _ (n : ℕ) (a b : List ℕ) (s : State) (o : List ℕ) (sx : Stands a (s .x)) (sy : Stands b (s .y)) (g h : Front) (c : Chooses composeTurn a b (s .x) (s .y) Together) (z : s .x .kind ≡ 2) (v : s .y .kind ≡ 3) where
-  pub dropped-less : s .x .left < s .y .left → Leaves a (s .x) (s .x .left) g → Leaves b (s .y) (s .x .left) h → Went composeTurn made n a b s o (record { x = g; y = h; e = s .e }) o
-  dropped-less w l m =
-      went-both n a b s o (s .e) o sx sy g h c (s .x .left) (omega arith) l m (meet-nothing n a b (s .x) (s .y) (s .x .left) (s .e) o c (λ q. absurd (omega arith)) (λ q. absurd (omega arith)))
-
-  pub dropped-more : (s .x .left < s .y .left → ⊥) → Leaves a (s .x) (s .y .left) g → Leaves b (s .y) (s .y .left) h
-      → Went composeTurn made n a b s o (record { x = g; y = h; e = s .e }) o
-  dropped-more w l m =
-      went-both n a b s o (s .e) o sx sy g h c (s .y .left) (omega arith) l m (meet-nothing n a b (s .x) (s .y) (s .y .left) (s .e) o c (λ q. absurd (omega arith)) (λ q. absurd (omega arith)))
+pub went-dropped : (n : ℕ) (a b : List ℕ) (s : State) (o : List ℕ) → Stands a (s .x) → Stands b (s .y) → (g h : Front) → Chooses composeTurn a b (s .x) (s .y) Together
+    → (k : ℕ) → k ≡ min (s .x .left) (s .y .left) → s .x .kind ≡ 2 → s .y .kind ≡ 3 → Leaves a (s .x) k g → Leaves b (s .y) k h
+    → Went composeTurn made n a b s o (record { x = g; y = h; e = s .e }) o
+went-dropped n a b s o sx sy g h c k e z v l m =
+    went-both n a b s o (s .e) o sx sy g h c k e l m (meet-nothing n a b (s .x) (s .y) k (s .e) o c (λ q. absurd (omega arith)) (λ q. absurd (omega arith)))
