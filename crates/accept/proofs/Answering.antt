@@ -18,7 +18,7 @@ use Rattle.operation.specs.Layout.{sizeOf, baseOf}
 use Rattle.operation.specs.Record.{Seq, encode, ops, recordFault}
 use Rattle.operation.specs.Calls.{checkCall}
 use Rattle.operation.proofs.Faults.{limits, faultless}
-use Rattle.operation.proofs.Answers.{Stopped, stopped}
+use Rattle.operation.proofs.Answers.{stopped}
 use Rattle.transform.specs.declared.WrittenPair.the-variants as written
 use Rattle.log.specs.declared.core.Scan.{Scan}
 use Rattle.log.specs.declared.core.Scanned.{Scanned}

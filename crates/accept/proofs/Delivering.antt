@@ -8,7 +8,7 @@ use lib.ListN.{length, take, drop}
 use Rattle.operation.specs.declared.Refusal.{Refusal}
 use Rattle.operation.specs.declared.Refusal.the-variants.{Room}
 use Rattle.operation.specs.Layout.{sizeOf}
-use Rattle.operation.specs.Record.{Seq, ops, recordFault}
+use Rattle.operation.specs.Record.{ops, recordFault}
 use Rattle.operation.proofs.Fronts.{fault-size, fault-small}
 use Rattle.operational_transform.specs.Emit.{over}
 use Rattle.operational_transform.proofs.Over.{over-front}
@@ -22,7 +22,7 @@ use Rattle.accept.specs.declared.Tried.{Tried}
 use Rattle.accept.specs.declared.Tried.the-variants as tried
 use Rattle.rebase.specs.declared.core.Run.{Run}
 use Rattle.rebase.specs.declared.core.Run.the-variants as outcome
-use Rattle.rebase.specs.Running.{Holds, Runs, HandsOut}
+use Rattle.rebase.specs.Running.{Runs, HandsOut}
 use Rattle.accept.specs.Accepting.{Admitted, MovedPast, Stored, Accepts, TriesTo, Tries}
 use Rattle.accept.proofs.Places.{edits-from}
 use Rattle.accept.proofs.Answering.{accepts-limit}
@@ -30,19 +30,13 @@ use Rattle.accept.proofs.Answering.{accepts-limit}
 pub record-small : (r : List ℕ) → recordFault r ≡ 0 → sizeOf r ≤ 35848
 record-small r z = omega (arith, fault-size r refl refl refl, fault-small r refl refl refl z)
 
-pub lay-large : (edit : List ℕ) (r : ℕ) (log : List ℕ) (s : Scan) (cur : List ℕ) → Admitted edit r log s → 35848 ≤ length cur → sizeOf edit ≤ length cur
-lay-large edit r log s cur a h = omega (arith, record-small edit (a .fault), h)
-
-pub holds-own : (e : Seq) (cur : List ℕ) → Holds e cur → Holds (ops cur) cur
-holds-own e cur h = subst (λ s. Holds s cur) (sym (h .edit)) h
-
-module _ (edit : List ℕ) (r : ℕ) (log : List ℕ) (s : Scan) (a : Admitted edit r log s) (n : ℕ) (e : n ≡ countOf log - r) (cur : List ℕ) (h : Holds (ops edit) cur) where
+module _ (edit : List ℕ) (r : ℕ) (log : List ℕ) (s : Scan) (a : Admitted edit r log s) (n : ℕ) (e : n ≡ countOf log - r) where
   edits : editsIn n (drop (s .at) log) ≡ drop r (revisions log)
   edits = edits-from log r s (a .found) (a .rev) n e
 
-  module _ (slots room : ℕ) (x : Run) (cur′ parts parts′ : List ℕ) (q : Runs slots room (ops cur) (editsIn n (drop (s .at) log)) x cur′ parts parts′) where
+  module _ (slots room : ℕ) (x : Run) (cur′ parts parts′ : List ℕ) (q : Runs slots room (ops edit) (editsIn n (drop (s .at) log)) x cur′ parts parts′) where
     runs-as : (y : Run) → x ≡ y → Runs slots room (ops edit) (drop r (revisions log)) y cur′ parts parts′
-    runs-as y p = subst (λ z. Runs slots room (ops edit) (drop r (revisions log)) z cur′ parts parts′) p (subst₂ (λ u vs. Runs slots room u vs x cur′ parts parts′) (h .edit) edits q)
+    runs-as y p = subst (λ z. Runs slots room (ops edit) (drop r (revisions log)) z cur′ parts parts′) p (subst (λ vs. Runs slots room (ops edit) vs x cur′ parts parts′) edits q)
 
     pub past-moved : (bytes : ℕ) → x ≡ outcome.Kept bytes → MovedPast edit r log bytes cur′
     past-moved bytes p = record { moved = runs-as (outcome.Kept bytes) p .runs .0 }
@@ -57,10 +51,10 @@ module _ (edit : List ℕ) (r : ℕ) (log : List ℕ) (s : Scan) (a : Admitted e
         let (l, k) = runs-as (outcome.Refused y) p .runs in
         subst (λ z. Accepts edit r log out (written.Refused z) log out) (sym l) (accepts-limit edit r log out s a k)
 
-    -- long stages are never too short
+    -- long buffers are never too short
     module _ (few : 1024 ≡ slots) (wide : 35848 ≤ room) where
       pub past-never : x ≡ outcome.Short → (out : List ℕ) → Accepts edit r log out (written.Refused Room) log out
-      past-never p out = absurd (runs-as outcome.Short p .runs (omega (arith, few)) (omega (arith, few, wide)))
+      past-never p out = absurd (runs-as outcome.Short p .runs (omega (arith, few)) wide)
 
       -- the run once more, to a buffer in which the counterparts have room
       pub past-again : (bytes : ℕ) (moved : List ℕ) → MovedPast edit r log bytes moved → bytes ≤ length parts → HandsOut (ops edit) (drop r (revisions log)) parts cur′ parts′
@@ -69,7 +63,7 @@ module _ (edit : List ℕ) (r : ℕ) (log : List ℕ) (s : Scan) (a : Admitted e
           go : (y : Run) → x ≡ y → HandsOut (ops edit) (drop r (revisions log)) parts cur′ parts′
           go (outcome.Kept b) p = let (k, w) = runs-as (outcome.Kept b) p .runs in record { holds = k .holds; given = w (omega (arith, m .moved .bytes-are, k .bytes-are, g)) }
           go (outcome.Refused y) p = absurd (true≢false (sym (m .moved .kept) ∙ runs-as (outcome.Refused y) p .runs .1))
-          go outcome.Short p = absurd (runs-as outcome.Short p .runs (omega (arith, few)) (omega (arith, few, wide)))
+          go outcome.Short p = absurd (runs-as outcome.Short p .runs (omega (arith, few)) wide)
 
 -- what stands in a buffer goes to the output
 pub hands : (edit : List ℕ) (r : ℕ) (log : List ℕ) (bytes : ℕ) (cur parts : List ℕ) → MovedPast edit r log bytes cur → Stored edit r log bytes parts → bytes ≤ length parts → (out out′ : List ℕ) → bytes ≤ length out

@@ -1,17 +1,15 @@
 -- The revisions behind revision r of a log that can be read.
-use Prim.Native.Nat.{ℕ, zero, suc, _+_, _-_, _*_, _^_, _≤_}
+use Prim.Native.Nat.{ℕ, zero, suc, _-_, _*_, _^_, _≤_}
 use native.Mathlib.Nat.{sub-zero}
 use native.Mathlib.Omega.{arith}
-use mathlib.Core.Path.{_≡_, refl, sym, ap, ap₂, _∙_, subst, subst₂}
+use mathlib.Core.Path.{_≡_, sym, ap, ap₂, _∙_, subst, subst₂}
 use mathlib.Core.List.{List}
-use lib.Dec.{T}
-use lib.ListN.{length, drop, length-drop}
+use lib.ListN.{length, drop}
 use lib.Seq.{drop-drop}
 use Rattle.operation.specs.Layout.{sizeOf, targetOf}
-use Rattle.operation.specs.Record.{ops}
 use Rattle.operation.proofs.Faults.{limits, faultless}
 use Rattle.log.specs.declared.core.Scan.{Scan}
-use Rattle.log.specs.Log.{countOf, startOf, recordsStart, sizesIn, editsIn, readableFrom, readable, placeOf, sizeOfLog, revisions}
+use Rattle.log.specs.Log.{countOf, startOf, recordsStart, sizesIn, editsIn, lengthIn, placeOf, sizeOfLog, lengthAt, revisions}
 use Rattle.log.specs.Scan.{Found}
 use Rattle.log.proofs.Scanning.{reads, drop-place, place-inside}
 use Rattle.rebase.specs.Running.{Lie}
@@ -19,17 +17,17 @@ use Rattle.rebase.proofs.Moving.{lie-first, lie-rest}
 
 -- ---- records that stand end to end
 
-small : (n : ℕ) (m : List ℕ) → Lie n m → sizesIn n m ≤ 35848 * n
-small zero m h = omega arith
-small (suc n) m h =
-    let f = limits m .0 (faultless m .0 (lie-first (suc n) m (λ z. absurd (omega (arith, z))) h) .in-limits) in
-    omega (arith, f .records, f .text-bytes, small n (drop (sizeOf m) m) (lie-rest n m h))
+small : (n len : ℕ) (m : List ℕ) → Lie n len m → sizesIn n m ≤ 35848 * n
+small zero len m h = omega arith
+small (suc n) len m h =
+    let f = limits m .0 (faultless m .0 (lie-first (suc n) len m (λ z. absurd (omega (arith, z))) h .0) .in-limits) in
+    omega (arith, f .records, f .text-bytes, small n (targetOf m) (drop (sizeOf m) m) (lie-rest n len m h))
 
-lie-behind : (r n : ℕ) (m : List ℕ) → r ≤ n → Lie n m → Lie (n - r) (drop (sizesIn r m) m)
-lie-behind zero n m h l = subst (λ k. Lie k m) (sym (sub-zero n)) l
-lie-behind (suc r) zero m h l = absurd (omega arith)
-lie-behind (suc r) (suc n) m h l =
-    subst₂ Lie (omega arith) (drop-drop (sizesIn r (drop (sizeOf m) m)) (sizeOf m) m) (lie-behind r n (drop (sizeOf m) m) (omega arith) (lie-rest n m l))
+lie-behind : (r n len : ℕ) (m : List ℕ) → r ≤ n → Lie n len m → Lie (n - r) (lengthIn r len m) (drop (sizesIn r m) m)
+lie-behind zero n len m h l = subst (λ k. Lie k len m) (sym (sub-zero n)) l
+lie-behind (suc r) zero len m h l = absurd (omega arith)
+lie-behind (suc r) (suc n) len m h l =
+    subst₂ (λ k d. Lie k (lengthIn (suc r) len m) d) (omega arith) (drop-drop (sizesIn r (drop (sizeOf m) m)) (sizeOf m) m) (lie-behind r n (targetOf m) (drop (sizeOf m) m) (omega arith) (lie-rest n len m l))
 
 edits-behind : (r n : ℕ) (m : List ℕ) → r ≤ n → editsIn (n - r) (drop (sizesIn r m) m) ≡ drop r (editsIn n m)
 unfolding editsIn
@@ -42,12 +40,12 @@ edits-behind (suc r) (suc n) m h =
 -- ---- a log that can be read
 
 module _ (l : List ℕ) (r : ℕ) (s : Scan) (f : Found l r s) where
-  all-lie : Lie (countOf l) (drop recordsStart l)
-  all-lie = record { len = startOf l; reads = reads l (f .reads) .records }
+  all-lie : Lie (countOf l) (startOf l) (drop recordsStart l)
+  all-lie = record { reads = reads l (f .reads) .records }
 
   pub log-small : s .size ≤ 2 ^ 50
   unfolding sizeOfLog placeOf
-  log-small = omega (arith, f .size, f .few, f .count, small (countOf l) (drop recordsStart l) all-lie)
+  log-small = omega (arith, f .size, f .few, f .count, small (countOf l) (startOf l) (drop recordsStart l) all-lie)
 
   module _ (h : r ≤ countOf l) (n : ℕ) (e : n ≡ countOf l - r) where
     from-is : drop (s .at) l ≡ drop (sizesIn r (drop recordsStart l)) (drop recordsStart l)
@@ -56,8 +54,9 @@ module _ (l : List ℕ) (r : ℕ) (s : Scan) (f : Found l r s) where
     pub from-inside : s .at ≤ length l
     from-inside = omega (arith, f .place h, place-inside l (f .reads) r h)
 
-    pub lie-from : Lie n (drop (s .at) l)
-    lie-from = subst₂ Lie (sym e) (sym from-is) (lie-behind r (countOf l) (drop recordsStart l) h all-lie)
+    pub lie-from : (len : ℕ) → len ≡ lengthAt r l → Lie n len (drop (s .at) l)
+    unfolding lengthAt
+    lie-from len p = subst (λ k. Lie n k (drop (s .at) l)) (sym p) (subst₂ (λ k d. Lie k (lengthAt r l) d) (sym e) (sym from-is) (lie-behind r (countOf l) (startOf l) (drop recordsStart l) h all-lie))
 
     pub edits-from : editsIn n (drop (s .at) l) ≡ drop r (revisions l)
     unfolding revisions

@@ -9,7 +9,7 @@ ghost use mathlib.Core.Path.{_≡_};
 ghost use Prim.Native.Nat.{_+_, _-_, _^_, _≤_};
 ghost use lib.ListN.{length, take};
 ghost use Rattle.operation.specs.Record.{ops, recordFault};
-ghost use Rattle.operation.specs.Layout.{sizeOf};
+ghost use Rattle.operation.specs.Layout.{sizeOf, textStart};
 ghost use Rattle.transform.specs.Pairs.{pairOf};
 ghost use Rattle.log.specs.Log.{countOf, sizeOfLog};
 ghost use Rattle.log.specs.Scan.{Found};
@@ -107,7 +107,7 @@ fn short(
     parts: &mut [u8],
     slots: usize,
 ) -> Tried
-    requires { ⌜ Admitted (now edit) r (now log) s × (n ≡ countOf (now log) - r) × (length (now next) ≡ length (now cur)) × (length (now side) ≡ length (now cur)) × (slots ≤ 1024) ⌝ }
+    requires { ⌜ Admitted (now edit) r (now log) s × (n ≡ countOf (now log) - r) × (length (now next) ≡ textStart slots) × (length (now side) ≡ textStart slots) × (slots ≤ 1024) ⌝ }
     ensures { λ x. ⌜ Tries (now (edit .entry)) r (now (log .entry)) (now (out .entry)) x (now (log .exit)) (now (out .exit)) ⌝ }
 {
     let size = operation::core::size(edit);
@@ -115,7 +115,7 @@ fn short(
         return Tried::Short;
     }
     lay(cur, edit);
-    match rebase::core::rebase(log, s.at, n, cur, next, side, parts, slots) {
+    match rebase::core::rebase(log, s.at, n, edit, cur, next, side, parts, slots) {
         Run::Refused(x) => Tried::Refused(x),
         Run::Kept(bytes) => deliver(edit, r, log, s, out, cur, parts, bytes),
         Run::Short => Tried::Short,
@@ -135,7 +135,7 @@ fn again(
     side: &mut [u8],
     bytes: usize,
 ) -> WrittenPair
-    requires { ⌜ Admitted (now edit) r (now log) s × (n ≡ countOf (now log) - r) × (35848 ≤ length (now cur)) × (length (now next) ≡ length (now cur)) × (length (now side) ≡ length (now cur)) × MovedPast (now edit) r (now log) bytes (now cur) ⌝ }
+    requires { ⌜ Admitted (now edit) r (now log) s × (n ≡ countOf (now log) - r) × (35848 ≤ length (now cur)) × (length (now next) ≡ 3080) × (length (now side) ≡ 3080) × MovedPast (now edit) r (now log) bytes (now cur) ⌝ }
     ensures { λ x. ⌜ Accepts (now (edit .entry)) r (now (log .entry)) (now (out .entry)) x (now (log .exit)) (now (out .exit)) ⌝ }
 {
     let size = operation::core::size(cur);
@@ -143,7 +143,7 @@ fn again(
         return WrittenPair::Refused(Refusal::Room);
     }
     lay(cur, edit);
-    rebase::core::rebase(log, s.at, n, cur, next, side, out, 1024);
+    rebase::core::rebase(log, s.at, n, edit, cur, next, side, out, 1024);
     append(log, s, cur, size);
     WrittenPair::Bytes(size, bytes)
 }
@@ -160,12 +160,12 @@ fn long(
     next: &mut [u8],
     side: &mut [u8],
 ) -> WrittenPair
-    requires { ⌜ Admitted (now edit) r (now log) s × (n ≡ countOf (now log) - r) × (35848 ≤ length (now cur)) × (length (now next) ≡ length (now cur)) × (length (now side) ≡ length (now cur)) ⌝ }
+    requires { ⌜ Admitted (now edit) r (now log) s × (n ≡ countOf (now log) - r) × (35848 ≤ length (now cur)) × (length (now next) ≡ 3080) × (length (now side) ≡ 3080) ⌝ }
     ensures { λ x. ⌜ Accepts (now (edit .entry)) r (now (log .entry)) (now (out .entry)) x (now (log .exit)) (now (out .exit)) ⌝ }
 {
     let mut none = [0u8; 0];
     lay(cur, edit);
-    match rebase::core::rebase(log, s.at, n, cur, next, side, &mut none, 1024) {
+    match rebase::core::rebase(log, s.at, n, edit, cur, next, side, &mut none, 1024) {
         Run::Refused(x) => WrittenPair::Refused(x),
         Run::Kept(bytes) => again(edit, r, log, s, n, out, cur, next, side, bytes),
         // never: every record has a place
@@ -178,8 +178,8 @@ fn large(edit: &[u8], r: u64, log: &mut [u8], s: Scan, n: usize, out: &mut [u8])
     ensures { λ x. ⌜ Accepts (now (edit .entry)) r (now (log .entry)) (now (out .entry)) x (now (log .exit)) (now (out .exit)) ⌝ }
 {
     let mut cur = [0u8; 35848];
-    let mut next = [0u8; 35848];
-    let mut side = [0u8; 35848];
+    let mut next = [0u8; 3080];
+    let mut side = [0u8; 3080];
     long(edit, r, log, s, n, out, &mut cur, &mut next, &mut side)
 }
 
@@ -188,8 +188,8 @@ fn medium(edit: &[u8], r: u64, log: &mut [u8], s: Scan, n: usize, out: &mut [u8]
     ensures { λ x. ⌜ Accepts (now (edit .entry)) r (now (log .entry)) (now (out .entry)) x (now (log .exit)) (now (out .exit)) ⌝ }
 {
     let mut cur = [0u8; 1024];
-    let mut next = [0u8; 1024];
-    let mut side = [0u8; 1024];
+    let mut next = [0u8; 392];
+    let mut side = [0u8; 392];
     let mut parts = [0u8; 8192];
     match short(
         edit,
@@ -215,8 +215,8 @@ fn small(edit: &[u8], r: u64, log: &mut [u8], s: Scan, n: usize, out: &mut [u8])
     ensures { λ x. ⌜ Accepts (now (edit .entry)) r (now (log .entry)) (now (out .entry)) x (now (log .exit)) (now (out .exit)) ⌝ }
 {
     let mut cur = [0u8; 256];
-    let mut next = [0u8; 256];
-    let mut side = [0u8; 256];
+    let mut next = [0u8; 104];
+    let mut side = [0u8; 104];
     let mut parts = [0u8; 512];
     match short(
         edit,

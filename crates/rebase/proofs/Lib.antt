@@ -1,4 +1,4 @@
 -- rebase
+pub mod Stages
 pub mod Passing
 pub mod Moving
-pub mod Stages

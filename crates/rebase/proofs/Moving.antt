@@ -1,48 +1,53 @@
 -- The run past the revisions: what was moved already, and what is still to come, is the whole.
 use Prim.Native.Nat.{ℕ, zero, suc, _+_, _-_, _*_, _^_, _≤_}
 use native.Mathlib.Omega.{arith}
-use mathlib.Core.Path.{_≡_, refl, sym, ap, ap₂, _∙_, subst}
+use mathlib.Core.Path.{_≡_, refl, sym, ap, ap₂, _∙_, subst, subst₂}
 use mathlib.Core.Bool.{Bool, true, false, not, _&&_, and-eq-true-iff, true≢false}
-use mathlib.Core.List.{List, [], _∷_, _++_, append-assoc, append-nil}
-use lib.Dec.{eqb, eqb→eq}
+use mathlib.Core.List.{List, [], _∷_, _++_, append-assoc, append-nil, map}
+use lib.Dec.{leb, eqb, eqb→eq}
 use lib.ListN.{length, take, drop, length-append, length-drop}
 use lib.Seq.{take-at, drop-at, drop-drop}
-use borrow.Author.Tests.{not-true, not-false, le-leb}
+use borrow.Author.Tests.{not-true, not-false, le-leb, leb-true}
 use Rattle.utf8.specs.Order.{order}
 use Rattle.utf8.proofs.Tests.{both, holds}
 use Rattle.utf8.specs.Text.{Char}
 use Rattle.operation.specs.declared.Refusal.the-variants.{Limit}
-use Rattle.operation.specs.Layout.{sizeOf, baseOf, targetOf, textStart}
-use Rattle.operation.specs.Record.{Seq, encode, fits, ops, recordFault}
+use Rattle.operation.specs.Layout.{sizeOf, baseOf, targetOf}
+use Rattle.operation.specs.Op.{base}
+use Rattle.operation.specs.Record.{Seq, inBytes, text, encode, fits, ops, recordFault}
 use Rattle.operation.proofs.Faults.{limits, faultless}
 use Rattle.operation.proofs.Sequences.{fits-limits}
-use Rattle.operation.proofs.Records.{encode-small}
+use Rattle.operation.proofs.Records.{encode-small, ops-base, ops-target}
 use Rattle.operational_transform.specs.Transform.{Sides, transform}
-use Rattle.operational_transform.specs.Emit.{Sizes, within}
+use Rattle.operational_transform.specs.Emit.{within, sizeIn}
 use Rattle.operational_transform.specs.Output.{atFront}
+use Rattle.operational_transform.proofs.Theorems.{base-left}
+use Rattle.operational_transform.proofs.Counting.{text-left}
 use Rattle.operational_transform.proofs.Delivering.{sized-fits}
 use Rattle.transform.specs.declared.core.Pair.{Pair}
-use Rattle.transform.specs.Both.{StagedBoth, placed}
-use Rattle.transform.proofs.Placing.{few-left, few-right, room-left, room-right}
+use Rattle.transform.specs.declared.core.Counts.{Counts}
+use Rattle.transform.specs.Both.{MarkedBoth, SizedBoth}
 use Rattle.log.specs.Log.{encodeAll, editsIn, readableFrom}
 use Rattle.log.proofs.Logs.{encodeAll-append}
 use Rattle.log.proofs.Scanning.{to-end}
 use Rattle.session.specs.Rows.{rule, Moved, rebase}
 use Rattle.rebase.specs.declared.core.Spot.{Spot}
 use Rattle.rebase.specs.declared.core.Run.the-variants as outcome
-use Rattle.rebase.specs.Running.{Lie, Holds, Fit, Ready, GoesOn, Runs}
+use Rattle.rebase.specs.Running.{Lie, Holds, SameText, Fit, Ready, GoesOn, Runs}
 use Rattle.rebase.proofs.Passing.{within-fits}
 
 -- ---- records end to end
 
-pub lie-first : (n : ℕ) (l : List ℕ) → (n ≡ 0 → ⊥) → Lie n l → recordFault l ≡ 0
+pub lie-first : (n len : ℕ) (l : List ℕ) → (n ≡ 0 → ⊥) → Lie n len l → (recordFault l ≡ 0) × (baseOf l ≡ len)
 unfolding readableFrom
-lie-first zero l h r = absurd (h refl)
-lie-first (suc n) l h r = eqb→eq (recordFault l) 0 (both (eqb (recordFault l) 0) _ .0 (r .reads) .0)
+lie-first zero len l h r = absurd (h refl)
+lie-first (suc n) len l h r =
+    let (z, m) = both (eqb (recordFault l) 0) _ .0 (r .reads) in
+    (eqb→eq (recordFault l) 0 z, eqb→eq (baseOf l) len (both (eqb (baseOf l) len) _ .0 m .0))
 
-pub lie-rest : (n : ℕ) (l : List ℕ) → Lie (suc n) l → Lie n (drop (sizeOf l) l)
+pub lie-rest : (n len : ℕ) (l : List ℕ) → Lie (suc n) len l → Lie n (targetOf l) (drop (sizeOf l) l)
 unfolding readableFrom
-lie-rest n l r = record { len = targetOf l; reads = both (eqb (baseOf l) (r .len)) _ .0 (both (eqb (recordFault l) 0) _ .0 (r .reads) .1) .1 }
+lie-rest n len l r = record { reads = both (eqb (baseOf l) len) _ .0 (both (eqb (recordFault l) 0) _ .0 (r .reads) .1) .1 }
 
 -- ---- what was moved past already
 abbrev pub behind : List Seq → Moved → Moved
@@ -51,8 +56,9 @@ behind done m = record { edit = m .edit; counterparts = done ++ m .counterparts;
 -- of n revisions that begin at `from`, `left` are still to come; the counterparts so far stand in `parts`, if they have room there
 pub record Moving (e : Seq) (l : List ℕ) (from n left : ℕ) (spot : Spot) (cur parts₀ parts : List ℕ) : Type 0 where
   pub place : spot .at ≤ length l
-  pub lies : Lie left (drop (spot .at) l)
+  pub lies : Lie left (baseOf cur) (drop (spot .at) l)
   pub holds : Holds (ops cur) cur
+  pub same-text : SameText (ops cur) e
   pub done : List Seq
   pub number : length done + left ≡ n
   pub whole : rebase e (editsIn n (drop from l)) ≡ behind done (rebase (ops cur) (editsIn left (drop (spot .at) l)))
@@ -60,9 +66,22 @@ pub record Moving (e : Seq) (l : List ℕ) (from n left : ℕ) (spot : Spot) (cu
   pub small : spot .bytes ≤ 35848 * length done
   pub given : spot .bytes ≤ length parts₀ → parts ≡ atFront (encodeAll done) parts₀
 
-pub moving-start : (l : List ℕ) (from n : ℕ) (cur parts : List ℕ) → from ≤ length l → Lie n (drop from l) → Holds (ops cur) cur → Moving (ops cur) l from n n (record { at = from; bytes = 0 }) cur parts parts
+pub moving-start : (l : List ℕ) (from n : ℕ) (edit cur parts : List ℕ) → from ≤ length l → Lie n (baseOf edit) (drop from l) → recordFault edit ≡ 0 → Holds (ops edit) cur → Moving (ops edit) l from n n (record { at = from; bytes = 0 }) cur parts parts
 unfolding encodeAll atFront
-moving-start l from n cur parts p q f = record { place = p; lies = q; holds = f; done = []; number = omega arith; whole = refl; bytes-are = refl; small = omega arith; given = λ _. refl }
+moving-start l from n edit cur parts p q z h =
+    let same : baseOf edit ≡ baseOf cur = sym (ops-base edit z) ∙ ap base (sym (h .edit)) ∙ ops-base cur (h .fault) in
+    record {
+      place = p;
+      lies = subst (λ k. Lie n k (drop from l)) same q;
+      holds = subst (λ s. Holds s cur) (sym (h .edit)) h;
+      same-text = record { same-text = ap (λ s. text (map inBytes s)) (h .edit) };
+      done = [];
+      number = omega arith;
+      whole = ap (λ s. rebase s (editsIn n (drop from l))) (sym (h .edit));
+      bytes-are = refl;
+      small = omega arith;
+      given = λ _. refl;
+    }
 
 module _ (e : Seq) (l : List ℕ) (from n left : ℕ) (spot : Spot) (cur parts₀ parts : List ℕ) (g : Moving e l from n left spot cur parts₀ parts) where
   abbrev at : ℕ
@@ -99,7 +118,10 @@ module _ (e : Seq) (l : List ℕ) (from n left : ℕ) (spot : Spot) (cur parts�
     rec-is = to-end l at
 
     pub moving-record : recordFault rec ≡ 0
-    moving-record = ap recordFault rec-is ∙ lie-first left (drop at l) some (g .lies)
+    moving-record = ap recordFault rec-is ∙ lie-first left (baseOf cur) (drop at l) some (g .lies) .0
+
+    pub moving-agree : baseOf cur ≡ baseOf rec
+    moving-agree = sym (ap baseOf rec-is ∙ lie-first left (baseOf cur) (drop at l) some (g .lies) .1)
 
     abbrev s : Sides Char
     s = transform order (ops cur) (ops rec)
@@ -113,16 +135,10 @@ module _ (e : Seq) (l : List ℕ) (from n left : ℕ) (spot : Spot) (cur parts�
         ap (λ i. rebase (ops cur) (editsIn i (drop at l))) k
         ∙ ap (λ r. let m = rebase (rule (ops cur) (ops r) .left) (editsIn (left - 1) (drop (sizeOf r) (drop at l))) in record { edit = m .edit; counterparts = rule (ops cur) (ops r) .right ∷ m .counterparts; kept = fits (rule (ops cur) (ops r) .left) && (fits (rule (ops cur) (ops r) .right) && m .kept) }) (sym rec-is)
 
-    module _ (slots : ℕ) (p : Pair) (next side : List ℕ) (d : StagedBoth slots s p next side) (v : Bool) (q : v ≡ (within (p .e) && within (p .f))) where
-      abbrev sized-left : Sizes (s .left) (p .e)
-      sized-left = d .left .done .sizes
-
-      abbrev sized-right : Sizes (s .right) (p .f)
-      sized-right = d .right .done .sizes
-
-      pub moving-stop : (room : ℕ) → not v ≡ true → Runs slots room e (editsIn n (drop from l)) (outcome.Refused Limit) cur parts₀ parts
-      moving-stop room h =
-          let z : fits (s .left) && fits (s .right) ≡ false = ap₂ _&&_ (sym (sized-fits (s .left) (p .e) sized-left)) (sym (sized-fits (s .right) (p .f) sized-right)) ∙ sym q ∙ not-true v h in
+    module _ (p : Pair) (d : SizedBoth s p) (v : Bool) (q : v ≡ (within (p .e) && within (p .f))) where
+      pub moving-stop : (slots room : ℕ) → not v ≡ true → Runs slots room e (editsIn n (drop from l)) (outcome.Refused Limit) cur parts₀ parts
+      moving-stop slots room h =
+          let z : fits (s .left) && fits (s .right) ≡ false = ap₂ _&&_ (sym (sized-fits (s .left) (p .e) (d .left))) (sym (sized-fits (s .right) (p .f) (d .right))) ∙ sym q ∙ not-true v h in
           record { runs = (refl, ap (λ m. m .kept) (g .whole ∙ ap (behind (g .done)) moving-whole) ∙ stays (fits (s .left)) (fits (s .right)) _ z) }
         where
           stays : (a b c : Bool) → a && b ≡ false → a && (b && c) ≡ false
@@ -134,33 +150,33 @@ module _ (e : Seq) (l : List ℕ) (from n left : ℕ) (spot : Spot) (cur parts�
         pub moving-fit : Fit s
         moving-fit =
             let (a, b) = and-eq-true-iff (within (p .e)) (within (p .f)) .0 (sym q ∙ not-false v h) in
-            record { left = within-fits (s .left) (p .e) sized-left a; right = within-fits (s .right) (p .f) sized-right b }
+            record { left = within-fits (s .left) (p .e) (d .left) a; right = within-fits (s .right) (p .f) (d .right) b }
 
-        -- in stages that have `room` bytes, as the code finds them
-        module _ (room found : ℕ) (as-found : found ≡ room) (u : Bool) (told : u ≡ (placed (p .e) slots found && placed (p .f) slots found)) where
-          t : u ≡ (placed (p .e) slots room && placed (p .f) slots room)
-          t = rw as-found at told
-
-          pub moving-ready : not u ≡ false → Ready slots s p room next side
-          moving-ready z =
+        module _ (slots found : ℕ) (u : Bool) (told : u ≡ (leb (p .e .records) slots && (leb (p .f .records) slots && leb (sizeIn (p .e)) found))) where
+          pub moving-ready : not u ≡ false → (c : Counts) (next side : List ℕ) → MarkedBoth slots s c next side → Ready slots s p found next side
+          moving-ready z c next side m =
+              let (x, y) = and-eq-true-iff (leb (p .e .records) slots) (leb (p .f .records) slots && leb (sizeIn (p .e)) found) .0 (sym told ∙ not-false u z) in
+              let (k, w) = and-eq-true-iff (leb (p .f .records) slots) (leb (sizeIn (p .e)) found) .0 y in
               record {
-                staged = d;
+                sized = d;
+                left = m .left;
+                right = m .right;
                 fit = moving-fit;
-                few-left = few-left slots p room room u t z;
-                few-right = few-right slots p room room u t z;
-                room-left = room-left slots p room room u t z;
-                room-right = room-right slots p room room u t z;
+                few-left = leb-true (p .e .records) slots x;
+                few-right = leb-true (p .f .records) slots k;
+                room-left = leb-true (sizeIn (p .e)) found w;
               }
 
-          -- what moving-fit the limits has a place in long stages
-          pub moving-short : not u ≡ true → Runs slots room e (editsIn n (drop from l)) outcome.Short cur parts₀ parts
-          moving-short z = record {
+          -- what keeps the limits has places in long buffers
+          pub moving-short : not u ≡ true → (room : ℕ) → found ≡ room → Runs slots room e (editsIn n (drop from l)) outcome.Short cur parts₀ parts
+          moving-short z room as-found = record {
             runs = λ few wide.
                 let m = fits-limits (s .left) .0 (moving-fit .left) in
                 let m′ = fits-limits (s .right) .0 (moving-fit .right) in
-                let x : placed (p .e) slots room ≡ true = rw (le-leb (p .e .records) slots (omega (arith, m .records, sized-left .records, few)), le-leb (textStart slots + p .e .text) room (omega (arith, m .text-bytes, sized-left .text-bytes, wide))) in
-                let y : placed (p .f) slots room ≡ true = rw (le-leb (p .f .records) slots (omega (arith, m′ .records, sized-right .records, few)), le-leb (textStart slots + p .f .text) room (omega (arith, m′ .text-bytes, sized-right .text-bytes, wide))) in
-                true≢false (sym (t ∙ ap₂ _&&_ x y) ∙ not-true u z);
+                let x = le-leb (p .e .records) slots (omega (arith, m .records, d .left .records, few)) in
+                let y = le-leb (p .f .records) slots (omega (arith, m′ .records, d .right .records, few)) in
+                let w = le-leb (sizeIn (p .e)) found (omega (arith, m .records, d .left .records, m .text-bytes, d .left .text-bytes, wide, as-found)) in
+                true≢false (sym (told ∙ rw (x, y, w)) ∙ not-true u z);
           }
 
     pub moving-next : Fit s → length parts ≡ length parts₀ → (to : Spot) (cur′ parts′ : List ℕ) → GoesOn s rec spot to cur′ parts parts′ → Moving e l from n (left - 1) to cur′ parts₀ parts′
@@ -176,10 +192,14 @@ module _ (e : Seq) (l : List ℕ) (from n left : ℕ) (spot : Spot) (cur parts�
         let D = encodeAll (g .done) in
         let R = encode (s .right) in
         let more : encodeAll (g .done ++ (s .right ∷ [])) ≡ D ++ R = encodeAll-append (g .done) (s .right ∷ []) ∙ ap (λ x. D ++ x) (append-nil R) in
+        let same-base = ops-base cur (g .holds .fault) ∙ moving-agree ∙ sym (ops-base rec moving-record) in
+        let base-is : targetOf (drop at l) ≡ baseOf cur′ =
+        ap targetOf (sym rec-is) ∙ sym (ops-target rec moving-record) ∙ sym (base-left (ops cur) (ops rec) same-base) ∙ ap base (sym (o .holds .edit)) ∙ ops-base cur′ (o .holds .fault) in
         record {
           place = inside;
-          lies = subst (Lie (left - 1)) (ap (λ k. drop k (drop at l)) (sym (ap sizeOf rec-is)) ∙ rest-is) (lie-rest (left - 1) (drop at l) (subst (λ i. Lie i (drop at l)) (omega (arith, some)) (g .lies)));
+          lies = subst₂ (Lie (left - 1)) base-is (ap (λ k. drop k (drop at l)) (sym (ap sizeOf rec-is)) ∙ rest-is) (lie-rest (left - 1) (baseOf cur) (drop at l) (subst (λ i. Lie i (baseOf cur) (drop at l)) (omega (arith, some)) (g .lies)));
           holds = subst (λ s. Holds s cur′) (sym (o .holds .edit)) (o .holds);
+          same-text = record { same-text = ap (λ u. text (map inBytes u)) (o .holds .edit) ∙ text-left (ops cur) (ops rec) ∙ g .same-text .same-text };
           done = g .done ++ (s .right ∷ []);
           number = simp length-append (omega (arith, g .number, some));
           whole = g .whole ∙ ap (behind (g .done)) moving-whole

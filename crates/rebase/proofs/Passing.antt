@@ -1,30 +1,33 @@
 -- Past one revision: the edit's side takes the edit's place, the revision's side goes behind the counterparts before it.
-use Prim.Native.Nat.{ℕ, _+_, _-_, _≤_, _<_}
+use Prim.Native.Nat.{ℕ, _+_, _-_, _^_, _≤_, _<_}
 use native.Mathlib.Omega.{arith}
-use mathlib.Core.Path.{_≡_, sym, ap, ap₂, _∙_, subst}
-use mathlib.Core.Bool.{true}
-use mathlib.Core.List.{List, [], _++_, append-nil}
-use lib.Dec.{T}
+use mathlib.Core.Path.{_≡_, refl, sym, ap, ap₂, _∙_, subst}
+use mathlib.Core.Bool.{Bool, true, false, not, _&&_}
+use mathlib.Core.List.{List, [], _++_, append-nil, map}
+use lib.Dec.{T, leb}
 use lib.ListN.{length, take, drop, length-drop}
 use lib.Seq.{take-at, drop-length}
+use borrow.Author.Tests.{le-leb, lt-leb, not-true, not-false}
 use borrow.Rule.Slice.PartMut.{putMid}
 use Rattle.utf8.specs.Order.{order}
 use Rattle.utf8.proofs.Tests.{known}
-use Rattle.operation.specs.Layout.{sizeOf, textStart}
-use Rattle.operation.specs.Record.{Seq, encode, fits}
+use Rattle.operation.specs.Layout.{sizeOf, recordsOf, textBytesOf, textStart}
+use Rattle.operation.specs.Record.{Seq, inBytes, text, encode, fits, ops, recordFault}
 use Rattle.operation.proofs.Sequences.{Good, fits-limits}
-use Rattle.operation.proofs.Records.{size-encode, ops-encode, fault-encode}
+use Rattle.operation.proofs.Records.{size-encode, ops-encode, fault-encode, ops-text}
 use Rattle.operational_transform.specs.declared.core.Emitter.{Emitter}
 use Rattle.operational_transform.specs.Output.{atFront}
 use Rattle.operational_transform.specs.Transform.{keepBoth, transform}
-use Rattle.operational_transform.specs.Emit.{Sizes, Staged, within, sizeIn, headed, settled}
+use Rattle.operational_transform.specs.Emit.{Under, Sizes, Marked, within, sizeIn}
 use Rattle.operational_transform.proofs.Claims.{transform-built}
+use Rattle.operational_transform.proofs.Counting.{text-left, text-right}
 use Rattle.operational_transform.proofs.Delivering.{sized-fits, sized-length, written-front}
-use Rattle.operational_transform.proofs.Staging.{staged-writes}
+use Rattle.operational_transform.proofs.Staging.{marked-writes}
 use Rattle.transform.specs.declared.core.Pair.{Pair}
+use Rattle.transform.proofs.Marking.{bounds, text-there}
 use Rattle.log.proofs.Scanning.{to-end}
 use Rattle.rebase.specs.declared.core.Spot.{Spot}
-use Rattle.rebase.specs.Running.{Holds, Ready, Keeps, GoesOn}
+use Rattle.rebase.specs.Running.{Holds, SameText, Ready, withText, Keeps, GoesOn}
 
 pub within-fits : (s : Seq) (e : Emitter) → Sizes s e → within e ≡ true → T (fits s)
 within-fits s e d w = known (sym (sized-fits s e d) ∙ w)
@@ -36,45 +39,83 @@ front-holds s buffer g =
     let more = drop (length (encode s)) buffer in
     record { fault = fault-encode s more g; edit = ops-encode s more; bytes-are = take-at (encode s) more _ (sym (size-encode s more)) }
 
+-- ---- `keep_limits`, `have_places`
+
+pub keep-first : (v w x : Bool) → v ≡ w → not v ≡ true → false ≡ (w && x)
+keep-first v w x e h = rw (sym e ∙ not-true v h)
+
+pub keep-both : (v w u x : Bool) → v ≡ w → not v ≡ false → u ≡ x → u ≡ (w && x)
+keep-both v w u x e h f = rw (sym e ∙ not-false v h) f
+
+module _ (p : Pair) (slots room : ℕ) where
+  abbrev pub places : Bool
+  places = leb (p .e .records) slots && (leb (p .f .records) slots && leb (sizeIn (p .e)) room)
+
+  pub places-first : slots < p .e .records → false ≡ places
+  places-first h = rw (lt-leb (p .e .records) slots h)
+
+  module _ (g : p .e .records ≤ slots) where
+    pub places-second : slots < p .f .records → false ≡ places
+    places-second h = rw (le-leb (p .e .records) slots g, lt-leb (p .f .records) slots h)
+
+    pub places-room : p .f .records ≤ slots → (k : ℕ) → k ≡ sizeIn (p .e) → leb k room ≡ places
+    places-room h k e = rw (le-leb (p .e .records) slots g, le-leb (p .f .records) slots h, e)
+
 -- ---- from a stage to a place
 
-module _ (slots : ℕ) (s : Seq) (e : Emitter) (stage : List ℕ) (g : Staged slots s e stage) (few : e .records ≤ slots) (room : textStart slots + e .text ≤ length stage) (f : T (fits s)) where
-  staged-front : (out out′ : List ℕ) → sizeIn e ≤ length out → out′ ≡ headed e (settled slots (e .records) (e .records) (e .text) stage out) → out′ ≡ atFront (encode s) out
-  staged-front out out′ space p =
-      let w = staged-writes slots s e stage out out′ g few room p in
-      let z = g .done .sizes in
-      written-front s (e .records) out (w .emitter) (w .before) out′ (fits-limits s .0 f) (omega (arith, sized-length s e z, space)) (w .done) (z .records) (w .is)
+-- the text of a sequence is that of a record of n operations
+module _ (s : Seq) (e : Emitter) (z : Sizes s e) (r : List ℕ) (f : recordFault r ≡ 0) (n : ℕ) (pn : n ≡ recordsOf r) (t : text (map inBytes s) ≡ text (map inBytes (ops r))) where
+  bytes-same : e .text ≡ textBytesOf r
+  bytes-same = z .text-bytes ∙ ap length t ∙ ops-text r f
 
-module _ (slots : ℕ) (f : Emitter) (side : List ℕ) (from to : ℕ) (parts : List ℕ) where
+  text-inside : textStart n + e .text ≤ length r
+  text-inside = omega (arith, bytes-same, pn, bounds r f .whole)
+
+  marked-front : Under (2 ^ 40) e → T (fits s) → (slots : ℕ) (stage : List ℕ) → Marked slots s stage → e .records ≤ slots → textStart slots ≤ length stage → (out out′ : List ℕ) → sizeIn e ≤ length out → out′ ≡ withText slots e stage n r out
+      → out′ ≡ atFront (encode s) out
+  marked-front u fit slots stage m few long out out′ space p =
+      let w = marked-writes slots s e stage _ out out′ m z u few long (text-there r f n (e .text) pn bytes-same ∙ sym t) p in
+      written-front s (e .records) out (w .emitter) (w .before) out′ (fits-limits s .0 fit) (omega (arith, sized-length s e z, space)) (w .done) (z .records) (w .is)
+
+module _ (slots : ℕ) (f : Emitter) (side : List ℕ) (n : ℕ) (rec : List ℕ) (from to : ℕ) (parts : List ℕ) where
   -- what goes to a part of a buffer goes to the buffer
-  pub keeps-part : (sub′ : List ℕ) → to ≡ from + sizeIn f → f .records ≤ slots → textStart slots + f .text ≤ length side → to ≤ length parts
-      → sub′ ≡ headed f (settled slots (f .records) (f .records) (f .text) side (take (length parts - from) (drop from parts))) → Keeps slots f side from to parts (putMid from (length parts - from) parts sub′)
-  keeps-part sub′ pt few room h q = record {
-    keeps = λ s g fit _.
-        let e = to-end parts from in
-        let n : sub′ ≡ atFront (encode s) (drop from parts) =
-        staged-front slots s f side g few room fit (take (length parts - from) (drop from parts)) sub′ (rw e (omega (arith, h, pt, length-drop from parts))) q ∙ ap (atFront (encode s)) e in
+  pub keeps-part : (sub′ : List ℕ) → sub′ ≡ withText slots f side n rec (take (length parts - from) (drop from parts)) → Keeps slots f side n rec from to parts (putMid from (length parts - from) parts sub′)
+  keeps-part sub′ q = record {
+    keeps = λ _.
         let z : drop (length parts - from) (drop from parts) ≡ [] = ap (λ k. drop k (drop from parts)) (sym (length-drop from parts)) ∙ drop-length (drop from parts) in
-        ap (λ x. take from parts ++ x) (ap₂ _++_ n z ∙ append-nil (atFront (encode s) (drop from parts)));
+        ap (λ x. take from parts ++ x) (ap₂ _++_ (q ∙ ap (withText slots f side n rec) (to-end parts from)) z ∙ append-nil (withText slots f side n rec (drop from parts)));
   }
 
-  pub keeps-none : length parts < to → Keeps slots f side from to parts parts
-  keeps-none h = record { keeps = λ s g fit k. absurd (omega (arith, h, k)) }
+  pub keeps-none : length parts < to → Keeps slots f side n rec from to parts parts
+  keeps-none h = record { keeps = λ k. absurd (omega (arith, h, k)) }
 
 left-good : (x y : Seq) → T (fits (transform order x y .left)) → Good (transform order x y .left)
 unfolding transform
 left-good x y f = record { is-built = transform-built keepBoth order x y .0; in-limits = f }
 
-pub goes-on : (slots : ℕ) (x y : Seq) (p : Pair) (cur next side : List ℕ) → length next ≡ length cur → length side ≡ length cur → Ready slots (transform order x y) p (length cur) next side → (rec : List ℕ) (spot : Spot) (size z : ℕ) → size ≡ sizeOf rec → z ≡ sizeIn (p .f)
-    → (cur′ : List ℕ) → cur′ ≡ headed (p .e) (settled slots (p .e .records) (p .e .records) (p .e .text) next cur) → (parts parts′ : List ℕ) → Keeps slots (p .f) side (spot .bytes) (spot .bytes + z) parts parts′
-    → GoesOn (transform order x y) rec spot (record { at = spot .at + size; bytes = spot .bytes + z }) cur′ parts parts′
-goes-on slots x y p cur next side ln ls r rec spot size z ps pz cur′ pc parts parts′ k =
-    let s = transform order x y in
-    let g = r .staged in
-    let c : cur′ ≡ atFront (encode (s .left)) cur = staged-front slots (s .left) (p .e) next (g .left) (r .few-left) (omega (arith, r .room-left, ln)) (r .fit .left) cur cur′ (omega (arith, r .few-left, r .room-left)) pc in
-    record {
-      holds = subst (Holds (s .left)) (sym c) (front-holds (s .left) cur (left-good x y (r .fit .left)));
-      at-is = ap (λ k. spot .at + k) ps;
-      bytes-are = ap (λ k. spot .bytes + k) (pz ∙ sized-length (s .right) (p .f) (g .right .done .sizes));
-      given = k .keeps (s .right) (g .right) (r .fit .right);
-    }
+module _ (slots : ℕ) (edit cur rec : List ℕ) (ne nb : ℕ) (pe : ne ≡ recordsOf edit) (pb : nb ≡ recordsOf rec) (ze : recordFault edit ≡ 0) (zr : recordFault rec ≡ 0) (t : SameText (ops cur) (ops edit)) (next side : List ℕ) (ln : length next ≡ textStart slots) (ls : length side ≡ textStart slots) (p : Pair)
+    (r : Ready slots (transform order (ops cur) (ops rec)) p (length cur) next side) where
+  left-text : text (map inBytes (transform order (ops cur) (ops rec) .left)) ≡ text (map inBytes (ops edit))
+  left-text = text-left (ops cur) (ops rec) ∙ t .same-text
+
+  pub edit-inside : textStart ne + p .e .text ≤ length edit
+  edit-inside = text-inside _ (p .e) (r .sized .left) edit ze ne pe left-text
+
+  pub record-inside : textStart nb + p .f .text ≤ length rec
+  record-inside = text-inside _ (p .f) (r .sized .right) rec zr nb pb (text-right (ops cur) (ops rec))
+
+  pub goes-on : (spot : Spot) (size z : ℕ) → size ≡ sizeOf rec → z ≡ sizeIn (p .f) → (cur′ : List ℕ) → cur′ ≡ withText slots (p .e) next ne edit cur → (parts parts′ : List ℕ) → Keeps slots (p .f) side nb rec (spot .bytes) (spot .bytes + z) parts parts′
+      → GoesOn (transform order (ops cur) (ops rec)) rec spot (record { at = spot .at + size; bytes = spot .bytes + z }) cur′ parts parts′
+  goes-on spot size z ps pz cur′ pc parts parts′ k =
+      let s = transform order (ops cur) (ops rec) in
+      let d = r .sized in
+      let from = drop (spot .bytes) parts in
+      let c : cur′ ≡ atFront (encode (s .left)) cur = marked-front (s .left) (p .e) (d .left) edit ze ne pe left-text (d .left-small) (r .fit .left) slots next (r .left) (r .few-left) (omega (arith, ln)) cur cur′ (r .room-left) pc in
+      record {
+        holds = subst (Holds (s .left)) (sym c) (front-holds (s .left) cur (left-good (ops cur) (ops rec) (r .fit .left)));
+        at-is = ap (λ k. spot .at + k) ps;
+        bytes-are = ap (λ k. spot .bytes + k) (pz ∙ sized-length (s .right) (p .f) (d .right));
+        given = λ h.
+            k .keeps h
+            ∙ ap (λ x. take (spot .bytes) parts ++ x) (marked-front (s .right) (p .f) (d .right) rec zr nb pb (text-right (ops cur) (ops rec)) (d .right-small) (r .fit .right) slots side (r .right) (r .few-right) (omega (arith, ls)) from _ (omega (arith, h, pz, length-drop (spot .bytes) parts)) refl);
+      }

@@ -1,6 +1,6 @@
 -- Both sides of a transform, written to stages by one run.
 use Prim.Native.Nat.{ℕ}
-use mathlib.Core.Path.{_≡_, sym, _∙_}
+use mathlib.Core.Path.{_≡_, sym, _∙_, subst}
 use mathlib.Core.Bool.{Bool, true, false, not}
 use mathlib.Core.List.{List}
 use lib.ListN.{length}
@@ -8,20 +8,20 @@ use borrow.Author.Tests.{not-true, not-false}
 use Rattle.utf8.specs.Order.{order}
 use Rattle.operation.specs.Record.{ops}
 use Rattle.operational_transform.specs.Transform.{transform}
-use Rattle.operational_transform.specs.Emit.{Finishes}
-use Rattle.operational_transform.proofs.Staging.{stages}
 use Rattle.turns.specs.Turns.{liveIs}
 use Rattle.transform.specs.declared.core.Both.{Both}
-use Rattle.transform.specs.declared.core.Pair.{Pair}
-use Rattle.transform.specs.Both.{StagedBoth}
-use Rattle.transform.proofs.Looping.{GoingBoth, both-done}
+use Rattle.transform.specs.declared.core.Counts.{Counts}
+use Rattle.transform.specs.Both.{MarkedBoth}
+use Rattle.transform.proofs.Looping.{GoingBoth}
+use Rattle.transform.proofs.Marking.{both-marked}
+use Rattle.rebase.specs.Running.{Ends}
 
-pub staged-run : (n : ℕ) (a b next₀ side₀ : List ℕ) (s : Both) (next side : List ℕ) → GoingBoth n n a b next₀ side₀ s next side → length next ≡ length next₀ → length side ≡ length side₀
-    → (v : Bool) → v ≡ liveIs (s .x) (s .y) → not v ≡ true → (p : Pair) (next′ side′ : List ℕ) → Finishes n (s .e) next (p .e) next′ → Finishes n (s .f) side (p .f) side′ → length next′ ≡ length next → length side′ ≡ length side
-    → StagedBoth n (transform order (ops a) (ops b)) p next′ side′
-staged-run n a b next₀ side₀ s next side g ln ls v e z p next′ side′ f k ln′ ls′ =
-    let d = both-done n n a b next₀ side₀ s next side g v e (not-true v z) p next′ side′ f k in
-    record { left = stages (d .left) (ln′ ∙ ln); right = stages (d .right) (ls′ ∙ ls) }
+pub marked-run : (n : ℕ) (a b next₀ side₀ : List ℕ) (s : Both) (next side : List ℕ) → GoingBoth n n a b next₀ side₀ s next side → length next ≡ length next₀ → length side ≡ length side₀
+    → (v : Bool) → v ≡ liveIs (s .x) (s .y) → not v ≡ true → (c : Counts) (next′ side′ : List ℕ) → Ends n s next side c next′ side′ → length next′ ≡ length next → length side′ ≡ length side
+    → MarkedBoth n (transform order (ops a) (ops b)) c next′ side′
+marked-run n a b next₀ side₀ s next side g ln ls v l z c next′ side′ d ln′ ls′ =
+    subst (λ k. MarkedBoth n (transform order (ops a) (ops b)) k next′ side′) (sym (d .counts))
+    (both-marked n a b next₀ side₀ s next side g ln ls v l (not-true v z) (d .e) (d .f) next′ side′ (d .left) (d .right) ln′ ls′)
 
 -- a test that was not refused
 pub passed : (v w : Bool) → v ≡ w → not v ≡ false → w ≡ true

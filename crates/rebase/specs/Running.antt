@@ -2,28 +2,29 @@
 use Prim.Native.Nat.{ℕ, _+_, _≤_}
 use mathlib.Core.Path.{_≡_}
 use mathlib.Core.Bool.{true, false}
-use mathlib.Core.List.{List, _++_}
+use mathlib.Core.List.{List, _++_, map}
 use lib.Dec.{T}
 use lib.ListN.{length, take, drop}
 use Rattle.utf8.specs.Text.{Char}
 use Rattle.operation.specs.declared.Refusal.the-variants.{Limit}
 use Rattle.operation.specs.Layout.{sizeOf, textStart}
-use Rattle.operation.specs.Record.{Seq, encode, fits, ops, recordFault}
+use Rattle.operation.specs.Record.{Seq, inBytes, text, encode, fits, ops, recordFault}
 use Rattle.operational_transform.specs.declared.core.Emitter.{Emitter}
 use Rattle.operational_transform.specs.Transform.{Sides}
-use Rattle.operational_transform.specs.Emit.{Staged}
+use Rattle.operational_transform.specs.Emit.{over, Finishes, Marked, sizeIn, headed, settledRecords}
 use Rattle.operational_transform.specs.Output.{atFront}
-use Rattle.transform.specs.Both.{StagedBoth}
+use Rattle.transform.specs.Both.{SizedBoth}
+use Rattle.transform.specs.declared.core.Both.{Both}
 use Rattle.transform.specs.declared.core.Pair.{Pair}
+use Rattle.transform.specs.declared.core.Counts.{Counts}
 use Rattle.log.specs.Log.{encodeAll, readableFrom}
 use Rattle.session.specs.Rows.{rebase}
 use Rattle.rebase.specs.declared.core.Spot.{Spot}
 use Rattle.rebase.specs.declared.core.Run.{Run}
 use Rattle.rebase.specs.declared.core.Run.the-variants as outcome
 
--- n records that can be read stand end to end in `l`
-pub record Lie (n : ℕ) (l : List ℕ) : Type 0 where
-  pub len : ℕ
+-- n records that can be read stand end to end in `l`, where the length is `len` before them
+pub record Lie (n len : ℕ) (l : List ℕ) : Type 0 where
   pub reads : T (readableFrom n len l)
 
 -- the record of e stands at the front of a buffer
@@ -32,25 +33,43 @@ pub record Holds (e : Seq) (cur : List ℕ) : Type 0 where
   pub edit : ops cur ≡ e
   pub bytes-are : take (sizeOf cur) cur ≡ encode e
 
+-- what both insert is the same text
+pub record SameText (s t : Seq) : Type 0 where
+  pub same-text : text (map inBytes s) ≡ text (map inBytes t)
+
 -- ---- past one revision
+
+-- what was emitted of both sides is finished, and counted
+pub record Ends (slots : ℕ) (b : Both) (next side : List ℕ) (c : Counts) (next′ side′ : List ℕ) : Type 0 where
+  pub e : Emitter
+  pub f : Emitter
+  pub left : Finishes slots (b .e) next e next′
+  pub right : Finishes slots (b .f) side f side′
+  pub counts : c ≡ record { left = e .records; right = f .records; target = e .target }
 
 -- both sides keep the limits
 pub record Fit (s : Sides Char) : Type 0 where
   pub left : T (fits (s .left))
   pub right : T (fits (s .right))
 
--- both sides, written to stages, keep the limits, and have places in stages of `room` bytes
+-- both sides, written to stages but for the text, keep the limits and have places there; the left has room in a buffer of `room` bytes
 pub record Ready (slots : ℕ) (s : Sides Char) (p : Pair) (room : ℕ) (next side : List ℕ) : Type 0 where
-  pub staged : StagedBoth slots s p next side
+  pub sized : SizedBoth s p
+  pub left : Marked slots (s .left) next
+  pub right : Marked slots (s .right) side
   pub fit : Fit s
   pub few-left : p .e .records ≤ slots
   pub few-right : p .f .records ≤ slots
-  pub room-left : textStart slots + p .e .text ≤ room
-  pub room-right : textStart slots + p .f .text ≤ room
+  pub room-left : sizeIn (p .e) ≤ room
 
--- if there is room up to `to`, the record of what was staged stands from `from` on
-pub record Keeps (slots : ℕ) (f : Emitter) (side : List ℕ) (from to : ℕ) (parts parts′ : List ℕ) : Type 0 where
-  pub keeps : (s : Seq) → Staged slots s f side → T (fits s) → to ≤ length parts → parts′ ≡ take from parts ++ atFront (encode s) (drop from parts)
+-- what was staged, at the front of a buffer, with the text of a record of n operations
+abbrev pub withText : ℕ → Emitter → List ℕ → ℕ → List ℕ → List ℕ → List ℕ
+withText slots e stage n rec out =
+    headed e (settledRecords slots (e .records) (e .records) stage (over (textStart (e .records)) (take (e .text) (drop (textStart n) rec)) out))
+
+-- if there is room up to `to`, it stands from `from` on
+pub record Keeps (slots : ℕ) (f : Emitter) (side : List ℕ) (n : ℕ) (rec : List ℕ) (from to : ℕ) (parts parts′ : List ℕ) : Type 0 where
+  pub keeps : to ≤ length parts → parts′ ≡ take from parts ++ withText slots f side n rec (drop from parts)
 
 -- the edit in a buffer is moved past one revision
 pub record GoesOn (s : Sides Char) (rec : List ℕ) (spot r : Spot) (cur′ parts parts′ : List ℕ) : Type 0 where
@@ -67,11 +86,11 @@ pub record Rebased (e : Seq) (vs : List Seq) (bytes : ℕ) (cur′ : List ℕ) :
   pub bytes-are : bytes ≡ length (encodeAll (rebase e vs .counterparts))
   pub holds : Holds (rebase e vs .edit) cur′
 
--- in stages of `room` bytes with places for `slots` operations; the counterparts go to `parts`, if they have room there
+-- in a buffer of `room` bytes and stages with places for `slots` operations; the counterparts go to `parts`, if they have room there
 abbrev pub RunsTo : ℕ → ℕ → Seq → List Seq → Run → List ℕ → List ℕ → List ℕ → Type 0
 RunsTo slots room e vs (outcome.Refused x) cur′ parts parts′ = (x ≡ Limit) × (rebase e vs .kept ≡ false)
 RunsTo slots room e vs (outcome.Kept b) cur′ parts parts′ = Rebased e vs b cur′ × (b ≤ length parts → parts′ ≡ atFront (encodeAll (rebase e vs .counterparts)) parts)
-RunsTo slots room e vs outcome.Short cur′ parts parts′ = 1024 ≤ slots → textStart slots + 32768 ≤ room → ⊥
+RunsTo slots room e vs outcome.Short cur′ parts parts′ = 1024 ≤ slots → 35848 ≤ room → ⊥
 
 pub record Runs (slots room : ℕ) (e : Seq) (vs : List Seq) (r : Run) (cur′ parts parts′ : List ℕ) : Type 0 where
   pub runs : RunsTo slots room e vs r cur′ parts parts′

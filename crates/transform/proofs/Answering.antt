@@ -29,7 +29,7 @@ use Rattle.operational_transform.proofs.Delivering.{sized-fits, sized-length, w
 use Rattle.transform.specs.declared.WrittenPair.{WrittenPair}
 use Rattle.transform.specs.declared.WrittenPair.the-variants as written
 use Rattle.transform.specs.Pairs.{pairOf, judgedBoth, Transforms}
-use Rattle.transform.specs.Both.{WritesBoth, StagedBoth}
+use Rattle.transform.specs.Both.{WritesBoth, SizedBoth}
 use Rattle.transform.specs.declared.core.Pair.{Pair}
 
 -- ---- `judge`
@@ -72,12 +72,12 @@ module _ (a b x y : List ℕ) (za : recordFault a ≡ 0) (zb : recordFault b ≡
   pub transforms-lengths : (t ≡ s → ⊥) → Transforms a b x y (written.Refused IncompatibleLengths) x y
   transforms-lengths h = refuses a b x y IncompatibleLengths 7 refl (fault-is a b x y 7 (rw (za, zb, ne-eqb (baseOf a) (baseOf b) (λ z. h (pt ∙ z ∙ sym ps)))))
 
-module _ (a b x y : List ℕ) (za : recordFault a ≡ 0) (zb : recordFault b ≡ 0) (h : baseOf a ≡ baseOf b) (r : Pair) {n : ℕ} {q₁ q₂ : List ℕ} (d : StagedBoth n (transform order (ops a) (ops b)) r q₁ q₂) (v : WrittenPair) (w : v ≡ judgedBoth (r .e) (r .f) (length x) (length y)) where
+module _ (a b x y : List ℕ) (za : recordFault a ≡ 0) (zb : recordFault b ≡ 0) (h : baseOf a ≡ baseOf b) (r : Pair) (d : SizedBoth (transform order (ops a) (ops b)) r) (v : WrittenPair) (w : v ≡ judgedBoth (r .e) (r .f) (length x) (length y)) where
   abbrev z₁ : Sizes (transform order (ops a) (ops b) .left) (r .e)
-  z₁ = d .left .done .sizes
+  z₁ = d .left
 
   abbrev z₂ : Sizes (transform order (ops a) (ops b) .right) (r .f)
-  z₂ = d .right .done .sizes
+  z₂ = d .right
 
   abbrev sides : Sides Char
   sides = transform order (ops a) (ops b)

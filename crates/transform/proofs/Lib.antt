@@ -2,5 +2,5 @@
 pub mod Siding
 pub mod Stepping
 pub mod Looping
-pub mod Placing
+pub mod Marking
 pub mod Answering

@@ -1,9 +1,9 @@
 -- The steps of transform on fronts: whose turn it is, and what the first becomes.
-use Prim.Native.Nat.{ℕ, _+_, _*_, _^_, _≤_, _<_, min}
+use Prim.Native.Nat.{ℕ, _^_, _≤_, _<_, min}
 use native.Mathlib.Omega.{arith}
 use mathlib.Core.Path.{_≡_, refl, sym, ap, ap₂, _∙_}
 use mathlib.Core.Logic.{inl, inr}
-use mathlib.Core.Bool.{Bool, true, false, cond, not, _&&_, false≢true}
+use mathlib.Core.Bool.{Bool, true, false, cond, not, false≢true}
 use mathlib.Core.List.{List, [], _∷_}
 use lib.Dec.{eqb}
 use lib.ListN.{length, take}
@@ -29,7 +29,7 @@ use Rattle.operational_transform.proofs.Adding.{adds-nil, adds-append, whole-op
 use Rattle.turns.specs.declared.core.Turn.{Turn}
 use Rattle.turns.specs.declared.core.Turn.the-variants.{First, Second, Together}
 use Rattle.turns.specs.declared.core.State.{State}
-use Rattle.turns.specs.Turns.{liveIs, stepOf, Chosen, Chooses, still, Went}
+use Rattle.turns.specs.Turns.{liveIs, stepOf, Chooses, still, Went}
 use Rattle.turns.proofs.Turning.{Moves, moves-first, moves-second, moves-together}
 use Rattle.transform.specs.Sides.{givesOf, FirstWent, SecondWent, BothWent}
 

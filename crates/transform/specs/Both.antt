@@ -1,21 +1,20 @@
 -- What the functions below `transform` and `rebase` promise each other of both sides, which one run writes: one with places for m
 -- operations, the other for n. No entry's contract cites this.
-use Prim.Native.Nat.{ℕ, _+_}
-use mathlib.Core.Bool.{Bool, _&&_}
+use Prim.Native.Nat.{ℕ, _^_, _≤_}
+use mathlib.Core.Path.{_≡_}
 use mathlib.Core.List.{List}
-use lib.Dec.{leb}
+use lib.ListN.{length}
 use Rattle.utf8.specs.Text.{Char}
 use Rattle.utf8.specs.Order.{order}
-use Rattle.operation.specs.Layout.{textStart}
-use Rattle.operation.specs.Op.{cut}
+use Rattle.operation.specs.Op.{cut, target}
 use Rattle.operation.specs.Front.{frontOp}
-use Rattle.operational_transform.specs.declared.core.Emitter.{Emitter}
 use Rattle.operational_transform.specs.Transform.{Sides, transformTurn, past, keepBoth, lefts}
-use Rattle.operational_transform.specs.Emit.{Adds, Done, Writes, Staged}
+use Rattle.operational_transform.specs.Emit.{Under, Adds, Sizes, Done, Writes, Marked}
 use Rattle.turns.specs.declared.core.State.{State}
 use Rattle.turns.specs.Turns.{Begun, Went}
 use Rattle.transform.specs.declared.core.Both.{Both}
 use Rattle.transform.specs.declared.core.Pair.{Pair}
+use Rattle.transform.specs.declared.core.Counts.{Counts}
 use Rattle.transform.specs.Sides.{FirstWent, SecondWent, BothWent}
 
 -- the first past the second, and the second past the first
@@ -64,11 +63,22 @@ pub record WritesBoth (m n : ℕ) (s : Sides Char) (o w o′ w′ : List ℕ) : 
   pub left : Writes m (s .left) o o′
   pub right : Writes n (s .right) w w′
 
--- both sides were written to stages
-pub record StagedBoth (slots : ℕ) (s : Sides Char) (p : Pair) (x y : List ℕ) : Type 0 where
-  pub left : Staged slots (s .left) (p .e) x
-  pub right : Staged slots (s .right) (p .f) y
+-- how many operations both sides have, and the first's target
+pub record Counted (s : Sides Char) (c : Counts) : Type 0 where
+  pub left : c .left ≡ length (s .left)
+  pub right : c .right ≡ length (s .right)
+  pub target-is : c .target ≡ target (s .left)
+  pub small : (c .left ≤ 2 ^ 40) × (c .right ≤ 2 ^ 40) × (c .target ≤ 2 ^ 40)
 
--- what was emitted has a place in a stage of `room` bytes
-abbrev pub placed : Emitter → ℕ → ℕ → Bool
-placed e slots room = leb (e .records) slots && leb (textStart slots + e .text) room
+-- both sides were written to stages that may have no place for text, and counted
+pub record MarkedBoth (slots : ℕ) (s : Sides Char) (c : Counts) (x y : List ℕ) : Type 0 where
+  pub counted : Counted s c
+  pub left : Marked slots (s .left) x
+  pub right : Marked slots (s .right) y
+
+-- the sizes of both
+pub record SizedBoth (s : Sides Char) (p : Pair) : Type 0 where
+  pub left : Sizes (s .left) (p .e)
+  pub right : Sizes (s .right) (p .f)
+  pub left-small : Under (2 ^ 40) (p .e)
+  pub right-small : Under (2 ^ 40) (p .f)

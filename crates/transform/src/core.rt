@@ -6,21 +6,21 @@ use operational_transform::core::Emitter;
 use turns::core::Turn;
 use utf8::core::Ordering;
 ghost use mathlib.Core.Path.{_≡_};
-ghost use mathlib.Core.Bool.{true, false, _&&_};
-ghost use Prim.Native.Nat.{_+_, _^_, _≤_, _<_};
+ghost use mathlib.Core.Bool.{true, false};
+ghost use Prim.Native.Nat.{_+_, _^_, _≤_, _<_, min};
 ghost use lib.Dec.{eqb};
-ghost use lib.ListN.{length};
+ghost use lib.ListN.{length, take, drop};
 ghost use Rattle.utf8.specs.Order.{byteOrder, order};
 ghost use Rattle.operation.specs.Layout.{recordsOf, baseOf, textStart};
 ghost use Rattle.operation.specs.Record.{ops, recordFault};
 ghost use Rattle.operation.specs.Front.{frontText, Stands, Cut};
 ghost use Rattle.operational_transform.specs.Transform.{transformTurn};
 ghost use Rattle.operational_transform.specs.Transform.{transform as transformOf};
-ghost use Rattle.operational_transform.specs.Emit.{Under, headed, settled};
+ghost use Rattle.operational_transform.specs.Emit.{over, Under, headed, settledRecords};
 ghost use Rattle.turns.specs.Turns.{liveIs, Chooses};
 ghost use Rattle.transform.specs.Pairs.{judgedBoth, Transforms};
 ghost use Rattle.transform.specs.Sides.{givesOf};
-ghost use Rattle.transform.specs.Both.{BegunBoth, FirstBoth, SecondBoth, Meets, TogetherBoth, WentBoth, DoneBoth, WritesBoth, placed, StagedBoth};
+ghost use Rattle.transform.specs.Both.{BegunBoth, FirstBoth, SecondBoth, Meets, TogetherBoth, WentBoth, Counted, MarkedBoth, SizedBoth};
 
 // Of two inserts that meet, the lesser by byte order goes first.
 fn rank(a: &[u8], b: &[u8], x: Front, y: Front) -> Ordering
@@ -108,7 +108,7 @@ fn goes_on(s: Both) -> bool
 
 // The first's operation goes by itself: the other side retains what it gives.
 fn first(a: &[u8], na: usize, out: &mut [u8], m: usize, s: Both) -> Both
-    requires { ⌜ (na ≡ recordsOf (now a)) × (m ≤ 2 ^ 40) × Under (2 ^ 38) (s .e) × Under (2 ^ 38) (s .f) × Stands (now a) (s .x) × (0 < s .x .kind) ⌝ }
+    requires { ⌜ (na ≡ recordsOf (now a)) × (m ≤ 2 ^ 40) × Under (2 ^ 38) (s .e) × Under (2 ^ 38) (s .f) × Stands (now a) (s .x) × (0 < s .x .kind) × (length (now out) ≤ textStart m) ⌝ }
     ensures { λ r. ⌜ FirstBoth m (now (a .entry)) s (now (out .entry)) r (now (out .exit)) ⌝ }
 {
     let x = s.x;
@@ -117,7 +117,7 @@ fn first(a: &[u8], na: usize, out: &mut [u8], m: usize, s: Both) -> Both
     let h = s.f;
     let k = x.left;
     let to = x.to;
-    let e = operational_transform::core::part(out, m, d, a, x, k, to);
+    let e = operational_transform::core::mark(out, m, d, a, x, k, to);
     let f = operational_transform::core::retain(h, gives(x));
     let g = operation::core::rest(a, na, x, k, to);
     Both { x: g, y, e, f }
@@ -125,7 +125,7 @@ fn first(a: &[u8], na: usize, out: &mut [u8], m: usize, s: Both) -> Both
 
 // The second's.
 fn second(b: &[u8], nb: usize, out: &mut [u8], n: usize, s: Both) -> Both
-    requires { ⌜ (nb ≡ recordsOf (now b)) × (n ≤ 2 ^ 40) × Under (2 ^ 38) (s .e) × Under (2 ^ 38) (s .f) × Stands (now b) (s .y) × (0 < s .y .kind) ⌝ }
+    requires { ⌜ (nb ≡ recordsOf (now b)) × (n ≤ 2 ^ 40) × Under (2 ^ 38) (s .e) × Under (2 ^ 38) (s .f) × Stands (now b) (s .y) × (0 < s .y .kind) × (length (now out) ≤ textStart n) ⌝ }
     ensures { λ r. ⌜ SecondBoth n (now (b .entry)) s (now (out .entry)) r (now (out .exit)) ⌝ }
 {
     let x = s.x;
@@ -135,7 +135,7 @@ fn second(b: &[u8], nb: usize, out: &mut [u8], n: usize, s: Both) -> Both
     let k = y.left;
     let to = y.to;
     let e = operational_transform::core::retain(d, gives(y));
-    let f = operational_transform::core::part(out, n, h, b, y, k, to);
+    let f = operational_transform::core::mark(out, n, h, b, y, k, to);
     let g = operation::core::rest(b, nb, y, k, to);
     Both { x, y: g, e, f }
 }
@@ -143,7 +143,7 @@ fn second(b: &[u8], nb: usize, out: &mut [u8], n: usize, s: Both) -> Both
 // The same for an insert where the other has none, and for the lesser of two inserts. Each is a copy of its own: a function with one
 // caller is taken into the loop, where the kind is known and the state stays in registers.
 fn insert_first(a: &[u8], na: usize, out: &mut [u8], m: usize, s: Both) -> Both
-    requires { ⌜ (na ≡ recordsOf (now a)) × (m ≤ 2 ^ 40) × Under (2 ^ 38) (s .e) × Under (2 ^ 38) (s .f) × Stands (now a) (s .x) × (0 < s .x .kind) ⌝ }
+    requires { ⌜ (na ≡ recordsOf (now a)) × (m ≤ 2 ^ 40) × Under (2 ^ 38) (s .e) × Under (2 ^ 38) (s .f) × Stands (now a) (s .x) × (0 < s .x .kind) × (length (now out) ≤ textStart m) ⌝ }
     ensures { λ r. ⌜ FirstBoth m (now (a .entry)) s (now (out .entry)) r (now (out .exit)) ⌝ }
 {
     let x = s.x;
@@ -152,14 +152,14 @@ fn insert_first(a: &[u8], na: usize, out: &mut [u8], m: usize, s: Both) -> Both
     let h = s.f;
     let k = x.left;
     let to = x.to;
-    let e = operational_transform::core::part(out, m, d, a, x, k, to);
+    let e = operational_transform::core::mark(out, m, d, a, x, k, to);
     let f = operational_transform::core::retain(h, gives(x));
     let g = operation::core::rest(a, na, x, k, to);
     Both { x: g, y, e, f }
 }
 
 fn lesser_first(a: &[u8], na: usize, out: &mut [u8], m: usize, s: Both) -> Both
-    requires { ⌜ (na ≡ recordsOf (now a)) × (m ≤ 2 ^ 40) × Under (2 ^ 38) (s .e) × Under (2 ^ 38) (s .f) × Stands (now a) (s .x) × (0 < s .x .kind) ⌝ }
+    requires { ⌜ (na ≡ recordsOf (now a)) × (m ≤ 2 ^ 40) × Under (2 ^ 38) (s .e) × Under (2 ^ 38) (s .f) × Stands (now a) (s .x) × (0 < s .x .kind) × (length (now out) ≤ textStart m) ⌝ }
     ensures { λ r. ⌜ FirstBoth m (now (a .entry)) s (now (out .entry)) r (now (out .exit)) ⌝ }
 {
     let x = s.x;
@@ -168,14 +168,14 @@ fn lesser_first(a: &[u8], na: usize, out: &mut [u8], m: usize, s: Both) -> Both
     let h = s.f;
     let k = x.left;
     let to = x.to;
-    let e = operational_transform::core::part(out, m, d, a, x, k, to);
+    let e = operational_transform::core::mark(out, m, d, a, x, k, to);
     let f = operational_transform::core::retain(h, gives(x));
     let g = operation::core::rest(a, na, x, k, to);
     Both { x: g, y, e, f }
 }
 
 fn insert_second(b: &[u8], nb: usize, out: &mut [u8], n: usize, s: Both) -> Both
-    requires { ⌜ (nb ≡ recordsOf (now b)) × (n ≤ 2 ^ 40) × Under (2 ^ 38) (s .e) × Under (2 ^ 38) (s .f) × Stands (now b) (s .y) × (0 < s .y .kind) ⌝ }
+    requires { ⌜ (nb ≡ recordsOf (now b)) × (n ≤ 2 ^ 40) × Under (2 ^ 38) (s .e) × Under (2 ^ 38) (s .f) × Stands (now b) (s .y) × (0 < s .y .kind) × (length (now out) ≤ textStart n) ⌝ }
     ensures { λ r. ⌜ SecondBoth n (now (b .entry)) s (now (out .entry)) r (now (out .exit)) ⌝ }
 {
     let x = s.x;
@@ -185,13 +185,13 @@ fn insert_second(b: &[u8], nb: usize, out: &mut [u8], n: usize, s: Both) -> Both
     let k = y.left;
     let to = y.to;
     let e = operational_transform::core::retain(d, gives(y));
-    let f = operational_transform::core::part(out, n, h, b, y, k, to);
+    let f = operational_transform::core::mark(out, n, h, b, y, k, to);
     let g = operation::core::rest(b, nb, y, k, to);
     Both { x, y: g, e, f }
 }
 
 fn lesser_second(b: &[u8], nb: usize, out: &mut [u8], n: usize, s: Both) -> Both
-    requires { ⌜ (nb ≡ recordsOf (now b)) × (n ≤ 2 ^ 40) × Under (2 ^ 38) (s .e) × Under (2 ^ 38) (s .f) × Stands (now b) (s .y) × (0 < s .y .kind) ⌝ }
+    requires { ⌜ (nb ≡ recordsOf (now b)) × (n ≤ 2 ^ 40) × Under (2 ^ 38) (s .e) × Under (2 ^ 38) (s .f) × Stands (now b) (s .y) × (0 < s .y .kind) × (length (now out) ≤ textStart n) ⌝ }
     ensures { λ r. ⌜ SecondBoth n (now (b .entry)) s (now (out .entry)) r (now (out .exit)) ⌝ }
 {
     let x = s.x;
@@ -201,7 +201,7 @@ fn lesser_second(b: &[u8], nb: usize, out: &mut [u8], n: usize, s: Both) -> Both
     let k = y.left;
     let to = y.to;
     let e = operational_transform::core::retain(d, gives(y));
-    let f = operational_transform::core::part(out, n, h, b, y, k, to);
+    let f = operational_transform::core::mark(out, n, h, b, y, k, to);
     let g = operation::core::rest(b, nb, y, k, to);
     Both { x, y: g, e, f }
 }
@@ -217,7 +217,7 @@ fn meet(
     s: Both,
     k: usize,
 ) -> Pair
-    requires { ⌜ (m ≤ 2 ^ 40) × (n ≤ 2 ^ 40) × Under (2 ^ 38) (s .e) × Under (2 ^ 38) (s .f) × Stands (now a) (s .x) × Stands (now b) (s .y) × (0 < k) × (k ≤ s .x .left) × (k ≤ s .y .left) × Cut (now a) (s .x) k (s .x .to) × Cut (now b) (s .y) k (s .y .to) × Chooses (transformTurn order) (now a) (now b) (s .x) (s .y) Turn.Together × (eqb (s .y .kind) 2 ≡ false) ⌝ }
+    requires { ⌜ (m ≤ 2 ^ 40) × (n ≤ 2 ^ 40) × Under (2 ^ 38) (s .e) × Under (2 ^ 38) (s .f) × Stands (now a) (s .x) × Stands (now b) (s .y) × (0 < k) × (k ≤ s .x .left) × (k ≤ s .y .left) × Cut (now a) (s .x) k (s .x .to) × Cut (now b) (s .y) k (s .y .to) × Chooses (transformTurn order) (now a) (now b) (s .x) (s .y) Turn.Together × (eqb (s .y .kind) 2 ≡ false) × (length (now «out_a») ≤ textStart m) × (length (now «out_b») ≤ textStart n) ⌝ }
     ensures { λ r. ⌜ Meets m n (now (a .entry)) (now (b .entry)) s k (now («out_a» .entry)) (now («out_b» .entry)) r (now («out_a» .exit)) (now («out_b» .exit)) ⌝ }
 {
     let x = s.x;
@@ -227,15 +227,15 @@ fn meet(
     let i = x.to;
     let j = y.to;
     if y.kind == 1 {
-        let d = operational_transform::core::part(out_a, m, e, a, x, k, i);
+        let d = operational_transform::core::mark(out_a, m, e, a, x, k, i);
         if x.kind == 1 {
-            let h = operational_transform::core::part(out_b, n, f, b, y, k, j);
+            let h = operational_transform::core::mark(out_b, n, f, b, y, k, j);
             return Pair { e: d, f: h };
         }
         return Pair { e: d, f };
     }
     if x.kind == 1 {
-        let h = operational_transform::core::part(out_b, n, f, b, y, k, j);
+        let h = operational_transform::core::mark(out_b, n, f, b, y, k, j);
         return Pair { e, f: h };
     }
     Pair { e, f }
@@ -253,7 +253,7 @@ fn together(
     n: usize,
     s: Both,
 ) -> Both
-    requires { ⌜ (na ≡ recordsOf (now a)) × (nb ≡ recordsOf (now b)) × (m ≤ 2 ^ 40) × (n ≤ 2 ^ 40) × Under (2 ^ 38) (s .e) × Under (2 ^ 38) (s .f) × Stands (now a) (s .x) × Stands (now b) (s .y) × Chooses (transformTurn order) (now a) (now b) (s .x) (s .y) Turn.Together × (eqb (s .y .kind) 2 ≡ false) ⌝ }
+    requires { ⌜ (na ≡ recordsOf (now a)) × (nb ≡ recordsOf (now b)) × (m ≤ 2 ^ 40) × (n ≤ 2 ^ 40) × Under (2 ^ 38) (s .e) × Under (2 ^ 38) (s .f) × Stands (now a) (s .x) × Stands (now b) (s .y) × Chooses (transformTurn order) (now a) (now b) (s .x) (s .y) Turn.Together × (eqb (s .y .kind) 2 ≡ false) × (length (now «out_a») ≤ textStart m) × (length (now «out_b») ≤ textStart n) ⌝ }
     ensures { λ r. ⌜ TogetherBoth m n (now (a .entry)) (now (b .entry)) s (now («out_a» .entry)) (now («out_b» .entry)) r (now («out_a» .exit)) (now («out_b» .exit)) ⌝ }
 {
     let x = s.x;
@@ -278,7 +278,7 @@ fn keep(
     s: Both,
     k: usize,
 ) -> Pair
-    requires { ⌜ (m ≤ 2 ^ 40) × (n ≤ 2 ^ 40) × Under (2 ^ 38) (s .e) × Under (2 ^ 38) (s .f) × Stands (now a) (s .x) × Stands (now b) (s .y) × (0 < k) × (k ≤ s .x .left) × (k ≤ s .y .left) × Cut (now a) (s .x) k (s .x .to) × Cut (now b) (s .y) k (s .y .to) × Chooses (transformTurn order) (now a) (now b) (s .x) (s .y) Turn.Together × (s .y .kind ≡ 2) ⌝ }
+    requires { ⌜ (m ≤ 2 ^ 40) × (n ≤ 2 ^ 40) × Under (2 ^ 38) (s .e) × Under (2 ^ 38) (s .f) × Stands (now a) (s .x) × Stands (now b) (s .y) × (0 < k) × (k ≤ s .x .left) × (k ≤ s .y .left) × Cut (now a) (s .x) k (s .x .to) × Cut (now b) (s .y) k (s .y .to) × Chooses (transformTurn order) (now a) (now b) (s .x) (s .y) Turn.Together × (s .y .kind ≡ 2) × (length (now «out_a») ≤ textStart m) × (length (now «out_b») ≤ textStart n) ⌝ }
     ensures { λ r. ⌜ Meets m n (now (a .entry)) (now (b .entry)) s k (now («out_a» .entry)) (now («out_b» .entry)) r (now («out_a» .exit)) (now («out_b» .exit)) ⌝ }
 {
     let x = s.x;
@@ -287,8 +287,8 @@ fn keep(
     let f = s.f;
     let i = x.to;
     let j = y.to;
-    let d = operational_transform::core::part(out_a, m, e, b, y, k, j);
-    let h = operational_transform::core::part(out_b, n, f, a, x, k, i);
+    let d = operational_transform::core::mark(out_a, m, e, b, y, k, j);
+    let h = operational_transform::core::mark(out_b, n, f, a, x, k, i);
     let d = operational_transform::core::retain(d, k);
     let h = operational_transform::core::retain(h, k);
     Pair { e: d, f: h }
@@ -305,7 +305,7 @@ fn equal_inserts(
     n: usize,
     s: Both,
 ) -> Both
-    requires { ⌜ (na ≡ recordsOf (now a)) × (nb ≡ recordsOf (now b)) × (m ≤ 2 ^ 40) × (n ≤ 2 ^ 40) × Under (2 ^ 38) (s .e) × Under (2 ^ 38) (s .f) × Stands (now a) (s .x) × Stands (now b) (s .y) × Chooses (transformTurn order) (now a) (now b) (s .x) (s .y) Turn.Together × (s .x .kind ≡ 2) × (s .y .kind ≡ 2) ⌝ }
+    requires { ⌜ (na ≡ recordsOf (now a)) × (nb ≡ recordsOf (now b)) × (m ≤ 2 ^ 40) × (n ≤ 2 ^ 40) × Under (2 ^ 38) (s .e) × Under (2 ^ 38) (s .f) × Stands (now a) (s .x) × Stands (now b) (s .y) × Chooses (transformTurn order) (now a) (now b) (s .x) (s .y) Turn.Together × (s .x .kind ≡ 2) × (s .y .kind ≡ 2) × (length (now «out_a») ≤ textStart m) × (length (now «out_b») ≤ textStart n) ⌝ }
     ensures { λ r. ⌜ TogetherBoth m n (now (a .entry)) (now (b .entry)) s (now («out_a» .entry)) (now («out_b» .entry)) r (now («out_a» .exit)) (now («out_b» .exit)) ⌝ }
 {
     let x = s.x;
@@ -331,7 +331,7 @@ fn inserts(
     n: usize,
     s: Both,
 ) -> Both
-    requires { ⌜ (na ≡ recordsOf (now a)) × (nb ≡ recordsOf (now b)) × (m ≤ 2 ^ 40) × (n ≤ 2 ^ 40) × Under (2 ^ 38) (s .e) × Under (2 ^ 38) (s .f) × Stands (now a) (s .x) × Stands (now b) (s .y) × (s .x .kind ≡ 2) × (s .y .kind ≡ 2) ⌝ }
+    requires { ⌜ (na ≡ recordsOf (now a)) × (nb ≡ recordsOf (now b)) × (m ≤ 2 ^ 40) × (n ≤ 2 ^ 40) × Under (2 ^ 38) (s .e) × Under (2 ^ 38) (s .f) × Stands (now a) (s .x) × Stands (now b) (s .y) × (s .x .kind ≡ 2) × (s .y .kind ≡ 2) × (length (now «out_a») ≤ textStart m) × (length (now «out_b») ≤ textStart n) ⌝ }
     ensures { λ r. ⌜ WentBoth m n (now (a .entry)) (now (b .entry)) s (now («out_a» .entry)) (now («out_b» .entry)) r (now («out_a» .exit)) (now («out_b» .exit)) ⌝ }
 {
     let x = s.x;
@@ -355,7 +355,7 @@ fn turn(
     n: usize,
     s: Both,
 ) -> Both
-    requires { ⌜ (na ≡ recordsOf (now a)) × (nb ≡ recordsOf (now b)) × (m ≤ 2 ^ 40) × (n ≤ 2 ^ 40) × Under (2 ^ 38) (s .e) × Under (2 ^ 38) (s .f) × Stands (now a) (s .x) × Stands (now b) (s .y) × (liveIs (s .x) (s .y) ≡ true) ⌝ }
+    requires { ⌜ (na ≡ recordsOf (now a)) × (nb ≡ recordsOf (now b)) × (m ≤ 2 ^ 40) × (n ≤ 2 ^ 40) × Under (2 ^ 38) (s .e) × Under (2 ^ 38) (s .f) × Stands (now a) (s .x) × Stands (now b) (s .y) × (liveIs (s .x) (s .y) ≡ true) × (length (now «out_a») ≤ textStart m) × (length (now «out_b») ≤ textStart n) ⌝ }
     ensures { λ r. ⌜ WentBoth m n (now (a .entry)) (now (b .entry)) s (now («out_a» .entry)) (now («out_b» .entry)) r (now («out_a» .exit)) (now («out_b» .exit)) ⌝ }
 {
     let x = s.x;
@@ -378,50 +378,65 @@ fn turn(
     together(a, na, b, nb, out_a, m, out_b, n, s)
 }
 
-// All of both sides, for results of m and n records.
+// How many records either side has, and the target, which is one for both.
+pub struct Counts {
+    pub left: usize,
+    pub right: usize,
+    pub target: usize,
+}
+
+// All of both sides but the text, to stages with places for `slots` records and none for text.
 fn run(
     a: &[u8],
     na: usize,
     b: &[u8],
     nb: usize,
-    out_a: &mut [u8],
-    m: usize,
-    out_b: &mut [u8],
-    n: usize,
-) -> Pair
-    requires { ⌜ (na ≡ recordsOf (now a)) × (na ≤ 1024) × (nb ≡ recordsOf (now b)) × (nb ≤ 1024) × (m ≤ 2 ^ 40) × (n ≤ 2 ^ 40) × (recordFault (now a) ≡ 0) × (recordFault (now b) ≡ 0) ⌝ }
-    ensures { λ r. ⌜ DoneBoth m n (transformOf order (ops (now (a .entry))) (ops (now (b .entry)))) (now («out_a» .entry)) (now («out_b» .entry)) r (now («out_a» .exit)) (now («out_b» .exit)) ⌝ }
+    stage_a: &mut [u8],
+    stage_b: &mut [u8],
+    slots: usize,
+) -> Counts
+    requires { ⌜ (na ≡ recordsOf (now a)) × (na ≤ 1024) × (nb ≡ recordsOf (now b)) × (nb ≤ 1024) × (recordFault (now a) ≡ 0) × (recordFault (now b) ≡ 0) × (slots ≤ 2 ^ 40) × (length (now «stage_a») ≤ textStart slots) × (length (now «stage_b») ≤ textStart slots) ⌝ }
+    ensures { λ r. ⌜ MarkedBoth slots (transformOf order (ops (now (a .entry))) (ops (now (b .entry)))) r (now («stage_a» .exit)) (now («stage_b» .exit)) ⌝ }
 {
     let mut s = begin(a, na, b, nb);
     while goes_on(s) {
-        s = turn(a, na, b, nb, out_a, m, out_b, n, s);
+        s = turn(a, na, b, nb, stage_a, slots, stage_b, slots, s);
     }
     let d = s.e;
     let h = s.f;
-    let e = operational_transform::core::finish(out_a, m, d);
-    let f = operational_transform::core::finish(out_b, n, h);
-    Pair { e, f }
+    let e = operational_transform::core::finish(stage_a, slots, d);
+    let f = operational_transform::core::finish(stage_b, slots, h);
+    Counts {
+        left: e.records,
+        right: f.records,
+        target: e.target,
+    }
 }
 
-// The records of both sides, of m and n operations.
-fn write_both(
-    a: &[u8],
-    na: usize,
-    b: &[u8],
-    nb: usize,
-    out_a: &mut [u8],
-    m: usize,
-    out_b: &mut [u8],
-    n: usize,
-)
-    requires { ⌜ (na ≡ recordsOf (now a)) × (na ≤ 1024) × (nb ≡ recordsOf (now b)) × (nb ≤ 1024) × (m ≤ 2 ^ 40) × (n ≤ 2 ^ 40) × (recordFault (now a) ≡ 0) × (recordFault (now b) ≡ 0) ⌝ }
-    ensures { λ _. ⌜ WritesBoth m n (transformOf order (ops (now (a .entry))) (ops (now (b .entry)))) (now («out_a» .entry)) (now («out_b» .entry)) (now («out_a» .exit)) (now («out_b» .exit)) ⌝ }
+// The sizes of both sides: either has the text of its operand and begins where the other operand ends.
+pub fn sizes(a: &[u8], b: &[u8], c: Counts) -> Pair
+    requires { ⌜ (recordFault (now a) ≡ 0) × (recordFault (now b) ≡ 0) × (baseOf (now a) ≡ baseOf (now b)) × Counted (transformOf order (ops (now a)) (ops (now b))) c ⌝ }
+    ensures { λ r. ⌜ SizedBoth (transformOf order (ops (now (a .entry))) (ops (now (b .entry)))) r ⌝ }
 {
-    let p = run(a, na, b, nb, out_a, m, out_b, n);
-    let e = p.e;
-    let f = p.f;
-    operational_transform::core::header(out_a, e);
-    operational_transform::core::header(out_b, f);
+    let e = Emitter {
+        ins: 0,
+        del: 0,
+        ret: 0,
+        records: c.left,
+        text: operation::core::text_bytes(a),
+        base: operation::core::target(b),
+        target: c.target,
+    };
+    let f = Emitter {
+        ins: 0,
+        del: 0,
+        ret: 0,
+        records: c.right,
+        text: operation::core::text_bytes(b),
+        base: operation::core::target(a),
+        target: c.target,
+    };
+    Pair { e, f }
 }
 
 // 9 where either side passes a limit, then 10 where either output is too short.
@@ -446,71 +461,25 @@ fn judge(e: Emitter, f: Emitter, room_a: usize, room_b: usize) -> WrittenPair
     WrittenPair::Bytes(p, q)
 }
 
-// Whether both sides have a place in their stages.
-fn have_places(p: Pair, slots: usize, room_a: usize, room_b: usize) -> bool
-    requires { ⌜ (slots ≤ 2 ^ 40) × Under (2 ^ 40) (p .e) × Under (2 ^ 40) (p .f) ⌝ }
-    ensures { λ r. ⌜ r ≡ (placed (p .e) slots «room_a» && placed (p .f) slots «room_b») ⌝ }
+// What was staged, as a record of its own: the text is that of a record of n operations.
+pub fn place_with_text(out: &mut [u8], stage: &[u8], slots: usize, e: Emitter, rec: &[u8], n: usize)
+    requires { ⌜ (slots ≤ 2 ^ 40) × (n ≤ 2 ^ 40) × (e .records ≤ slots) × (textStart slots ≤ length (now stage)) × (textStart n + e .text ≤ length (now rec)) × Under (2 ^ 40) e ⌝ }
+    ensures { λ _. ⌜ now (out .exit) ≡ headed e (settledRecords slots (e .records) (e .records) (now (stage .entry)) (over (textStart (e .records)) (take (e .text) (drop (textStart n) (now (rec .entry)))) (now (out .entry)))) ⌝ }
 {
-    let e = p.e;
-    let f = p.f;
-    if !operational_transform::core::has_place(e, slots, room_a) {
-        return false;
-    }
-    operational_transform::core::has_place(f, slots, room_b)
-}
-
-// What was staged, as a record of its own.
-pub fn place(out: &mut [u8], stage: &[u8], slots: usize, e: Emitter)
-    requires { ⌜ (slots ≤ 2 ^ 40) × (e .records ≤ slots) × (textStart slots + e .text ≤ length (now stage)) × Under (2 ^ 40) e ⌝ }
-    ensures { λ _. ⌜ now (out .exit) ≡ headed e (settled slots (e .records) (e .records) (e .text) (now (stage .entry)) (now (out .entry))) ⌝ }
-{
-    operational_transform::core::settle(out, e.records, stage, slots, e.records, e.text);
+    let from = operation::core::text_start(n);
+    operational_transform::core::copy_short(
+        out,
+        operation::core::text_start(e.records),
+        rec,
+        from,
+        from + e.text,
+    );
+    operational_transform::core::settle_records(out, e.records, stage, slots, e.records);
     operational_transform::core::header(out, e);
 }
 
-// Both sides, each written to a stage.
-fn stage_both(
-    a: &[u8],
-    na: usize,
-    b: &[u8],
-    nb: usize,
-    stage_a: &mut [u8],
-    stage_b: &mut [u8],
-    slots: usize,
-) -> Pair
-    requires { ⌜ (na ≡ recordsOf (now a)) × (na ≤ 1024) × (nb ≡ recordsOf (now b)) × (nb ≤ 1024) × (recordFault (now a) ≡ 0) × (recordFault (now b) ≡ 0) × (slots ≤ 2048) ⌝ }
-    ensures { λ r. ⌜ StagedBoth slots (transformOf order (ops (now (a .entry))) (ops (now (b .entry)))) r (now («stage_a» .exit)) (now («stage_b» .exit)) ⌝ }
-{
-    run(a, na, b, nb, stage_a, slots, stage_b, slots)
-}
-
-// Both sides from their stages, if they have places there; else by a run of its own.
-fn place_both(
-    a: &[u8],
-    na: usize,
-    b: &[u8],
-    nb: usize,
-    stage_a: &[u8],
-    stage_b: &[u8],
-    slots: usize,
-    p: Pair,
-    out_a: &mut [u8],
-    out_b: &mut [u8],
-)
-    requires { ⌜ (na ≡ recordsOf (now a)) × (na ≤ 1024) × (nb ≡ recordsOf (now b)) × (nb ≤ 1024) × (recordFault (now a) ≡ 0) × (recordFault (now b) ≡ 0) × (slots ≤ 2048) × StagedBoth slots (transformOf order (ops (now a)) (ops (now b))) p (now «stage_a») (now «stage_b») ⌝ }
-    ensures { λ _. ⌜ WritesBoth (p .e .records) (p .f .records) (transformOf order (ops (now (a .entry))) (ops (now (b .entry)))) (now («out_a» .entry)) (now («out_b» .entry)) (now («out_a» .exit)) (now («out_b» .exit)) ⌝ }
-{
-    let e = p.e;
-    let f = p.f;
-    if !have_places(p, slots, stage_a.len(), stage_b.len()) {
-        write_both(a, na, b, nb, out_a, e.records, out_b, f.records);
-        return;
-    }
-    place(out_a, stage_a, slots, e);
-    place(out_b, stage_b, slots, f);
-}
-
-// Of two records whose lengths agree: both sides are written to stages, judged, and moved to the outputs.
+// Of two records whose lengths agree: both sides are written to stages, judged, and moved to the outputs. A side has no more records
+// than both operands together, and more than 1,024 are refused.
 fn staged(
     a: &[u8],
     na: usize,
@@ -522,16 +491,18 @@ fn staged(
     out_a: &mut [u8],
     out_b: &mut [u8],
 ) -> WrittenPair
-    requires { ⌜ (na ≡ recordsOf (now a)) × (na ≤ 1024) × (nb ≡ recordsOf (now b)) × (nb ≤ 1024) × (recordFault (now a) ≡ 0) × (recordFault (now b) ≡ 0) × (slots ≤ 2048) × (baseOf (now a) ≡ baseOf (now b)) ⌝ }
+    requires { ⌜ (na ≡ recordsOf (now a)) × (na ≤ 1024) × (nb ≡ recordsOf (now b)) × (nb ≤ 1024) × (recordFault (now a) ≡ 0) × (recordFault (now b) ≡ 0) × (slots ≤ 1024) × (min (na + nb) 1024 ≤ slots) × (length (now «stage_a») ≡ textStart slots) × (length (now «stage_b») ≡ textStart slots) × (baseOf (now a) ≡ baseOf (now b)) ⌝ }
     ensures { λ r. ⌜ Transforms (now (a .entry)) (now (b .entry)) (now («out_a» .entry)) (now («out_b» .entry)) r (now («out_a» .exit)) (now («out_b» .exit)) ⌝ }
 {
-    let p = stage_both(a, na, b, nb, stage_a, stage_b, slots);
+    let c = run(a, na, b, nb, stage_a, stage_b, slots);
+    let p = sizes(a, b, c);
     let e = p.e;
     let f = p.f;
     match judge(e, f, out_a.len(), out_b.len()) {
         WrittenPair::Refused(x) => WrittenPair::Refused(x),
         WrittenPair::Bytes(k, l) => {
-            place_both(a, na, b, nb, stage_a, stage_b, slots, p, out_a, out_b);
+            place_with_text(out_a, stage_a, slots, e, a, na);
+            place_with_text(out_b, stage_b, slots, f, b, nb);
             WrittenPair::Bytes(k, l)
         }
     }
@@ -546,22 +517,12 @@ fn small(
     out_a: &mut [u8],
     out_b: &mut [u8],
 ) -> WrittenPair
-    requires { ⌜ (na ≡ recordsOf (now a)) × (na ≤ 1024) × (nb ≡ recordsOf (now b)) × (nb ≤ 1024) × (recordFault (now a) ≡ 0) × (recordFault (now b) ≡ 0) × (baseOf (now a) ≡ baseOf (now b)) ⌝ }
+    requires { ⌜ (na ≡ recordsOf (now a)) × (na ≤ 1024) × (nb ≡ recordsOf (now b)) × (nb ≤ 1024) × (recordFault (now a) ≡ 0) × (recordFault (now b) ≡ 0) × (na + nb ≤ 40) × (baseOf (now a) ≡ baseOf (now b)) ⌝ }
     ensures { λ r. ⌜ Transforms (now (a .entry)) (now (b .entry)) (now («out_a» .entry)) (now («out_b» .entry)) r (now («out_a» .exit)) (now («out_b» .exit)) ⌝ }
 {
     let mut stage_a = [0u8; 128];
     let mut stage_b = [0u8; 128];
-    match staged(
-        a,
-        na,
-        b,
-        nb,
-        &mut stage_a,
-        &mut stage_b,
-        na + nb,
-        out_a,
-        out_b,
-    ) {
+    match staged(a, na, b, nb, &mut stage_a, &mut stage_b, 40, out_a, out_b) {
         WrittenPair::Bytes(k, l) => WrittenPair::Bytes(k, l),
         WrittenPair::Refused(x) => WrittenPair::Refused(x),
     }
@@ -575,22 +536,12 @@ fn medium(
     out_a: &mut [u8],
     out_b: &mut [u8],
 ) -> WrittenPair
-    requires { ⌜ (na ≡ recordsOf (now a)) × (na ≤ 1024) × (nb ≡ recordsOf (now b)) × (nb ≤ 1024) × (recordFault (now a) ≡ 0) × (recordFault (now b) ≡ 0) × (baseOf (now a) ≡ baseOf (now b)) ⌝ }
+    requires { ⌜ (na ≡ recordsOf (now a)) × (na ≤ 1024) × (nb ≡ recordsOf (now b)) × (nb ≤ 1024) × (recordFault (now a) ≡ 0) × (recordFault (now b) ≡ 0) × (na + nb ≤ 338) × (baseOf (now a) ≡ baseOf (now b)) ⌝ }
     ensures { λ r. ⌜ Transforms (now (a .entry)) (now (b .entry)) (now («out_a» .entry)) (now («out_b» .entry)) r (now («out_a» .exit)) (now («out_b» .exit)) ⌝ }
 {
-    let mut stage_a = [0u8; 1024];
-    let mut stage_b = [0u8; 1024];
-    match staged(
-        a,
-        na,
-        b,
-        nb,
-        &mut stage_a,
-        &mut stage_b,
-        na + nb,
-        out_a,
-        out_b,
-    ) {
+    let mut stage_a = [0u8; 1022];
+    let mut stage_b = [0u8; 1022];
+    match staged(a, na, b, nb, &mut stage_a, &mut stage_b, 338, out_a, out_b) {
         WrittenPair::Bytes(k, l) => WrittenPair::Bytes(k, l),
         WrittenPair::Refused(x) => WrittenPair::Refused(x),
     }
@@ -601,26 +552,15 @@ fn large(
     na: usize,
     b: &[u8],
     nb: usize,
-    slots: usize,
     out_a: &mut [u8],
     out_b: &mut [u8],
 ) -> WrittenPair
-    requires { ⌜ (na ≡ recordsOf (now a)) × (na ≤ 1024) × (nb ≡ recordsOf (now b)) × (nb ≤ 1024) × (recordFault (now a) ≡ 0) × (recordFault (now b) ≡ 0) × (slots ≤ 2048) × (baseOf (now a) ≡ baseOf (now b)) ⌝ }
+    requires { ⌜ (na ≡ recordsOf (now a)) × (na ≤ 1024) × (nb ≡ recordsOf (now b)) × (nb ≤ 1024) × (recordFault (now a) ≡ 0) × (recordFault (now b) ≡ 0) × (baseOf (now a) ≡ baseOf (now b)) ⌝ }
     ensures { λ r. ⌜ Transforms (now (a .entry)) (now (b .entry)) (now («out_a» .entry)) (now («out_b» .entry)) r (now («out_a» .exit)) (now («out_b» .exit)) ⌝ }
 {
-    let mut stage_a = [0u8; 8192];
-    let mut stage_b = [0u8; 8192];
-    match staged(
-        a,
-        na,
-        b,
-        nb,
-        &mut stage_a,
-        &mut stage_b,
-        slots,
-        out_a,
-        out_b,
-    ) {
+    let mut stage_a = [0u8; 3080];
+    let mut stage_b = [0u8; 3080];
+    match staged(a, na, b, nb, &mut stage_a, &mut stage_b, 1024, out_a, out_b) {
         WrittenPair::Bytes(k, l) => WrittenPair::Bytes(k, l),
         WrittenPair::Refused(x) => WrittenPair::Refused(x),
     }
@@ -638,17 +578,10 @@ pub fn transformed(a: &[u8], b: &[u8], out_a: &mut [u8], out_b: &mut [u8]) -> Wr
     }
     let na = operation::core::records(a);
     let nb = operation::core::records(b);
-    // a result of more than 1,024 is refused
-    if 1024 < na + nb {
-        return large(a, na, b, nb, 1024, out_a, out_b);
+    if 338 < na + nb {
+        return large(a, na, b, nb, out_a, out_b);
     }
-    let most = operation::core::text_start(na + nb)
-        + operation::core::text_bytes(a)
-        + operation::core::text_bytes(b);
-    if 1024 < most {
-        return large(a, na, b, nb, na + nb, out_a, out_b);
-    }
-    if 128 < most {
+    if 40 < na + nb {
         return medium(a, na, b, nb, out_a, out_b);
     }
     small(a, na, b, nb, out_a, out_b)

@@ -1,6 +1,6 @@
 use native.Mathlib.Omega.{arith}
 use mathlib.Core.Path.{refl}
-use Rattle.accept.proofs.Delivering.{lay-large, holds-own, past-again}
+use Rattle.accept.proofs.Delivering.{record-small, past-again}
 use Rattle.accept.proofs.Places.{log-small, from-inside, few-from, lie-from}
 use Rattle.accept.proofs.Answering.{accepts-room, room-log, room-out, accepts-moved}
 use borrow.Author.Needs.{needs}
@@ -30,13 +30,15 @@ returns c =
     accepts-room _ _ _ _ _ (start .pre .0) _ _ (start .pre .5) _ (at-size .size .ensures .0) _ (at-has-room .has-room .ensures) (c .if1 .taken)
 
 lay-requires : tie.Need-lay-requires
-lay-requires c κs = search (lay-large, needs, c .before .before .before .before .before .before .before .before .before .before .before .before .before .pre)
+lay-requires c κs =
+    let start = c .before .before .before .before .before .before .before .before .before .before .before .before .before in
+    (start .pre .0 .fault, omega (arith, record-small _ (start .pre .0 .fault), start .pre .2))
 
 rebase-requires : tie.Need-rebase-requires
 rebase-requires c κs =
     let at-lay = c .before .before .before .before .before .before .before in
     let start = at-lay .before .before .before .before .before .before .before .before .before .before .before .before .before .before in
-    (from-inside _ _ _ (start .pre .0 .found) (start .pre .0 .rev) _ (start .pre .1), few-from _ _ _ (start .pre .0 .found) (start .pre .0 .rev) _ (start .pre .1), lie-from _ _ _ (start .pre .0 .found) (start .pre .0 .rev) _ (start .pre .1), holds-own _ _ (at-lay .lay .ensures .0), search needs, search needs, omega arith)
+    (from-inside _ _ _ (start .pre .0 .found) (start .pre .0 .rev) _ (start .pre .1), few-from _ _ _ (start .pre .0 .found) (start .pre .0 .rev) _ (start .pre .1), lie-from _ _ _ (start .pre .0 .found) (start .pre .0 .rev) _ (start .pre .1) _ (start .pre .0 .meets), start .pre .0 .fault, at-lay .lay .ensures .0, start .pre .3, start .pre .4, omega arith)
 
 append-requires : tie.Need-append-requires
 append-requires c κs =
@@ -75,7 +77,7 @@ returns-2 c =
     let at-has-room = at-if1 .before in
     let at-size = at-has-room .before .before .before in
     let start = at-size .before .before .before .before .before .before .before .before in
-    accepts-moved _ _ _ _ _ (start .pre .0) _ _ (start .pre .5) _ (at-size .size .ensures .0) _ (at-has-room .has-room .ensures) (at-if1 .if1 .left) _ _ _ (past-again _ _ _ _ (start .pre .0) _ (start .pre .1) _ (at-lay .lay .ensures .0) _ _ _ _ _ _ (at-rebase .rebase .ensures) refl (omega (arith, start .pre .2, at-cur .cur .given, at-lay .lay)) _ _ (start .pre .5) (room-out _ _ _ _ _ _ (at-has-room .has-room .ensures) (at-if1 .if1 .left))) (at-append .append .ensures)
+    accepts-moved _ _ _ _ _ (start .pre .0) _ _ (start .pre .5) _ (at-size .size .ensures .0) _ (at-has-room .has-room .ensures) (at-if1 .if1 .left) _ _ _ (past-again _ _ _ _ (start .pre .0) _ (start .pre .1) _ _ _ _ _ _ (at-rebase .rebase .ensures) refl (omega (arith, start .pre .2, at-cur .cur .given, at-lay .lay)) _ _ (start .pre .5) (room-out _ _ _ _ _ _ (at-has-room .has-room .ensures) (at-if1 .if1 .left))) (at-append .append .ensures)
 
 pub again-spec : {M : Type 1} → statement M
 again-spec =

@@ -1,13 +1,15 @@
 use native.Mathlib.Omega.{arith}
 use mathlib.Core.Path.{refl}
-use Rattle.accept.proofs.Delivering.{lay-large, holds-own, past-moved, past-stops, past-never}
+use Rattle.accept.proofs.Delivering.{record-small, past-moved, past-stops, past-never}
 use Rattle.accept.proofs.Places.{from-inside, few-from, lie-from}
 use borrow.Author.Needs.{needs}
 use Rattle.accept.proofs.long.Statement.{statement}
 use Rattle.accept.proofs.long.Tie as tie
 
 lay-requires : tie.Need-lay-requires
-lay-requires c κs = search (lay-large, needs)
+lay-requires c κs =
+    let start = c .before .before .before .before .before .before .before in
+    (start .pre .0 .fault, omega (arith, record-small _ (start .pre .0 .fault), start .pre .2))
 
 slice-aggregate-rebase : tie.Need-slice-aggregate-rebase
 slice-aggregate-rebase c = search needs
@@ -16,7 +18,7 @@ rebase-requires : tie.Need-rebase-requires
 rebase-requires c κs =
     let at-lay = c .before .before .before .before .before .before .before in
     let start = at-lay .before .before .before .before .before .before .before .before in
-    (from-inside _ _ _ (start .pre .0 .found) (start .pre .0 .rev) _ (start .pre .1), few-from _ _ _ (start .pre .0 .found) (start .pre .0 .rev) _ (start .pre .1), lie-from _ _ _ (start .pre .0 .found) (start .pre .0 .rev) _ (start .pre .1), holds-own _ _ (at-lay .lay .ensures .0), search needs, search needs, omega arith)
+    (from-inside _ _ _ (start .pre .0 .found) (start .pre .0 .rev) _ (start .pre .1), few-from _ _ _ (start .pre .0 .found) (start .pre .0 .rev) _ (start .pre .1), lie-from _ _ _ (start .pre .0 .found) (start .pre .0 .rev) _ (start .pre .1) _ (start .pre .0 .meets), start .pre .0 .fault, at-lay .lay .ensures .0, start .pre .3, start .pre .4, omega arith)
 
 enum-known-x : tie.Need-enum-known-x
 enum-known-x c = search needs
@@ -28,9 +30,8 @@ again-requires : tie.Need-again-requires
 again-requires c κs =
     let at-bytes = c .before .before .before .before .before .before in
     let at-rebase = at-bytes .before .before .before .before .before .before .before .before .before in
-    let at-lay = at-rebase .before .before .before .before .before .before .before .before in
-    let start = at-lay .before .before .before .before .before .before .before .before in
-    (start .pre .0, start .pre .1, search needs, search needs, search needs, past-moved _ _ _ _ (start .pre .0) _ (start .pre .1) _ (at-lay .lay .ensures .0) _ _ _ _ _ _ (at-rebase .rebase .ensures) _ (at-bytes .bytes .given .1))
+    let start = at-rebase .before .before .before .before .before .before .before .before .before .before .before .before .before .before .before .before in
+    (start .pre .0, start .pre .1, search needs, search needs, search needs, past-moved _ _ _ _ (start .pre .0) _ (start .pre .1) _ _ _ _ _ _ (at-rebase .rebase .ensures) _ (at-bytes .bytes .given .1))
 
 enum-told : tie.Need-enum-told
 enum-told c = search needs
@@ -51,9 +52,8 @@ returns : tie.Need-returns
 returns c =
     let at-x = c .before in
     let at-rebase = at-x .before .before .before .before .before .before .before .before .before in
-    let at-lay = at-rebase .before .before .before .before .before .before .before .before in
-    let start = at-lay .before .before .before .before .before .before .before .before in
-    past-stops _ _ _ _ (start .pre .0) _ (start .pre .1) _ (at-lay .lay .ensures .0) _ _ _ _ _ _ (at-rebase .rebase .ensures) _ (at-x .x .given .1) _
+    let start = at-rebase .before .before .before .before .before .before .before .before .before .before .before .before .before .before .before .before in
+    past-stops _ _ _ _ (start .pre .0) _ (start .pre .1) _ _ _ _ _ _ (at-rebase .rebase .ensures) _ (at-x .x .given .1) _
 
 same-length-5 : tie.Need-same-length-5
 same-length-5 c = search needs
@@ -88,9 +88,8 @@ same-length-13 c = search needs
 returns-3 : tie.Need-returns-3
 returns-3 c =
     let at-rebase = c .before .before .before .before .before .before .before .before .before in
-    let at-lay = at-rebase .before .before .before .before .before .before .before .before in
-    let start = at-lay .before .before .before .before .before .before .before .before in
-    past-never _ _ _ _ (start .pre .0) _ (start .pre .1) _ (at-lay .lay .ensures .0) _ _ _ _ _ _ (at-rebase .rebase .ensures) refl (search needs) (c .enum-told .given .1) _
+    let start = at-rebase .before .before .before .before .before .before .before .before .before .before .before .before .before .before .before .before in
+    past-never _ _ _ _ (start .pre .0) _ (start .pre .1) _ _ _ _ _ _ (at-rebase .rebase .ensures) refl (search needs) (c .enum-told .given .1) _
 
 pub long-spec : {M : Type 1} → statement M
 long-spec =

@@ -1,4 +1,5 @@
-use Rattle.accept.proofs.Delivering.{holds-own, past-moved, past-stored, past-stops}
+use native.Mathlib.Omega.{arith}
+use Rattle.accept.proofs.Delivering.{past-moved, past-stored, past-stops}
 use Rattle.accept.proofs.Places.{from-inside, few-from, lie-from}
 use borrow.Author.Needs.{needs}
 use Rattle.accept.proofs.short.Statement.{statement}
@@ -17,7 +18,7 @@ rebase-requires : tie.Need-rebase-requires
 rebase-requires c κs =
     let at-lay = c .before .before .before .before .before .before .before in
     let start = at-lay .before .before .before .before .before .before .before .before .before .before .before in
-    (from-inside _ _ _ (start .pre .0 .found) (start .pre .0 .rev) _ (start .pre .1), few-from _ _ _ (start .pre .0 .found) (start .pre .0 .rev) _ (start .pre .1), lie-from _ _ _ (start .pre .0 .found) (start .pre .0 .rev) _ (start .pre .1), holds-own _ _ (at-lay .lay .ensures .0), search needs, search needs, search (needs, start .pre))
+    (from-inside _ _ _ (start .pre .0 .found) (start .pre .0 .rev) _ (start .pre .1), few-from _ _ _ (start .pre .0 .found) (start .pre .0 .rev) _ (start .pre .1), lie-from _ _ _ (start .pre .0 .found) (start .pre .0 .rev) _ (start .pre .1) _ (start .pre .0 .meets), start .pre .0 .fault, at-lay .lay .ensures .0, start .pre .2, start .pre .3, omega (arith, start .pre .4))
 
 enum-known-x : tie.Need-enum-known-x
 enum-known-x c = search needs
@@ -29,9 +30,8 @@ deliver-requires : tie.Need-deliver-requires
 deliver-requires c κs =
     let at-bytes = c .before .before .before .before .before in
     let at-rebase = at-bytes .before .before .before .before .before .before .before .before .before .before in
-    let at-lay = at-rebase .before .before .before .before .before .before .before .before in
-    let start = at-lay .before .before .before .before .before .before .before .before .before .before .before in
-    (start .pre .0, past-moved _ _ _ _ (start .pre .0) _ (start .pre .1) _ (at-lay .lay .ensures .0) _ _ _ _ _ _ (at-rebase .rebase .ensures) _ (at-bytes .bytes .given .1), past-stored _ _ _ _ (start .pre .0) _ (start .pre .1) _ (at-lay .lay .ensures .0) _ _ _ _ _ _ (at-rebase .rebase .ensures) _ (at-bytes .bytes .given .1) (search needs))
+    let start = at-rebase .before .before .before .before .before .before .before .before .before .before .before .before .before .before .before .before .before .before .before in
+    (start .pre .0, past-moved _ _ _ _ (start .pre .0) _ (start .pre .1) _ _ _ _ _ _ (at-rebase .rebase .ensures) _ (at-bytes .bytes .given .1), past-stored _ _ _ _ (start .pre .0) _ (start .pre .1) _ _ _ _ _ _ (at-rebase .rebase .ensures) _ (at-bytes .bytes .given .1) (search needs))
 
 enum-told : tie.Need-enum-told
 enum-told c = search needs
@@ -55,9 +55,8 @@ returns-2 : tie.Need-returns-2
 returns-2 c =
     let at-x = c .before in
     let at-rebase = at-x .before .before .before .before .before .before .before .before .before .before in
-    let at-lay = at-rebase .before .before .before .before .before .before .before .before in
-    let start = at-lay .before .before .before .before .before .before .before .before .before .before .before in
-    record { tries = past-stops _ _ _ _ (start .pre .0) _ (start .pre .1) _ (at-lay .lay .ensures .0) _ _ _ _ _ _ (at-rebase .rebase .ensures) _ (at-x .x .given .1) _ }
+    let start = at-rebase .before .before .before .before .before .before .before .before .before .before .before .before .before .before .before .before .before .before .before in
+    record { tries = past-stops _ _ _ _ (start .pre .0) _ (start .pre .1) _ _ _ _ _ _ (at-rebase .rebase .ensures) _ (at-x .x .given .1) _ }
 
 same-length-6 : tie.Need-same-length-6
 same-length-6 c = search needs

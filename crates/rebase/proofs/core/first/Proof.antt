@@ -4,8 +4,8 @@ use borrow.Author.Needs.{needs}
 use Rattle.rebase.proofs.core.first.Statement.{statement}
 use Rattle.rebase.proofs.core.first.Tie as tie
 
-part-requires : tie.Need-part-requires
-part-requires c κs = search (left-live, whole-cut, needs)
+mark-requires : tie.Need-mark-requires
+mark-requires c κs = search (left-live, whole-cut, needs)
 
 gives-requires : tie.Need-gives-requires
 gives-requires c κs = search needs
@@ -23,11 +23,11 @@ returns : tie.Need-returns
 returns c =
     let at-retain = c .before in
     let at-gives = at-retain .before in
-    let at-part = at-gives .before .before .before in
-    let start = at-part .before .before .before .before .before .before .before .before in
-    first-both _ _ _ _ _ _ _ _ _ (start .pre .4) (c .rest .ensures) (at-part .part .ensures) (at-gives .gives .ensures .0) (at-retain .retain .ensures)
+    let at-mark = at-gives .before .before .before in
+    let start = at-mark .before .before .before .before .before .before .before .before in
+    first-both _ _ _ _ _ _ _ _ _ (start .pre .4) (c .rest .ensures) (at-mark .mark .ensures) (at-gives .gives .ensures .0) (at-retain .retain .ensures)
 
 pub first-spec : {M : Type 1} → statement M
 first-spec =
     tie.close
-    (tie.spec part-requires gives-requires retain-requires rest-requires same-length returns)
+    (tie.spec mark-requires gives-requires retain-requires rest-requires same-length returns)

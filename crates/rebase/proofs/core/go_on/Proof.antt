@@ -1,4 +1,5 @@
-use Rattle.rebase.proofs.Passing.{goes-on}
+use native.Mathlib.Omega.{arith}
+use Rattle.rebase.proofs.Passing.{edit-inside, record-inside, goes-on}
 use borrow.Author.Needs.{needs}
 use Rattle.rebase.proofs.core.go_on.Statement.{statement}
 use Rattle.rebase.proofs.core.go_on.Tie as tie
@@ -15,11 +16,16 @@ size-requires-2 c κs = search needs
 add-bytes : tie.Need-add-bytes
 add-bytes c = search needs
 
-place-requires : tie.Need-place-requires
-place-requires c κs = search needs
+place-with-text-requires : tie.Need-place-with-text-requires
+place-with-text-requires c κs =
+    let start = c .before .before .before .before .before .before .before .before .before .before .before .before in
+    (start .pre .0, omega (arith, start .pre .2), start .pre .10 .few-left, omega (arith, start .pre .8, start .pre .9), edit-inside _ _ _ _ _ _ (start .pre .1) (start .pre .3) (start .pre .5) (start .pre .6) (start .pre .7) _ _ (start .pre .8) (start .pre .9) _ (start .pre .10), start .pre .10 .sized .left-small)
 
 keep-requires : tie.Need-keep-requires
-keep-requires c κs = search needs
+keep-requires c κs =
+    let at-size2 = c .before .before .before .before .before in
+    let start = at-size2 .before .before .before .before .before .before .before .before .before .before .before in
+    (omega (arith, at-size2 .size2 .ensures), start .pre .0, omega (arith, start .pre .4), start .pre .10 .few-right, omega (arith, start .pre .9), record-inside _ _ _ _ _ _ (start .pre .1) (start .pre .3) (start .pre .5) (start .pre .6) (start .pre .7) _ _ (start .pre .8) (start .pre .9) _ (start .pre .10), start .pre .10 .sized .right-small)
 
 same-length : tie.Need-same-length
 same-length c = search needs
@@ -30,11 +36,11 @@ same-length-2 c = search needs
 returns : tie.Need-returns
 returns c =
     let at-keep = c .before .before in
-    let at-place = at-keep .before .before .before .before in
-    let at-size2 = at-place .before .before in
+    let at-place-with-text = at-keep .before .before .before .before in
+    let at-size2 = at-place-with-text .before .before in
     let at-size = at-size2 .before .before in
-    let start = at-size .before .before .before .before .before .before .before .before in
-    goes-on _ _ _ _ _ _ _ (start .pre .1) (start .pre .2) (start .pre .4) _ _ _ _ (at-size .size .ensures .0) (at-size2 .size2 .ensures) _ (at-place .place .ensures) _ _ (at-keep .keep .ensures)
+    let start = at-size .before .before .before .before .before .before .before .before .before in
+    goes-on _ _ _ _ _ _ (start .pre .1) (start .pre .3) (start .pre .5) (start .pre .6) (start .pre .7) _ _ (start .pre .8) (start .pre .9) _ (start .pre .10) _ _ _ (at-size .size .ensures .0) (at-size2 .size2 .ensures) _ (at-place-with-text .place-with-text .ensures) _ _ (at-keep .keep .ensures)
 
 pub go-on-spec : {M : Type 1} → statement M
 go-on-spec =
@@ -44,7 +50,7 @@ go-on-spec =
     add-at
     size-requires-2
     add-bytes
-    place-requires
+    place-with-text-requires
     keep-requires
     same-length
     same-length-2

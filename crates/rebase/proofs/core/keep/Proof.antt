@@ -3,17 +3,17 @@ use borrow.Author.Needs.{needs}
 use Rattle.rebase.proofs.core.keep.Statement.{statement}
 use Rattle.rebase.proofs.core.keep.Tie as tie
 
-sub-place : tie.Need-sub-place
-sub-place c = search needs
+sub-place-with-text : tie.Need-sub-place-with-text
+sub-place-with-text c = search needs
 
-part-place-start : tie.Need-part-place-start
-part-place-start c = search needs
+part-place-with-text-start : tie.Need-part-place-with-text-start
+part-place-with-text-start c = search needs
 
-part-place-end : tie.Need-part-place-end
-part-place-end c = search needs
+part-place-with-text-end : tie.Need-part-place-with-text-end
+part-place-with-text-end c = search needs
 
-place-requires : tie.Need-place-requires
-place-requires c κs = search needs
+place-with-text-requires : tie.Need-place-with-text-requires
+place-with-text-requires c κs = search needs
 
 same-length : tie.Need-same-length
 same-length c = search needs
@@ -28,10 +28,10 @@ pub keep-spec : {M : Type 1} → statement M
 keep-spec =
     tie.close
     (tie.spec
-    sub-place
-    part-place-start
-    part-place-end
-    place-requires
+    sub-place-with-text
+    part-place-with-text-start
+    part-place-with-text-end
+    place-with-text-requires
     same-length
     returns
     returns-2)

@@ -1,5 +1,5 @@
 use borrow.Author.Needs.{needs}
-use Rattle.transform.proofs.Placing.{keep-first, keep-both}
+use Rattle.rebase.proofs.Passing.{keep-first, keep-both}
 use Rattle.rebase.proofs.core.keep_limits.Statement.{statement}
 use Rattle.rebase.proofs.core.keep_limits.Tie as tie
 

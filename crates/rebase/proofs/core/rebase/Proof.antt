@@ -6,23 +6,26 @@ use borrow.Author.Needs.{needs}
 use Rattle.operation.specs.Record.{ops}
 use Rattle.operation.specs.Front.{ahead}
 use Rattle.transform.proofs.Looping.{GoingBoth, both-start, left-under, right-under, both-more, went-less}
-use Rattle.rebase.proofs.Stages.{staged-run, passed}
-use Rattle.rebase.proofs.Moving.{Moving, moving-start, moving-small, moving-place, moving-end, moving-record, moving-stop, moving-fit, moving-ready, moving-short, moving-next}
+use Rattle.rebase.proofs.Stages.{marked-run, passed}
+use Rattle.rebase.proofs.Moving.{Moving, moving-start, moving-small, moving-place, moving-end, moving-record, moving-agree, moving-stop, moving-fit, moving-ready, moving-short, moving-next}
 use Rattle.rebase.proofs.core.rebase.Statement.{statement}
 use Rattle.rebase.proofs.core.rebase.Tie as tie
 
 abbrev Inv-loop : tie.InvT-loop
-Inv-loop log from n cur next₀ side₀ parts slots spot left at rec na nb b₀ next side b = GoingBoth slots slots cur rec next₀ side₀ b next side × (length next ≡ length next₀) × (length side ≡ length side₀)
+Inv-loop log from n edit cur next₀ side₀ parts slots ne spot left at rec na nb b₀ next side b = GoingBoth slots slots cur rec next₀ side₀ b next side × (length next ≡ length next₀) × (length side ≡ length side₀)
 
 abbrev μ-loop : tie.MeasureT-loop
-μ-loop log from n cur next₀ side₀ parts slots spot left at rec na nb b₀ next side b = length (ahead cur (b .x)) + length (ahead rec (b .y))
+μ-loop log from n edit cur next₀ side₀ parts slots ne spot left at rec na nb b₀ next side b = length (ahead cur (b .x)) + length (ahead rec (b .y))
 
 abbrev Inv-run : tie.InvT-run
-Inv-run log from n cur₀ next₀ side₀ parts₀ slots spot₀ left₀ cur next side parts spot left =
-    Moving (ops cur₀) log from n left spot cur parts₀ parts × (length cur ≡ length cur₀) × (length next ≡ length next₀) × (length side ≡ length side₀) × (length parts ≡ length parts₀)
+Inv-run log from n edit cur₀ next₀ side₀ parts₀ slots ne spot₀ left₀ cur next side parts spot left =
+    Moving (ops edit) log from n left spot cur parts₀ parts × (length cur ≡ length cur₀) × (length next ≡ length next₀) × (length side ≡ length side₀) × (length parts ≡ length parts₀)
 
 abbrev μ-run : tie.MeasureT-run
-μ-run log from n cur₀ next₀ side₀ parts₀ slots spot₀ left₀ cur next side parts spot left = left
+μ-run log from n edit cur₀ next₀ side₀ parts₀ slots ne spot₀ left₀ cur next side parts spot left = left
+
+records-requires : tie.Need-records-requires Inv-loop μ-loop Inv-run μ-run
+records-requires c κs = search needs
 
 run-holds : tie.Need-run-holds Inv-loop μ-loop Inv-run μ-run
 run-holds c = (search moving-start, search needs, search needs, search needs, search needs)
@@ -36,17 +39,30 @@ part-rec-start c = search (moving-place, needs)
 part-rec-end : tie.Need-part-rec-end Inv-loop μ-loop Inv-run μ-run
 part-rec-end c = search needs
 
-records-requires : tie.Need-records-requires Inv-loop μ-loop Inv-run μ-run
-records-requires c κs = search needs
-
 records-requires-2 : tie.Need-records-requires-2 Inv-loop μ-loop Inv-run μ-run
-records-requires-2 c κs = search moving-record
+records-requires-2 c κs =
+    let at-run = c .before .before .before in
+    at-run .run .inv .0 .holds .fault
+
+records-requires-3 : tie.Need-records-requires-3 Inv-loop μ-loop Inv-run μ-run
+records-requires-3 c κs =
+    let at-if1 = c .before .before .before in
+    let at-run = at-if1 .before in
+    moving-record _ _ _ _ _ _ _ _ _ (at-run .run .inv .0) (at-if1 .if1 .left)
 
 begin-requires : tie.Need-begin-requires Inv-loop μ-loop Inv-run μ-run
-begin-requires c κs = search (moving-record, needs)
+begin-requires c κs =
+    let at-records3 = c .before in
+    let at-records2 = at-records3 .before in
+    let at-if1 = at-records2 .before .before .before in
+    let at-run = at-if1 .before in
+    (at-records2 .records2 .ensures .0, at-records2 .records2 .ensures .1, at-records3 .records3 .ensures .0, at-records3 .records3 .ensures .1, at-run .run .inv .0 .holds .fault, moving-record _ _ _ _ _ _ _ _ _ (at-run .run .inv .0) (at-if1 .if1 .left))
 
 loop-holds : tie.Need-loop-holds Inv-loop μ-loop Inv-run μ-run
-loop-holds c = (search (both-start, moving-record), search needs, search needs)
+loop-holds c =
+    let at-if1 = c .before .before .before .before .before .before in
+    let at-run = at-if1 .before in
+    (both-start _ _ _ _ _ _ _ (at-run .run .inv .0 .holds .fault) (moving-record _ _ _ _ _ _ _ _ _ (at-run .run .inv .0) (at-if1 .if1 .left)) (c .begin .ensures), search needs, search needs)
 
 goes-on-requires : tie.Need-goes-on-requires Inv-loop μ-loop Inv-run μ-run
 goes-on-requires c κs = search needs
@@ -54,33 +70,50 @@ goes-on-requires c κs = search needs
 end-requires : tie.Need-end-requires Inv-loop μ-loop Inv-run μ-run
 end-requires c κs =
     let at-loop = c .before .before .before .before in
-    let start = at-loop .before .before .before .before .before .before .before .before .before .before .before .before .before .before in
-    (start .pre .6, left-under _ _ _ _ _ _ (at-loop .loop .b) _ _ (at-loop .loop .inv .0), right-under _ _ _ _ _ _ (at-loop .loop .b) _ _ (at-loop .loop .inv .0))
+    let start = at-loop .before .before .before .before .before .before .before .before .before .before .before .before .before .before .before .before in
+    (start .pre .7, left-under _ _ _ _ _ _ (at-loop .loop .b) _ _ (at-loop .loop .inv .0), right-under _ _ _ _ _ _ (at-loop .loop .b) _ _ (at-loop .loop .inv .0))
+
+sizes-requires : tie.Need-sizes-requires Inv-loop μ-loop Inv-run μ-run
+sizes-requires c κs =
+    let at-side = c .before .before in
+    let at-next = at-side .before .before in
+    let at-end = at-next .before in
+    let at-if2 = at-end .before .before .before in
+    let at-goes-on = at-if2 .before in
+    let at-loop = at-goes-on .before in
+    let at-if1 = at-loop .before .before .before .before .before .before .before in
+    let at-run = at-if1 .before in
+    let d = marked-run _ _ _ _ _ (at-loop .loop .b) _ _ (at-loop .loop .inv .0) (at-loop .loop .inv .1) (at-loop .loop .inv .2) _ (at-goes-on .goes-on .ensures) (at-if2 .if2 .taken) (at-end .end .result) _ _ (at-end .end .ensures) (omega (arith, at-next .next .given, at-end .end)) (omega (arith, at-side .side .given, at-end .end)) in
+    (at-run .run .inv .0 .holds .fault, moving-record _ _ _ _ _ _ _ _ _ (at-run .run .inv .0) (at-if1 .if1 .left), moving-agree _ _ _ _ _ _ _ _ _ (at-run .run .inv .0) (at-if1 .if1 .left), d .counted)
 
 keep-limits-requires : tie.Need-keep-limits-requires Inv-loop μ-loop Inv-run μ-run
 keep-limits-requires c κs = search needs
 
 have-places-requires : tie.Need-have-places-requires Inv-loop μ-loop Inv-run μ-run
 have-places-requires c κs =
-    let at-side = c .before .before .before in
-    let at-next = at-side .before .before in
-    let at-end = at-next .before in
-    let at-if2 = at-end .before .before .before in
-    let at-goes-on = at-if2 .before in
-    let at-loop = at-goes-on .before in
-    let start = at-loop .before .before .before .before .before .before .before .before .before .before .before .before .before .before in
-    let d = staged-run _ _ _ _ _ (at-loop .loop .b) _ _ (at-loop .loop .inv .0) (at-loop .loop .inv .1) (at-loop .loop .inv .2) _ (at-goes-on .goes-on .ensures) (at-if2 .if2 .taken) (at-end .end .result) _ _ (at-end .end .ensures .0) (at-end .end .ensures .1) (omega (arith, at-next .next .given, at-end .end)) (omega (arith, at-side .side .given, at-end .end)) in
-    (start .pre .6, d .left .done .small, d .right .done .small)
+    let at-sizes = c .before .before in
+    at-sizes .sizes .ensures .left-small
 
 turn-requires : tie.Need-turn-requires Inv-loop μ-loop Inv-run μ-run
 turn-requires c κs =
     let at-if2 = c .before .before .before in
     let at-goes-on = at-if2 .before in
     let at-loop = at-goes-on .before in
-    let at-records2 = at-loop .before .before .before in
-    let at-records = at-records2 .before in
-    let start = at-records .before .before .before .before .before .before .before .before .before .before in
-    (at-records .records .ensures .0, at-records2 .records2 .ensures .0, start .pre .6, left-under _ _ _ _ _ _ (at-loop .loop .b) _ _ (at-loop .loop .inv .0), right-under _ _ _ _ _ _ (at-loop .loop .b) _ _ (at-loop .loop .inv .0), at-loop .loop .inv .0 .left .stands-x, at-loop .loop .inv .0 .left .stands-y, passed _ _ (at-goes-on .goes-on .ensures) (at-if2 .if2 .left))
+    let at-records3 = at-loop .before .before .before in
+    let at-records2 = at-records3 .before in
+    let at-run = at-records2 .before .before .before .before in
+    let start = at-run .before .before .before .before .before .before .before .before in (
+      at-records2 .records2 .ensures .0,
+      at-records3 .records3 .ensures .0,
+      start .pre .7,
+      left-under _ _ _ _ _ _ (at-loop .loop .b) _ _ (at-loop .loop .inv .0),
+      right-under _ _ _ _ _ _ (at-loop .loop .b) _ _ (at-loop .loop .inv .0),
+      at-loop .loop .inv .0 .left .stands-x,
+      at-loop .loop .inv .0 .left .stands-y,
+      passed _ _ (at-goes-on .goes-on .ensures) (at-if2 .if2 .left),
+      omega (arith, at-loop .loop .inv .1, at-run .run .inv .2, start .pre .5),
+      omega (arith, at-loop .loop .inv .2, at-run .run .inv .3, start .pre .6),
+    )
 
 loop-less : tie.Need-loop-less Inv-loop μ-loop Inv-run μ-run
 loop-less c = search went-less
@@ -94,30 +127,43 @@ go-on-requires c κs =
     let at-have-places = at-if4 .before in
     let at-if3 = at-have-places .before in
     let at-keep-limits = at-if3 .before in
-    let at-side = at-keep-limits .before .before in
+    let at-sizes = at-keep-limits .before in
+    let at-side = at-sizes .before .before .before in
     let at-next = at-side .before .before in
     let at-end = at-next .before in
     let at-if2 = at-end .before .before .before in
     let at-goes-on = at-if2 .before in
     let at-loop = at-goes-on .before in
-    let at-if1 = at-loop .before .before .before .before .before .before .before in
+    let at-records3 = at-loop .before .before .before in
+    let at-if1 = at-records3 .before .before .before .before in
     let at-run = at-if1 .before in
-    let start = at-run .before .before .before .before .before .before in
-    let d = staged-run _ _ _ _ _ (at-loop .loop .b) _ _ (at-loop .loop .inv .0) (at-loop .loop .inv .1) (at-loop .loop .inv .2) _ (at-goes-on .goes-on .ensures) (at-if2 .if2 .taken) (at-end .end .result) _ _ (at-end .end .ensures .0) (at-end .end .ensures .1) (omega (arith, at-next .next .given, at-end .end)) (omega (arith, at-side .side .given, at-end .end)) in (
-      start .pre .6,
-      omega (arith, at-next .next .given, at-end .end, at-loop .loop .inv .1, at-run .run .inv .2, at-run .run .inv .1, start .pre .4),
-      omega (arith, at-side .side .given, at-end .end, at-loop .loop .inv .2, at-run .run .inv .3, at-run .run .inv .1, start .pre .5),
+    let at-records = at-run .before in
+    let start = at-records .before .before .before .before .before .before .before in
+    let d = marked-run _ _ _ _ _ (at-loop .loop .b) _ _ (at-loop .loop .inv .0) (at-loop .loop .inv .1) (at-loop .loop .inv .2) _ (at-goes-on .goes-on .ensures) (at-if2 .if2 .taken) (at-end .end .result) _ _ (at-end .end .ensures) (omega (arith, at-next .next .given, at-end .end)) (omega (arith, at-side .side .given, at-end .end)) in (
+      start .pre .7,
+      at-records .records .ensures .0,
+      at-records .records .ensures .1,
+      at-records3 .records3 .ensures .0,
+      at-records3 .records3 .ensures .1,
+      start .pre .3,
       moving-record _ _ _ _ _ _ _ _ _ (at-run .run .inv .0) (at-if1 .if1 .left),
-      moving-ready _ _ _ _ _ _ _ _ _ (at-run .run .inv .0) (at-if1 .if1 .left) _ _ _ _ d _ (at-keep-limits .keep-limits .ensures) (at-if3 .if3 .left) _ _ (omega (arith, at-next .next .given, at-end .end, at-loop .loop .inv .1, at-run .run .inv .2, at-run .run .inv .1, start .pre .4)) _ (at-have-places .have-places .ensures) (at-if4 .if4 .left),
+      at-run .run .inv .0 .same-text,
+      omega (arith, at-next .next .given, at-end .end, at-loop .loop .inv .1, at-run .run .inv .2, start .pre .5),
+      omega (arith, at-side .side .given, at-end .end, at-loop .loop .inv .2, at-run .run .inv .3, start .pre .6),
+      moving-ready _ _ _ _ _ _ _ _ _ (at-run .run .inv .0) (at-if1 .if1 .left) _ (at-sizes .sizes .ensures) _ (at-keep-limits .keep-limits .ensures) (at-if3 .if3 .left) _ _ _ (at-have-places .have-places .ensures) (at-if4 .if4 .left) _ _ _ d,
       omega (arith, at-run .run .inv .0 .place, start .good),
       moving-small _ _ _ _ _ _ _ _ _ (at-run .run .inv .0) (start .pre .1),
     )
 
 sub-left : tie.Need-sub-left Inv-loop μ-loop Inv-run μ-run
-sub-left c = omega (arith, c .before .before .before .before .before .before .before .before .before .before .before .before .before .before .before .before .before .before .before .before .before .before .before .before .before .before .before .before .before .if1 .left)
+sub-left c =
+    let at-if1 = c .before .before .before .before .before .before .before .before .before .before .before .before .before .before .before .before .before .before .before .before .before .before .before .before .before .before .before .before .before .before .before in
+    omega (arith, at-if1 .if1 .left)
 
 run-less : tie.Need-run-less Inv-loop μ-loop Inv-run μ-run
-run-less c = omega (arith, c .before .before .before .before .before .before .before .before .before .before .before .before .before .before .before .before .before .before .before .before .before .before .before .before .before .before .before .before .before .if1 .left)
+run-less c =
+    let at-if1 = c .before .before .before .before .before .before .before .before .before .before .before .before .before .before .before .before .before .before .before .before .before .before .before .before .before .before .before .before .before .before .before in
+    omega (arith, at-if1 .if1 .left)
 
 run-again : tie.Need-run-again Inv-loop μ-loop Inv-run μ-run
 run-again c =
@@ -126,16 +172,14 @@ run-again c =
     let at-go-on = at-cur .before in
     let at-if3 = at-go-on .before .before .before .before .before .before .before in
     let at-keep-limits = at-if3 .before in
-    let at-side = at-keep-limits .before .before in
+    let at-sizes = at-keep-limits .before in
+    let at-side = at-sizes .before .before .before in
     let at-next = at-side .before .before in
     let at-end = at-next .before in
-    let at-if2 = at-end .before .before .before in
-    let at-goes-on = at-if2 .before in
-    let at-loop = at-goes-on .before in
+    let at-loop = at-end .before .before .before .before .before in
     let at-if1 = at-loop .before .before .before .before .before .before .before in
-    let at-run = at-if1 .before in
-    let d = staged-run _ _ _ _ _ (at-loop .loop .b) _ _ (at-loop .loop .inv .0) (at-loop .loop .inv .1) (at-loop .loop .inv .2) _ (at-goes-on .goes-on .ensures) (at-if2 .if2 .taken) (at-end .end .result) _ _ (at-end .end .ensures .0) (at-end .end .ensures .1) (omega (arith, at-next .next .given, at-end .end)) (omega (arith, at-side .side .given, at-end .end)) in (
-      moving-next _ _ _ _ _ _ _ _ _ (at-run .run .inv .0) (at-if1 .if1 .left) (moving-fit _ _ _ _ _ _ _ _ _ (at-run .run .inv .0) (at-if1 .if1 .left) _ _ _ _ d _ (at-keep-limits .keep-limits .ensures) (at-if3 .if3 .left)) (at-run .run .inv .4) _ _ _ (at-go-on .go-on .ensures),
+    let at-run = at-if1 .before in (
+      moving-next _ _ _ _ _ _ _ _ _ (at-run .run .inv .0) (at-if1 .if1 .left) (moving-fit _ _ _ _ _ _ _ _ _ (at-run .run .inv .0) (at-if1 .if1 .left) _ (at-sizes .sizes .ensures) _ (at-keep-limits .keep-limits .ensures) (at-if3 .if3 .left)) (at-run .run .inv .4) _ _ _ (at-go-on .go-on .ensures),
       omega (arith, at-run .run .inv .1, at-cur .cur .given, at-go-on .go-on),
       omega (arith, at-next .next .given, at-end .end, at-loop .loop .inv .1, at-run .run .inv .2),
       omega (arith, at-side .side .given, at-end .end, at-loop .loop .inv .2, at-run .run .inv .3),
@@ -158,11 +202,13 @@ returns : tie.Need-returns Inv-loop μ-loop Inv-run μ-run
 returns c = search moving-end
 
 same-length-5 : tie.Need-same-length-5 Inv-loop μ-loop Inv-run μ-run
-same-length-5 c = c .before .before .before .before .before .before .before .before .before .before .before .before .before .before .before .before .before .before .before .run .inv .1
+same-length-5 c =
+    let at-run = c .before .before .before .before .before .before .before .before .before .before .before .before .before .before .before .before .before .before .before .before .before in
+    at-run .run .inv .1
 
 same-length-6 : tie.Need-same-length-6 Inv-loop μ-loop Inv-run μ-run
 same-length-6 c =
-    let at-next = c .before .before .before .before .before in
+    let at-next = c .before .before .before .before .before .before .before in
     let at-end = at-next .before in
     let at-loop = at-end .before .before .before .before .before in
     let at-run = at-loop .before .before .before .before .before .before .before .before in
@@ -170,35 +216,33 @@ same-length-6 c =
 
 same-length-7 : tie.Need-same-length-7 Inv-loop μ-loop Inv-run μ-run
 same-length-7 c =
-    let at-side = c .before .before .before in
+    let at-side = c .before .before .before .before .before in
     let at-end = at-side .before .before .before in
     let at-loop = at-end .before .before .before .before .before in
     let at-run = at-loop .before .before .before .before .before .before .before .before in
     omega (arith, at-side .side .given, at-end .end, at-loop .loop .inv .2, at-run .run .inv .3)
 
 same-length-8 : tie.Need-same-length-8 Inv-loop μ-loop Inv-run μ-run
-same-length-8 c = c .before .before .before .before .before .before .before .before .before .before .before .before .before .before .before .before .before .before .before .run .inv .4
+same-length-8 c =
+    let at-run = c .before .before .before .before .before .before .before .before .before .before .before .before .before .before .before .before .before .before .before .before .before in
+    at-run .run .inv .4
 
 returns-2 : tie.Need-returns-2 Inv-loop μ-loop Inv-run μ-run
 returns-2 c =
     let at-keep-limits = c .before in
-    let at-side = at-keep-limits .before .before in
-    let at-next = at-side .before .before in
-    let at-end = at-next .before in
-    let at-if2 = at-end .before .before .before in
-    let at-goes-on = at-if2 .before in
-    let at-loop = at-goes-on .before in
-    let at-if1 = at-loop .before .before .before .before .before .before .before in
+    let at-sizes = at-keep-limits .before in
+    let at-if1 = at-sizes .before .before .before .before .before .before .before .before .before .before .before .before .before .before .before .before .before .before in
     let at-run = at-if1 .before in
-    let d = staged-run _ _ _ _ _ (at-loop .loop .b) _ _ (at-loop .loop .inv .0) (at-loop .loop .inv .1) (at-loop .loop .inv .2) _ (at-goes-on .goes-on .ensures) (at-if2 .if2 .taken) (at-end .end .result) _ _ (at-end .end .ensures .0) (at-end .end .ensures .1) (omega (arith, at-next .next .given, at-end .end)) (omega (arith, at-side .side .given, at-end .end)) in
-    moving-stop _ _ _ _ _ _ _ _ _ (at-run .run .inv .0) (at-if1 .if1 .left) _ _ _ _ d _ (at-keep-limits .keep-limits .ensures) _ (c .if3 .taken)
+    moving-stop _ _ _ _ _ _ _ _ _ (at-run .run .inv .0) (at-if1 .if1 .left) _ (at-sizes .sizes .ensures) _ (at-keep-limits .keep-limits .ensures) _ _ (c .if3 .taken)
 
 same-length-9 : tie.Need-same-length-9 Inv-loop μ-loop Inv-run μ-run
-same-length-9 c = c .before .before .before .before .before .before .before .before .before .before .before .before .before .before .before .before .before .before .before .before .before .run .inv .1
+same-length-9 c =
+    let at-run = c .before .before .before .before .before .before .before .before .before .before .before .before .before .before .before .before .before .before .before .before .before .before .before in
+    at-run .run .inv .1
 
 same-length-10 : tie.Need-same-length-10 Inv-loop μ-loop Inv-run μ-run
 same-length-10 c =
-    let at-next = c .before .before .before .before .before .before .before in
+    let at-next = c .before .before .before .before .before .before .before .before .before in
     let at-end = at-next .before in
     let at-loop = at-end .before .before .before .before .before in
     let at-run = at-loop .before .before .before .before .before .before .before .before in
@@ -206,31 +250,26 @@ same-length-10 c =
 
 same-length-11 : tie.Need-same-length-11 Inv-loop μ-loop Inv-run μ-run
 same-length-11 c =
-    let at-side = c .before .before .before .before .before in
+    let at-side = c .before .before .before .before .before .before .before in
     let at-end = at-side .before .before .before in
     let at-loop = at-end .before .before .before .before .before in
     let at-run = at-loop .before .before .before .before .before .before .before .before in
     omega (arith, at-side .side .given, at-end .end, at-loop .loop .inv .2, at-run .run .inv .3)
 
 same-length-12 : tie.Need-same-length-12 Inv-loop μ-loop Inv-run μ-run
-same-length-12 c = c .before .before .before .before .before .before .before .before .before .before .before .before .before .before .before .before .before .before .before .before .before .run .inv .4
+same-length-12 c =
+    let at-run = c .before .before .before .before .before .before .before .before .before .before .before .before .before .before .before .before .before .before .before .before .before .before .before in
+    at-run .run .inv .4
 
 returns-3 : tie.Need-returns-3 Inv-loop μ-loop Inv-run μ-run
 returns-3 c =
     let at-have-places = c .before in
     let at-if3 = at-have-places .before in
     let at-keep-limits = at-if3 .before in
-    let at-side = at-keep-limits .before .before in
-    let at-next = at-side .before .before in
-    let at-end = at-next .before in
-    let at-if2 = at-end .before .before .before in
-    let at-goes-on = at-if2 .before in
-    let at-loop = at-goes-on .before in
-    let at-if1 = at-loop .before .before .before .before .before .before .before in
+    let at-sizes = at-keep-limits .before in
+    let at-if1 = at-sizes .before .before .before .before .before .before .before .before .before .before .before .before .before .before .before .before .before .before in
     let at-run = at-if1 .before in
-    let start = at-run .before .before .before .before .before .before in
-    let d = staged-run _ _ _ _ _ (at-loop .loop .b) _ _ (at-loop .loop .inv .0) (at-loop .loop .inv .1) (at-loop .loop .inv .2) _ (at-goes-on .goes-on .ensures) (at-if2 .if2 .taken) (at-end .end .result) _ _ (at-end .end .ensures .0) (at-end .end .ensures .1) (omega (arith, at-next .next .given, at-end .end)) (omega (arith, at-side .side .given, at-end .end)) in
-    moving-short _ _ _ _ _ _ _ _ _ (at-run .run .inv .0) (at-if1 .if1 .left) _ _ _ _ d _ (at-keep-limits .keep-limits .ensures) (at-if3 .if3 .left) _ _ (omega (arith, at-next .next .given, at-end .end, at-loop .loop .inv .1, at-run .run .inv .2, start .pre .4)) _ (at-have-places .have-places .ensures) (c .if4 .taken)
+    moving-short _ _ _ _ _ _ _ _ _ (at-run .run .inv .0) (at-if1 .if1 .left) _ (at-sizes .sizes .ensures) _ (at-keep-limits .keep-limits .ensures) (at-if3 .if3 .left) _ _ _ (at-have-places .have-places .ensures) (c .if4 .taken) _ (omega (arith, at-run .run .inv .1))
 
 pub rebase-spec : {M : Type 1} → statement M
 rebase-spec =
@@ -240,16 +279,18 @@ rebase-spec =
     μ-loop
     Inv-run
     μ-run
+    records-requires
     run-holds
     sub-rec
     part-rec-start
     part-rec-end
-    records-requires
     records-requires-2
+    records-requires-3
     begin-requires
     loop-holds
     goes-on-requires
     end-requires
+    sizes-requires
     keep-limits-requires
     have-places-requires
     turn-requires

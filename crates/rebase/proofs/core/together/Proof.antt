@@ -8,7 +8,7 @@ lesser-requires : tie.Need-lesser-requires
 lesser-requires c κs = search needs
 
 meet-requires : tie.Need-meet-requires
-meet-requires c κs = (search needs, search needs, search needs, search needs, search needs, search both-some, search needs, search needs, search uncut-x, search uncut-y, search needs)
+meet-requires c κs = (search needs, search needs, search needs, search needs, search needs, search both-some, search needs, search needs, search uncut-x, search uncut-y, search needs, search needs, search needs)
 
 rest-requires : tie.Need-rest-requires
 rest-requires c κs = search (uncut-x, needs)

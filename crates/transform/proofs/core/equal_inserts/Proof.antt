@@ -9,7 +9,7 @@ keep-requires : tie.Need-keep-requires
 keep-requires c κs =
     let start = c .before .before .before .before .before .before .before .before in
     let q = equal-least _ _ _ _ (start .pre .6) (start .pre .7) (start .pre .8) (start .pre .9) (start .pre .10) in
-    (start .pre .2, start .pre .3, start .pre .4, start .pre .5, start .pre .6, start .pre .7, both-some _ _ _ _ (start .pre .6) (start .pre .7) (start .pre .8) _ q, search needs, omega (arith, q), uncut-x _ _ _ _ (start .pre .6) (start .pre .7) (start .pre .8) _ q, uncut-y _ _ _ _ (start .pre .6) (start .pre .7) (start .pre .8) _ q, start .pre .8, start .pre .10)
+    (start .pre .2, start .pre .3, start .pre .4, start .pre .5, start .pre .6, start .pre .7, both-some _ _ _ _ (start .pre .6) (start .pre .7) (start .pre .8) _ q, search needs, omega (arith, q), uncut-x _ _ _ _ (start .pre .6) (start .pre .7) (start .pre .8) _ q, uncut-y _ _ _ _ (start .pre .6) (start .pre .7) (start .pre .8) _ q, start .pre .8, start .pre .10, start .pre .11, start .pre .12)
 
 rest-requires : tie.Need-rest-requires
 rest-requires c κs =

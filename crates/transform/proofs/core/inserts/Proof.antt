@@ -1,3 +1,4 @@
+use native.Mathlib.Omega.{arith}
 use Rattle.transform.proofs.Siding.{chosen-less, chosen-equal, chosen-greater}
 use Rattle.transform.proofs.Stepping.{alone-first, alone-second, both-together}
 use borrow.Author.Needs.{needs}
@@ -11,7 +12,9 @@ enum-told : tie.Need-enum-told
 enum-told c = search needs
 
 lesser-first-requires : tie.Need-lesser-first-requires
-lesser-first-requires c κs = search needs
+lesser-first-requires c κs =
+    let start = c .before .before .before .before .before .before .before .before .before .before in
+    (start .pre .0, start .pre .2, start .pre .4, start .pre .5, start .pre .6, omega (arith, start .pre .8), start .pre .10)
 
 enum-told-2 : tie.Need-enum-told-2
 enum-told-2 c = search needs
@@ -21,13 +24,15 @@ equal-inserts-requires c κs =
     let at-told = c .before .before in
     let at-rank = at-told .before .before in
     let start = at-rank .before .before .before .before .before .before .before in
-    (start .pre .0, start .pre .1, start .pre .2, start .pre .3, start .pre .4, start .pre .5, start .pre .6, start .pre .7, chosen-equal _ _ _ _ (start .pre .6) (start .pre .7) (start .pre .8) (start .pre .9) _ (at-rank .rank .ensures) (at-told .enum-told2 .given .1), start .pre .8, start .pre .9)
+    (start .pre .0, start .pre .1, start .pre .2, start .pre .3, start .pre .4, start .pre .5, start .pre .6, start .pre .7, chosen-equal _ _ _ _ (start .pre .6) (start .pre .7) (start .pre .8) (start .pre .9) _ (at-rank .rank .ensures) (at-told .enum-told2 .given .1), start .pre .8, start .pre .9, start .pre .10, start .pre .11)
 
 enum-told-3 : tie.Need-enum-told-3
 enum-told-3 c = search needs
 
 lesser-second-requires : tie.Need-lesser-second-requires
-lesser-second-requires c κs = search needs
+lesser-second-requires c κs =
+    let start = c .before .before .before .before .before .before .before .before .before .before in
+    (start .pre .1, start .pre .3, start .pre .4, start .pre .5, start .pre .7, omega (arith, start .pre .9), start .pre .11)
 
 same-length : tie.Need-same-length
 same-length c = search needs

@@ -6,25 +6,27 @@ use borrow.Author.Needs.{needs}
 use Rattle.transform.proofs.core.keep.Statement.{statement}
 use Rattle.transform.proofs.core.keep.Tie as tie
 
-part-requires : tie.Need-part-requires
-part-requires c κs = search needs
+mark-requires : tie.Need-mark-requires
+mark-requires c κs =
+    let start = c .before .before .before .before .before .before .before .before .before in
+    (start .pre .0, start .pre .13, start .pre .5, start .pre .6, start .pre .8, start .pre .10, under-more _ _ _ (omega arith) (start .pre .2))
 
-part-requires-2 : tie.Need-part-requires-2
-part-requires-2 c κs =
+mark-requires-2 : tie.Need-mark-requires-2
+mark-requires-2 c κs =
     let start = c .before .before .before .before .before .before .before .before .before .before .before .before .before in
-    (start .pre .1, start .pre .4, start .pre .6, start .pre .7, start .pre .9, under-more _ _ _ (omega arith) (start .pre .3))
+    (start .pre .1, start .pre .14, start .pre .4, start .pre .6, start .pre .7, start .pre .9, under-more _ _ _ (omega arith) (start .pre .3))
 
 retain-requires : tie.Need-retain-requires
 retain-requires c κs =
-    let at-part = c .before .before .before .before .before .before in
-    let start = at-part .before .before .before .before .before .before .before .before .before .before in
-    search (under-part, needs, start .pre, at-part .part .ensures)
+    let at-mark = c .before .before .before .before .before .before in
+    let start = at-mark .before .before .before .before .before .before .before .before .before .before in
+    search (under-part, needs, start .pre, at-mark .mark .ensures)
 
 retain-requires-2 : tie.Need-retain-requires-2
 retain-requires-2 c κs =
-    let at-part2 = c .before .before .before in
-    let start = at-part2 .before .before .before .before .before .before .before .before .before .before .before .before .before .before in
-    search (under-part, needs, start .pre, at-part2 .part2 .ensures)
+    let at-mark2 = c .before .before .before in
+    let start = at-mark2 .before .before .before .before .before .before .before .before .before .before .before .before .before .before in
+    search (under-part, needs, start .pre, at-mark2 .mark2 .ensures)
 
 same-length : tie.Need-same-length
 same-length c = search needs
@@ -35,17 +37,17 @@ same-length-2 c = search needs
 returns : tie.Need-returns
 returns c =
     let at-retain = c .before in
-    let at-part2 = at-retain .before .before .before in
-    let at-part = at-part2 .before .before .before .before in
-    let start = at-part .before .before .before .before .before .before .before .before .before .before in
-    meets-insert _ _ _ _ _ _ _ _ (start .pre .4) (start .pre .5) (start .pre .11) (start .pre .12) (start .pre .7) (start .pre .8) _ _ _ (at-part .part .ensures) (at-retain .retain .ensures) _ _ _ (at-part2 .part2 .ensures) (c .retain2 .ensures)
+    let at-mark2 = at-retain .before .before .before in
+    let at-mark = at-mark2 .before .before .before .before in
+    let start = at-mark .before .before .before .before .before .before .before .before .before .before in
+    meets-insert _ _ _ _ _ _ _ _ (start .pre .4) (start .pre .5) (start .pre .11) (start .pre .12) (start .pre .7) (start .pre .8) _ _ _ (at-mark .mark .ensures) (at-retain .retain .ensures) _ _ _ (at-mark2 .mark2 .ensures) (c .retain2 .ensures)
 
 pub keep-spec : {M : Type 1} → statement M
 keep-spec =
     tie.close
     (tie.spec
-    part-requires
-    part-requires-2
+    mark-requires
+    mark-requires-2
     retain-requires
     retain-requires-2
     same-length

@@ -1,11 +1,15 @@
+use native.Mathlib.Omega.{arith}
+use Rattle.operational_transform.proofs.Adding.{under-more}
 use Rattle.transform.proofs.Siding.{whole-cut, left-live}
 use Rattle.transform.proofs.Stepping.{first-both}
 use borrow.Author.Needs.{needs}
 use Rattle.transform.proofs.core.lesser_first.Statement.{statement}
 use Rattle.transform.proofs.core.lesser_first.Tie as tie
 
-part-requires : tie.Need-part-requires
-part-requires c κs = search (left-live, whole-cut, needs)
+mark-requires : tie.Need-mark-requires
+mark-requires c κs =
+    let start = c .before .before .before .before .before .before .before in
+    (start .pre .1, start .pre .6, start .pre .4, left-live _ _ (start .pre .4) (start .pre .5), search needs, whole-cut _ _ (start .pre .4), under-more _ _ _ (omega arith) (start .pre .2))
 
 gives-requires : tie.Need-gives-requires
 gives-requires c κs = search needs
@@ -23,11 +27,11 @@ returns : tie.Need-returns
 returns c =
     let at-retain = c .before in
     let at-gives = at-retain .before in
-    let at-part = at-gives .before .before .before in
-    let start = at-part .before .before .before .before .before .before .before .before in
-    first-both _ _ _ _ _ _ _ _ _ (start .pre .4) (c .rest .ensures) (at-part .part .ensures) (at-gives .gives .ensures .0) (at-retain .retain .ensures)
+    let at-mark = at-gives .before .before .before in
+    let start = at-mark .before .before .before .before .before .before .before .before in
+    first-both _ _ _ _ _ _ _ _ _ (start .pre .4) (c .rest .ensures) (at-mark .mark .ensures) (at-gives .gives .ensures .0) (at-retain .retain .ensures)
 
 pub lesser-first-spec : {M : Type 1} → statement M
 lesser-first-spec =
     tie.close
-    (tie.spec part-requires gives-requires retain-requires rest-requires same-length returns)
+    (tie.spec mark-requires gives-requires retain-requires rest-requires same-length returns)

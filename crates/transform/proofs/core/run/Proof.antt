@@ -1,18 +1,20 @@
 use Prim.Native.Nat.{_+_}
 use mathlib.Core.Path.{_≡_}
+use native.Mathlib.Omega.{arith}
 use lib.ListN.{length}
 use borrow.Author.Needs.{needs}
 use Rattle.operation.specs.Front.{ahead}
 use Rattle.turns.proofs.Turning.{live-is}
-use Rattle.transform.proofs.Looping.{GoingBoth, both-start, left-under, right-under, both-more, both-done, went-less}
+use Rattle.transform.proofs.Looping.{GoingBoth, both-start, left-under, right-under, both-more, went-less}
+use Rattle.transform.proofs.Marking.{both-marked}
 use Rattle.transform.proofs.core.run.Statement.{statement}
 use Rattle.transform.proofs.core.run.Tie as tie
 
 abbrev Inv-loop : tie.InvT-loop
-Inv-loop a na b nb out-a₀ m out-b₀ n s₀ out-a out-b s = GoingBoth m n a b out-a₀ out-b₀ s out-a out-b × (length out-a ≡ length out-a₀) × (length out-b ≡ length out-b₀)
+Inv-loop a na b nb stage-a₀ stage-b₀ slots s₀ stage-a stage-b s = GoingBoth slots slots a b stage-a₀ stage-b₀ s stage-a stage-b × (length stage-a ≡ length stage-a₀) × (length stage-b ≡ length stage-b₀)
 
 abbrev μ-loop : tie.MeasureT-loop
-μ-loop a na b nb out-a₀ m out-b₀ n s₀ out-a out-b s = length (ahead a (s .x)) + length (ahead b (s .y))
+μ-loop a na b nb stage-a₀ stage-b₀ slots s₀ stage-a stage-b s = length (ahead a (s .x)) + length (ahead b (s .y))
 
 begin-requires : tie.Need-begin-requires Inv-loop μ-loop
 begin-requires c κs = search needs
@@ -24,7 +26,10 @@ goes-on-requires : tie.Need-goes-on-requires Inv-loop μ-loop
 goes-on-requires c κs = search needs
 
 turn-requires : tie.Need-turn-requires Inv-loop μ-loop
-turn-requires c κs = search (left-under, right-under, live-is, needs)
+turn-requires c κs =
+    let at-loop = c .before .before .before .before in
+    let start = c .before .before .before .before .before .before .before .before .before .before in
+    (start .pre .0, start .pre .2, start .pre .6, start .pre .6, search left-under, search right-under, search needs, search needs, search live-is, omega (arith, at-loop .loop .inv .1, start .pre .7), omega (arith, at-loop .loop .inv .2, start .pre .8))
 
 loop-less : tie.Need-loop-less Inv-loop μ-loop
 loop-less c = search went-less
@@ -45,7 +50,7 @@ same-length-2 : tie.Need-same-length-2 Inv-loop μ-loop
 same-length-2 c = search needs
 
 returns : tie.Need-returns Inv-loop μ-loop
-returns c = search both-done
+returns c = search both-marked
 
 pub run-spec : {M : Type 1} → statement M
 run-spec =

@@ -9,9 +9,6 @@ slice-aggregate-staged c = search needs
 slice-aggregate-staged-2 : tie.Need-slice-aggregate-staged-2
 slice-aggregate-staged-2 c = search needs
 
-add-staged : tie.Need-add-staged
-add-staged c = search needs
-
 staged-requires : tie.Need-staged-requires
 staged-requires c κs = search needs
 
@@ -45,7 +42,6 @@ small-spec =
     (tie.spec
     slice-aggregate-staged
     slice-aggregate-staged-2
-    add-staged
     staged-requires
     enum-known-k
     enum-known-x

@@ -1,13 +1,25 @@
+use native.Mathlib.Omega.{arith}
 use Rattle.transform.proofs.Answering.{transforms-refused, transforms-written}
+use Rattle.transform.proofs.Marking.{text-room-left, text-room-right, few-places-left, few-places-right, text-placed}
 use borrow.Author.Needs.{needs}
 use Rattle.transform.proofs.core.staged.Statement.{statement}
 use Rattle.transform.proofs.core.staged.Tie as tie
 
-stage-both-requires : tie.Need-stage-both-requires
-stage-both-requires c κs = search needs
+run-requires : tie.Need-run-requires
+run-requires c κs =
+    let start = c .before .before .before .before .before .before .before .before in
+    (start .pre .0, start .pre .1, start .pre .2, start .pre .3, start .pre .4, start .pre .5, omega (arith, start .pre .6), omega (arith, start .pre .8), omega (arith, start .pre .9))
+
+sizes-requires : tie.Need-sizes-requires
+sizes-requires c κs =
+    let at-run = c .before .before .before .before in
+    let start = at-run .before .before .before .before .before .before .before .before .before in
+    (start .pre .4, start .pre .5, start .pre .10, at-run .run .ensures .counted)
 
 judge-requires : tie.Need-judge-requires
-judge-requires c κs = search needs
+judge-requires c κs =
+    let z = c .before .before .sizes .ensures in
+    (z .left-small, z .right-small)
 
 enum-known-x : tie.Need-enum-known-x
 enum-known-x c = search needs
@@ -15,10 +27,25 @@ enum-known-x c = search needs
 enum-known-k : tie.Need-enum-known-k
 enum-known-k c = search needs
 
-place-both-requires : tie.Need-place-both-requires
-place-both-requires c κs =
-    let given = c .before .before .before .before .before .before .before .before .before .before .before .before .before .before .before .before .before .before .before .before .before .before .before .pre in
-    search (given, needs)
+place-with-text-requires : tie.Need-place-with-text-requires
+place-with-text-requires c κs =
+    let at-k = c .before .before .before in
+    let at-judge = at-k .before .before in
+    let at-sizes = at-judge .before .before .before in
+    let start = at-sizes .before .before .before .before .before .before .before .before .before .before .before .before .before .before in
+    let p = at-sizes .sizes .result in
+    let z = at-sizes .sizes .ensures in
+    (omega (arith, start .pre .6), omega (arith, start .pre .1), few-places-left _ _ (start .pre .4) (start .pre .5) _ _ (start .pre .0) (start .pre .2) p z _ (start .pre .7) _ _ _ (at-judge .judge .ensures) _ _ (at-k .k .given .1), omega (arith, start .pre .8), text-room-left _ _ (start .pre .4) (start .pre .5) _ _ (start .pre .0) (start .pre .2) p z, z .left-small)
+
+place-with-text-requires-2 : tie.Need-place-with-text-requires-2
+place-with-text-requires-2 c κs =
+    let at-k = c .before .before .before .before .before .before .before .before in
+    let at-judge = at-k .before .before in
+    let at-sizes = at-judge .before .before .before in
+    let start = at-sizes .before .before .before .before .before .before .before .before .before .before .before .before .before .before in
+    let p = at-sizes .sizes .result in
+    let z = at-sizes .sizes .ensures in
+    (omega (arith, start .pre .6), omega (arith, start .pre .3), few-places-right _ _ (start .pre .4) (start .pre .5) _ _ (start .pre .0) (start .pre .2) p z _ (start .pre .7) _ _ _ (at-judge .judge .ensures) _ _ (at-k .k .given .1), omega (arith, start .pre .9), text-room-right _ _ (start .pre .4) (start .pre .5) _ _ (start .pre .0) (start .pre .2) p z, z .right-small)
 
 same-length : tie.Need-same-length
 same-length c = search needs
@@ -28,8 +55,10 @@ same-length-2 c = search needs
 
 returns : tie.Need-returns
 returns c =
-    let given = c .before .before .before .before .before .before .before .before .before .before .before .before .before .before .before .before .before .before .before .pre in
-    search (given, transforms-refused)
+    let at-judge = c .before .before .before in
+    let at-sizes = at-judge .before .before .before in
+    let start = at-sizes .before .before .before .before .before .before .before .before .before .before .before .before .before .before in
+    transforms-refused _ _ _ _ (start .pre .4) (start .pre .5) (start .pre .10) (at-sizes .sizes .result) (at-sizes .sizes .ensures) _ (at-judge .judge .ensures) _ (c .before .x .given .1)
 
 same-length-3 : tie.Need-same-length-3
 same-length-3 c = search needs
@@ -45,18 +74,30 @@ same-length-6 c = search needs
 
 returns-2 : tie.Need-returns-2
 returns-2 c =
-    let given = c .before .before .before .before .before .before .before .before .before .before .before .before .before .before .before .before .before .before .before .before .before .before .before .before .before .before .before .before .pre in
-    search (given, transforms-written)
+    let at-place = c .before .before .before .before .before .before .before in
+    let at-k = at-place .before .before .before .before in
+    let at-judge = at-k .before .before in
+    let at-sizes = at-judge .before .before .before in
+    let at-run = at-sizes .before .before .before .before .before in
+    let start = at-run .before .before .before .before .before .before .before .before .before in
+    let p = at-sizes .sizes .result in
+    let z = at-sizes .sizes .ensures in
+    let fl = few-places-left _ _ (start .pre .4) (start .pre .5) _ _ (start .pre .0) (start .pre .2) p z _ (start .pre .7) _ _ _ (at-judge .judge .ensures) _ _ (at-k .k .given .1) in
+    let fr = few-places-right _ _ (start .pre .4) (start .pre .5) _ _ (start .pre .0) (start .pre .2) p z _ (start .pre .7) _ _ _ (at-judge .judge .ensures) _ _ (at-k .k .given .1) in
+    let w = text-placed _ _ (start .pre .4) (start .pre .5) _ _ (start .pre .0) (start .pre .2) p z _ _ _ _ (at-run .run .ensures) fl fr (omega (arith, start .pre .8, at-sizes .before .before .before .before .stage-a)) (omega (arith, start .pre .9, at-sizes .before .before .stage-b)) _ _ _ _ (at-place .place-with-text .ensures) (c .before .before .place-with-text2 .ensures) in
+    transforms-written _ _ _ _ (start .pre .4) (start .pre .5) (start .pre .10) p z _ (at-judge .judge .ensures) _ _ _ _ (at-k .k .given .1) w
 
 pub staged-spec : {M : Type 1} → statement M
 staged-spec =
     tie.close
     (tie.spec
-    stage-both-requires
+    run-requires
+    sizes-requires
     judge-requires
     enum-known-x
     enum-known-k
-    place-both-requires
+    place-with-text-requires
+    place-with-text-requires-2
     same-length
     same-length-2
     returns

@@ -33,29 +33,11 @@ same-length-2 c = search needs
 returns-2 : tie.Need-returns-2
 returns-2 c = search needs
 
-add-text-start : tie.Need-add-text-start
-add-text-start c = search needs
+add-if3 : tie.Need-add-if3
+add-if3 c = search needs
 
-text-start-requires : tie.Need-text-start-requires
-text-start-requires c κs = search needs
-
-text-bytes-requires : tie.Need-text-bytes-requires
-text-bytes-requires c κs = search needs
-
-add-most : tie.Need-add-most
-add-most c = search needs
-
-text-bytes-requires-2 : tie.Need-text-bytes-requires-2
-text-bytes-requires-2 c κs = search needs
-
-add-most-2 : tie.Need-add-most-2
-add-most-2 c = search needs
-
-add-large : tie.Need-add-large
-add-large c = search needs
-
-large-requires-2 : tie.Need-large-requires-2
-large-requires-2 c κs = search needs
+medium-requires : tie.Need-medium-requires
+medium-requires c κs = search needs
 
 same-length-3 : tie.Need-same-length-3
 same-length-3 c = search needs
@@ -66,8 +48,8 @@ same-length-4 c = search needs
 returns-3 : tie.Need-returns-3
 returns-3 c = search needs
 
-medium-requires : tie.Need-medium-requires
-medium-requires c κs = search needs
+small-requires : tie.Need-small-requires
+small-requires c κs = search needs
 
 same-length-5 : tie.Need-same-length-5
 same-length-5 c = search needs
@@ -77,18 +59,6 @@ same-length-6 c = search needs
 
 returns-4 : tie.Need-returns-4
 returns-4 c = search needs
-
-small-requires : tie.Need-small-requires
-small-requires c κs = search needs
-
-same-length-7 : tie.Need-same-length-7
-same-length-7 c = search needs
-
-same-length-8 : tie.Need-same-length-8
-same-length-8 c = search needs
-
-returns-5 : tie.Need-returns-5
-returns-5 c = search needs
 
 pub transformed-spec : {M : Type 1} → statement M
 transformed-spec =
@@ -104,22 +74,12 @@ transformed-spec =
     same-length
     same-length-2
     returns-2
-    add-text-start
-    text-start-requires
-    text-bytes-requires
-    add-most
-    text-bytes-requires-2
-    add-most-2
-    add-large
-    large-requires-2
+    add-if3
+    medium-requires
     same-length-3
     same-length-4
     returns-3
-    medium-requires
+    small-requires
     same-length-5
     same-length-6
-    returns-4
-    small-requires
-    same-length-7
-    same-length-8
-    returns-5)
+    returns-4)
