@@ -1,19 +1,24 @@
 -- The emitter's records and text, at their places in the buffer.
 use Prim.Native.Nat.{ℕ, zero, suc, _+_, _*_, _/_, _%_, _^_, _≤_, _<_}
+use native.Mathlib.Nat.{add-zero}
 use native.Mathlib.Omega.{arith}
 use mathlib.Core.Path.{_≡_, refl, sym, ap, ap₂, _∙_}
+use mathlib.Core.Bool.{Bool, true, false, _&&_}
 use mathlib.Core.List.{List, [], _∷_, _++_, append-nil}
+use lib.Dec.{T, leb, leb→le}
 use lib.ListN.{length, set, length-append, length-set}
+use borrow.Author.Tests.{le-leb, lt-leb}
 use Rattle.utf8.specs.Text.{Char, bytes}
+use Rattle.utf8.proofs.Tests.{known, le-and}
 use Rattle.operation.specs.Op.{Op, retain, insert, delete, size}
 use Rattle.operation.specs.Layout.{kindsStart, countsStart, textStart}
 use Rattle.operation.specs.Record.{Seq, inBytes, code, inserted}
 use Rattle.operation.proofs.Sequences.{inBytes-size}
 use Rattle.operational_transform.specs.declared.core.Emitter.{Emitter}
-use Rattle.operational_transform.specs.Emit.{over, bytes16, one, emitted, flushedRecords, flushedAt, flushed, opens, spilled, Under, kindsOf, countsOf, textsOf, laid, kept, group}
+use Rattle.operational_transform.specs.Emit.{over, bytes16, one, entered, emitted, flushedRecords, flushedAt, flushed, opens, spilled, Under, kindsOf, countsOf, textsOf, laid, kept, group}
 use Rattle.operational_transform.proofs.Meaning.{ifZero-elim}
 use Rattle.operational_transform.proofs.Loops.{empty-bytes}
-use Rattle.operational_transform.proofs.Over.{over-none, over-join, over-swap, put-in, put16-both}
+use Rattle.operational_transform.proofs.Over.{over-none, over-join, over-swap, over-again, put-in, put16-both}
 
 one-none : (c : ℕ) → c ≡ 0 → one c ≡ 0
 one-none c e = ap one e
@@ -22,27 +27,43 @@ one-some : (c : ℕ) → 0 < c → one c ≡ 1
 one-some zero h = absurd (omega arith)
 one-some (suc c) h = refl
 
+one-few : (c : ℕ) → one c ≤ 1
+one-few zero = omega arith
+one-few (suc c) = omega arith
+
+-- ---- `enter`, `emit`
+
 module _ (n k kind c : ℕ) (o : List ℕ) where
+  enter-both : {i j : ℕ} {o₁ o₂ : List ℕ} → i ≡ kindsStart + k → j ≡ countsStart n + 2 * k → o₁ ≡ over i (kind ∷ []) o → o₂ ≡ over j (bytes16 c) o₁ → o₂ ≡ entered n k kind c o
+  enter-both f g p q = q ∙ ap₂ (λ j o. over j (bytes16 c) o) g (p ∙ ap (λ i. over i (kind ∷ []) o) f)
+
+  -- all three bytes have a place
+  pub enter-in : {i j : ℕ} → i ≡ kindsStart + k → j ≡ countsStart n + 2 * k → set (set (set o i kind) j (c % 256)) (j + 1) (c / 256 % 256) ≡ entered n k kind c o
+  enter-in {i} {j} f g = enter-both f g (put-in o i kind) (put16-both j c (set o i kind) (put-in (set o i kind) j (c % 256)) (put-in _ (j + 1) (c / 256 % 256)))
+
+  pub enter-low : {j : ℕ} (i : ℕ) → countsStart n + 2 * k + 1 < length o → j ≡ countsStart n + 2 * k → j < length (set o i kind)
+  enter-low i h g = omega (arith, length-set o i kind)
+
+  pub enter-high : {j : ℕ} (i v : ℕ) → countsStart n + 2 * k + 1 < length o → j ≡ countsStart n + 2 * k → j + 1 < length (set (set o i kind) j v)
+  enter-high {j} i v h g = omega (arith, length-set o i kind, length-set (set o i kind) j v)
+
   emitted-none : c ≡ 0 → emitted n k kind c o ≡ o
   unfolding emitted
   emitted-none e = rw e
 
-  emitted-some : 0 < c → emitted n k kind c o ≡ over (countsStart n + 2 * k) (bytes16 c) (over (kindsStart + k) (kind ∷ []) o)
+  emitted-some : 0 < c → emitted n k kind c o ≡ entered n k kind c o
   unfolding emitted
-  emitted-some h = ifZero-elim (λ q. q ≡ over (countsStart n + 2 * k) (bytes16 c) (over (kindsStart + k) (kind ∷ []) o)) c (λ e. absurd (omega arith)) (λ _. refl)
-
-  -- ---- `emit`
+  emitted-some h = ifZero-elim (λ q. q ≡ entered n k kind c o) c (λ e. absurd (omega arith)) (λ _. refl)
 
   pub emit-none : c ≡ 0 → o ≡ emitted n k kind c o
   emit-none e = sym (emitted-none e)
 
   pub emit-some : {i j : ℕ} {o₁ o₂ : List ℕ} → (c ≡ 0 → ⊥) → i ≡ kindsStart + k → j ≡ countsStart n + 2 * k → o₁ ≡ over i (kind ∷ []) o → o₂ ≡ over j (bytes16 c) o₁
       → o₂ ≡ emitted n k kind c o
-  emit-some z f g p q = q ∙ ap₂ (λ j o. over j (bytes16 c) o) g (p ∙ ap (λ i. over i (kind ∷ []) o) f) ∙ sym (emitted-some (omega arith))
+  emit-some z f g p q = enter-both f g p q ∙ sym (emitted-some (omega arith))
 
-  -- all three bytes have a place
   pub emit-in : {i j : ℕ} → (c ≡ 0 → ⊥) → i ≡ kindsStart + k → j ≡ countsStart n + 2 * k → set (set (set o i kind) j (c % 256)) (j + 1) (c / 256 % 256) ≡ emitted n k kind c o
-  emit-in {i} {j} z f g = emit-some z f g (put-in o i kind) (put16-both j c (set o i kind) (put-in (set o i kind) j (c % 256)) (put-in _ (j + 1) (c / 256 % 256)))
+  emit-in z f g = enter-in f g ∙ sym (emitted-some (omega arith))
 
 pub set-inside : (o : List ℕ) (i v j : ℕ) → j + 1 < length o → j < length (set o i v)
 set-inside o i v j h = omega (arith, length-set o i v)
@@ -64,9 +85,64 @@ module _ (records ins del ret : ℕ) {x y : ℕ} (p : x ≡ records + one ins) (
   unfolding flushedAt
   flush-all n o f g h = simp (h, g, f, q, p)
 
-one-few : (c : ℕ) → one c ≤ 1
-one-few zero = omega arith
-one-few (suc c) = omega arith
+-- ---- `close`
+
+-- a record over another at the same place
+enter-again : (n k i c j d : ℕ) (o : List ℕ) → k < n → entered n k i c (entered n k j d o) ≡ entered n k i c o
+enter-again n k i c j d o h =
+    let p = kindsStart + k in
+    let q = countsStart n + 2 * k in
+    ap (over q (bytes16 c)) (sym (over-swap p q (i ∷ []) (bytes16 d) (over p (j ∷ []) o) (omega arith)) ∙ ap (over q (bytes16 d)) (over-again p (i ∷ []) (j ∷ []) o refl))
+    ∙ over-again q (bytes16 c) (bytes16 d) (over p (i ∷ []) o) refl
+
+-- so where another follows, a record of count 0 may be written, too
+enter-next : (n k i c j d : ℕ) (o : List ℕ) → k < n → entered n (k + one c) j d (entered n k i c o) ≡ entered n (k + one c) j d (emitted n k i c o)
+unfolding emitted
+enter-next n k i zero j d o h = rw (add-zero k) (enter-again n k j d i 0 o h)
+enter-next n k i (suc c) j d o h = refl
+
+pub close-count : (records ins del ret : ℕ) {x y : ℕ} → 0 < ret → x ≡ one ins → y ≡ one del → records + x + y + 1 ≡ records + one ins + one del + one ret
+close-count records ins del ret r p q = simp (p, q, one-some ret r)
+
+pub close-all : (n records ins del ret : ℕ) (o : List ℕ) {x y : ℕ} {o₁ o₂ o₃ : List ℕ} → 0 < ret → records + 2 < n → x ≡ one ins → y ≡ one del
+    → o₁ ≡ entered n records 2 ins o → o₂ ≡ entered n (records + x) 3 del o₁ → o₃ ≡ entered n (records + x + y) 1 ret o₂ → o₃ ≡ flushedAt n records ins del ret o
+unfolding flushedAt
+close-all n records ins del ret o r h p q f g k =
+    let x = records + one ins in
+    let u = emitted n records 2 ins o in
+    let v = g ∙ ap₂ (λ i l. entered n (records + i) 3 del l) p f ∙ enter-next n records 2 ins 3 del o (omega arith) in
+    k
+    ∙ (λ i. entered n (records + p i + q i) 1 ret (v i))
+    ∙ enter-next n x 3 del 1 ret u (omega (arith, one-few ins))
+    ∙ sym (emitted-some n (x + one del) 1 ret (emitted n x 3 del u) r)
+
+-- ---- `fits`
+
+module _ (room n records ret : ℕ) where
+  abbrev fitting : Bool
+  fitting = leb 1 ret && (leb (records + 3) n && leb (countsStart n + 2 * records + 6) room)
+
+  pub fits-none : ret ≡ 0 → false ≡ fitting
+  fits-none h = rw h
+
+  pub fits-over : (ret ≡ 0 → ⊥) → n ≤ records + 2 → false ≡ fitting
+  fits-over h g = rw (le-leb 1 ret (omega arith), lt-leb (records + 3) n (omega arith))
+
+  pub fits-room : (x : ℕ) → (ret ≡ 0 → ⊥) → records + 2 < n → x ≡ countsStart n + 2 * records → leb (x + 6) room ≡ fitting
+  fits-room x h g p = rw (le-leb 1 ret (omega arith), le-leb (records + 3) n (omega arith), p)
+
+  module _ (v : Bool) (p : v ≡ fitting) (y : v ≡ true) where
+    fitted : (1 ≤ ret) × T (leb (records + 3) n && leb (countsStart n + 2 * records + 6) room)
+    fitted = le-and 1 ret _ .0 (known (sym p ∙ y))
+
+    pub fits-ret : 0 < ret
+    fits-ret = fitted .0
+
+    pub fits-few : records + 2 < n
+    fits-few = omega (arith, le-and (records + 3) n _ .0 (fitted .1) .0)
+
+    pub fits-three : countsStart n + 2 * records + 5 < room
+    fits-three = omega (arith, leb→le (countsStart n + 2 * records + 6) room (le-and (records + 3) n _ .0 (fitted .1) .1))
 
 pub flushed-few : (e : Emitter) → flushedRecords e ≤ e .records + 3
 flushed-few e = omega (arith, one-few (e .ins), one-few (e .del), one-few (e .ret))
@@ -131,8 +207,7 @@ length-counts (o ∷ r) = omega (arith, length-append (countsOf r) (bytes16 (siz
 
 module _ (n : ℕ) (s : Seq) (t out : List ℕ) where
   -- one record more
-  lay-record : (o : Op Char) → length s < n
-      → over (countsStart n + 2 * length s) (bytes16 (size (inBytes o))) (over (kindsStart + length s) (code (inBytes o) ∷ []) (laid n s t out)) ≡ laid n (o ∷ s) t out
+  pub lay-record : (o : Op Char) → length s < n → entered n (length s) (code (inBytes o)) (size (inBytes o)) (laid n s t out) ≡ laid n (o ∷ s) t out
   unfolding laid kindsOf countsOf
   lay-record o h =
       let k = code (inBytes o) ∷ [] in

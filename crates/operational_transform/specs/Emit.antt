@@ -1,7 +1,7 @@
 -- The emitter: the builders' sequence, written as a record while it is built. Only contracts of `core` cite this.
 use Prim.Native.Nat.{ℕ, zero, suc, _+_, _*_, _/_, _%_, _^_, _≤_}
 use mathlib.Core.Path.{_≡_}
-use mathlib.Core.Bool.{Bool, true, false, cond, _&&_}
+use mathlib.Core.Bool.{Bool, cond, _&&_}
 use mathlib.Core.List.{List, [], _∷_, _++_, map, reverse}
 use lib.Dec.{leb}
 use lib.ListN.{length, take, drop}
@@ -43,10 +43,14 @@ bytes16 v = v % 256 ∷ v / 256 % 256 ∷ []
 abbrev pub one : ℕ → ℕ
 one c = ifZero c 0 1
 
+-- kind and count of record k of n
+abbrev pub entered : ℕ → ℕ → ℕ → ℕ → List ℕ → List ℕ
+entered n k kind c o = over (countsStart n + 2 * k) (bytes16 c) (over (kindsStart + k) (kind ∷ []) o)
+
 -- a record is written where its count is not 0
 unfoldable pub emitted : ℕ → ℕ → ℕ → ℕ → List ℕ → List ℕ
 unfolding over
-emitted n k kind c o = ifZero c o (over (countsStart n + 2 * k) (bytes16 c) (over (kindsStart + k) (kind ∷ []) o))
+emitted n k kind c o = ifZero c o (entered n k kind c o)
 
 -- how many records there are once the group is flushed, and the buffer then
 abbrev pub flushedRecords : Emitter → ℕ

@@ -10,16 +10,16 @@ use operation::core::Front;
 ghost use mathlib.Core.Path.{_≡_};
 ghost use mathlib.Core.Bool.{_&&_};
 ghost use mathlib.Core.List.{[], _∷_};
-ghost use Prim.Native.Nat.{_+_, _-_, _^_, _≤_, _<_, min};
+ghost use Prim.Native.Nat.{_+_, _-_, _*_, _^_, _≤_, _<_, min};
 ghost use lib.Dec.{T, leb};
 ghost use lib.ListN.{length, take, drop};
 ghost use Rattle.utf8.specs.Form.{wellFormed};
 ghost use Rattle.utf8.specs.Chars.{numChars};
 ghost use Rattle.utf8.specs.Text.{chars};
-ghost use Rattle.operation.specs.Layout.{textStart};
+ghost use Rattle.operation.specs.Layout.{countsStart, textStart};
 ghost use Rattle.operation.specs.Op.{insert, delete, cut};
 ghost use Rattle.operation.specs.Front.{frontOp, Stands, Cut};
-ghost use Rattle.operational_transform.specs.Emit.{over, bytes16, one, emitted, flushedAt, opens, spilled, insertedBy, deletedBy, Under, nothing, Adds, Retains, Finishes, headed, within, sizeIn, judged, settledRecords, settled};
+ghost use Rattle.operational_transform.specs.Emit.{over, bytes16, one, entered, emitted, flushedAt, opens, spilled, insertedBy, deletedBy, Under, nothing, Adds, Retains, Finishes, headed, within, sizeIn, judged, settledRecords, settled};
 
 pub struct Emitter {
     // the pending group: bytes of the insert, characters of the delete and of the retain
@@ -95,7 +95,8 @@ pub fn start() -> Emitter
     }
 }
 
-// One record, unless its count is 0: the number of records afterwards.
+// One record, unless its count is 0: the number of records afterwards. (Its bytes are written out: with `enter` here the compiler no
+// longer inlines `part`.)
 fn emit(out: &mut [u8], n: usize, records: usize, kind: u8, count: usize) -> usize
     requires { ⌜ (n ≤ 2 ^ 41) × (records ≤ 2 ^ 41) ⌝ }
     ensures { λ r. ⌜ (r ≡ records + one count) × (r ≤ records + 1) × (now (out .exit) ≡ emitted n records kind count (now (out .entry))) ⌝ }
@@ -116,11 +117,52 @@ fn emit(out: &mut [u8], n: usize, records: usize, kind: u8, count: usize) -> usi
     records + 1
 }
 
+// Kind and count of record k of n, which have their places in the buffer.
+pub fn enter(out: &mut [u8], n: usize, k: usize, kind: u8, count: usize)
+    requires { ⌜ (n ≤ 2 ^ 41) × (k ≤ 2 ^ 41) × (countsStart n + 2 * k + 1 < length (now out)) ⌝ }
+    ensures { λ _. ⌜ now (out .exit) ≡ entered n k kind count (now (out .entry)) ⌝ }
+{
+    let at = operation::core::count_place(n, k);
+    out[operation::core::kind_place(k)] = kind;
+    out[at] = (count % 256) as u8;
+    out[at + 1] = (count / 256 % 256) as u8;
+}
+
+// Whether a group ends with a retain, and three records have their places.
+fn fits(room: usize, n: usize, records: usize, ret: usize) -> bool
+    requires { ⌜ (n ≤ 2 ^ 40) × (records ≤ 2 ^ 40) ⌝ }
+    ensures { λ r. ⌜ r ≡ (leb 1 ret && (leb (records + 3) n && leb (countsStart n + 2 * records + 6) room)) ⌝ }
+{
+    if ret == 0 {
+        return false;
+    }
+    if n <= records + 2 {
+        return false;
+    }
+    operation::core::count_place(n, records) + 6 <= room
+}
+
+// `flush` for such a group. No count is asked about: a record of count 0 is written, too, and the next one over it.
+fn close(out: &mut [u8], n: usize, records: usize, ins: usize, del: usize, ret: usize) -> usize
+    requires { ⌜ (n ≤ 2 ^ 40) × (records ≤ 2 ^ 40) × (0 < ret) × (records + 2 < n) × (countsStart n + 2 * records + 5 < length (now out)) ⌝ }
+    ensures { λ r. ⌜ (r ≡ records + one ins + one del + one ret) × (r ≤ records + 3) × (now (out .exit) ≡ flushedAt n records ins del ret (now (out .entry))) ⌝ }
+{
+    enter(out, n, records, 2, ins);
+    let x = records + some(ins);
+    enter(out, n, x, 3, del);
+    let y = x + some(del);
+    enter(out, n, y, 1, ret);
+    y + 1
+}
+
 // A group's records, by numbers: a struct would go through memory. The number of records afterwards.
 pub fn flush(out: &mut [u8], n: usize, records: usize, ins: usize, del: usize, ret: usize) -> usize
     requires { ⌜ (n ≤ 2 ^ 40) × (records ≤ 2 ^ 40) ⌝ }
     ensures { λ r. ⌜ (r ≡ records + one ins + one del + one ret) × (r ≤ records + 3) × (now (out .exit) ≡ flushedAt n records ins del ret (now (out .entry))) ⌝ }
 {
+    if fits(out.len(), n, records, ret) {
+        return close(out, n, records, ins, del, ret);
+    }
     let x = emit(out, n, records, 2, ins);
     let y = emit(out, n, x, 3, del);
     emit(out, n, y, 1, ret)
@@ -134,6 +176,18 @@ pub fn spill(out: &mut [u8], n: usize, e: Emitter)
     if 0 < e.ret {
         flush(out, n, e.records, e.ins, e.del, e.ret);
     }
+}
+
+// The same, by `close` where it can. (With it in `part`, too, compose would be slower.)
+fn spill_close(out: &mut [u8], n: usize, e: Emitter)
+    requires { ⌜ (n ≤ 2 ^ 40) × Under (2 ^ 40) e ⌝ }
+    ensures { λ _. ⌜ now (out .exit) ≡ spilled n e (now (out .entry)) ⌝ }
+{
+    if fits(out.len(), n, e.records, e.ret) {
+        close(out, n, e.records, e.ins, e.del, e.ret);
+        return;
+    }
+    spill(out, n, e);
 }
 
 fn some(c: usize) -> usize
@@ -285,7 +339,7 @@ pub fn mark(
     if kind == 1 {
         return retain(e, k);
     }
-    spill(out, n, e);
+    spill_close(out, n, e);
     if kind == 2 {
         return inserted(e, mid - f.from, k);
     }

@@ -9,8 +9,8 @@ retain-requires c κs = search needs
 returns : tie.Need-returns
 returns c = search part-retain
 
-spill-requires : tie.Need-spill-requires
-spill-requires c κs = search needs
+spill-close-requires : tie.Need-spill-close-requires
+spill-close-requires c κs = search needs
 
 sub-inserted : tie.Need-sub-inserted
 sub-inserted c = search needs
@@ -39,7 +39,7 @@ mark-spec =
     (tie.spec
     retain-requires
     returns
-    spill-requires
+    spill-close-requires
     sub-inserted
     inserted-requires
     same-length
