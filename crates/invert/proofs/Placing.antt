@@ -1,12 +1,11 @@
 -- Each record written to its place at once.
-use Prim.Native.Nat.{ℕ, zero, suc, _+_, _-_, _*_, _/_, _%_, _≤_, _<_, zero-le}
-use native.Mathlib.Nat.{add-zero}
+use Prim.Native.Nat.{ℕ, suc, _+_, _-_, _*_, _≤_, _<_, zero-le}
 use native.Mathlib.Omega.{arith}
-use mathlib.Core.Path.{_≡_, refl, sym, ap, ap₂, _∙_}
+use mathlib.Core.Path.{_≡_, refl, sym, ap, _∙_}
 use mathlib.Core.Bool.{Bool, true, false, cond}
 use mathlib.Core.List.{List, [], _∷_, _++_, map, reverse, reverse-reverse, append-nil}
 use lib.Dec.{T, leb, eqb}
-use lib.ListN.{length, take, drop, set, length-append, length-drop}
+use lib.ListN.{length, take, drop, length-append, length-drop, length-reverse}
 use lib.Seq.{length-take-le}
 use borrow.Author.Tests.{le-leb, lt-leb, eqb-true, eqb-false, leb-true, leb-false}
 use Rattle.utf8.specs.Form.{wellFormed}
@@ -22,7 +21,7 @@ use Rattle.operation.specs.Layout.{recordsOf, baseOf, targetOf, kindsStart, cou
 use Rattle.operation.specs.Record.{Seq, inBytes, inChars, code, inserted, text, ops, recordFault}
 use Rattle.operation.specs.Front.{opsLeft, Place}
 use Rattle.operation.proofs.Links.{Links, built-links, links-built}
-use Rattle.operation.proofs.Sequences.{inBytes-size, fits-limits}
+use Rattle.operation.proofs.Sequences.{fits-limits}
 use Rattle.operation.proofs.Records.{ops-length, ops-base, ops-target, ops-good}
 use Rattle.operation.proofs.Walks.{left-retain, left-insert, sound-next}
 use Rattle.operation.proofs.Fronts.{place-start, ops-start, Begins, begins-none, begins-retain, begins-delete, load-room, begins-well, begins-insert}
@@ -31,23 +30,18 @@ use Rattle.operational_transform.specs.declared.core.Emitter.{Emitter}
 use Rattle.operational_transform.specs.Build.{put, add, addAll, build}
 use Rattle.operational_transform.specs.Invert.{undo, undoAll, invert}
 use Rattle.operational_transform.specs.Calls.{deliver}
-use Rattle.operational_transform.specs.Emit.{over, bytes16, emitted, flushedAt, textsOf, laid}
+use Rattle.operational_transform.specs.Emit.{over, bytes16, entered, textsOf, laid}
 use Rattle.operational_transform.specs.Given.{Gives}
 use Rattle.operational_transform.proofs.Meaning.{ifZero-elim}
-use Rattle.operational_transform.proofs.Over.{over-nil, over-swap, put-in, put16-both}
-use Rattle.operational_transform.proofs.Emitting.{emit-some, count-some, lay-group, lay-text}
+use Rattle.operational_transform.proofs.Over.{over-nil, over-swap}
+use Rattle.operational_transform.proofs.Emitting.{lay-record, lay-text}
 use Rattle.operational_transform.proofs.Delivering.{text-ahead}
 use Rattle.invert.specs.declared.State.{State}
-use Rattle.invert.specs.Inverting.{entered, deleteBehind, Restores, restored, Reached, apart, Undone, Undoes}
+use Rattle.invert.specs.Inverting.{deleteBehind, Restores, restored, Reached, apart, Undone, Undoes}
 use Rattle.invert.proofs.Passing.{part-wide}
-use Rattle.invert.proofs.Inverses.{undo-size, invert-base, invert-target, enough as enough-chars, inverse-length, inverse-text, straight-gives}
+use Rattle.invert.proofs.Inverses.{invert-base, invert-target, enough as enough-chars, inverse-text, straight-gives}
 
--- ---- `entry`, `restore`, `delete_follows`
-
-pub enters : (n k kind c : ℕ) (o : List ℕ) {i j : ℕ} → i ≡ kindsStart + k → j ≡ countsStart n + 2 * k → set (set (set o i kind) j (c % 256)) (j + 1) (c / 256 % 256) ≡ entered n k kind c o
-enters n k kind c o {i} {j} f g =
-    put16-both j c (set o i kind) (put-in (set o i kind) j (c % 256)) (put-in _ (j + 1) (c / 256 % 256))
-    ∙ ap₂ (λ j o. over j (bytes16 c) o) g (put-in o i kind ∙ ap (λ i. over i (kind ∷ []) o) f)
+-- ---- `restore`, `delete_follows`
 
 pub restores : (n : ℕ) (t : List ℕ) (k at put count to : ℕ) (o : List ℕ) {o₁ o′ : List ℕ} → Passes t at count to → o₁ ≡ entered n k 2 (to - at) o → o′ ≡ over put (take (to - at) (drop at t)) o₁ → Restores n t k at put count o to o′
 restores n t k at put count to o p q w = record { passes = p; wrote = w ∙ ap (over put (take (to - at) (drop at t))) q }
@@ -80,6 +74,12 @@ add-some : (o : Op Char) (r : Seq) → 0 < size o → add r o ≡ put o r
 unfolding add
 add-some o r h = ifZero-elim (λ u. u ≡ put o r) (size o) (λ e. absurd (omega arith)) (λ _. refl)
 
+-- nothing runs out, so what undoes an operation has its size
+undo-size : (o : Op Char) (t : List Char) → takes o ≤ length t → size (undo o t) ≡ size o
+undo-size (retain n) t h = refl
+undo-size (insert s) t h = refl
+undo-size (delete n) t h = length-take-le n t h
+
 add-apart : (o : Op Char) (t : List Char) (r s : Seq) → 0 < size o → takes o ≤ length t → T (apart r (o ∷ s)) → add r (undo o t) ≡ undo o t ∷ r
 add-apart o t r s f l h = add-some (undo o t) r (omega (arith, undo-size o t l)) ∙ put-apart o t r s h
 
@@ -100,30 +100,12 @@ add-pair y m t r s f p l h =
 
 -- ---- one record more at its place
 
-module _ (n : ℕ) (s : Seq) (t out : List ℕ) (h : length s < n) where
-  -- an emitter that holds this operation alone
-  abbrev pending : ℕ → ℕ → ℕ → Emitter
-  pending i d r = record { ins = i; del = d; ret = r; records = length s; text = 0; base = 0; target = 0 }
-
-  lay-one : (o : Op Char) → 0 < size o → entered n (length s) (code (inBytes o)) (size (inBytes o)) (laid n s t out) ≡ laid n (o ∷ s) t out
-  unfolding flushedAt emitted inBytes bytes
-  lay-one (retain zero) p = absurd (omega arith)
-  lay-one (retain (suc m)) p = rw (add-zero (length s), add-zero (length s)) at (lay-group (pending 0 0 (suc m)) [] s refl refl n t out (laid n s t out) (omega arith) refl)
-  lay-one (insert []) p = absurd (omega arith)
-  lay-one (insert (c ∷ x)) p =
-      let l = length (bytes (c ∷ x)) in
-      let z : l ≡ 0 → ⊥ = λ e. absurd (omega (arith, inBytes-size (insert (c ∷ x)) p)) in
-      emit-some n (length s) 2 l (laid n s t out) z refl refl refl refl
-      ∙ lay-group (pending l 0 0) (c ∷ x) s refl refl n t out (laid n s t out) (omega (arith, count-some (length s) l z)) refl
-  lay-one (delete zero) p = absurd (omega arith)
-  lay-one (delete (suc m)) p = rw (add-zero (length s)) at (lay-group (pending 0 (suc m) 0) [] s refl refl n t out (laid n s t out) (omega arith) refl)
-
--- and its text behind the text
-lay-all : (n : ℕ) (s : Seq) (out : List ℕ) → length s < n → (o : Op Char) → 0 < size o
+-- with its text behind the text
+lay-all : (n : ℕ) (s : Seq) (out : List ℕ) → length s < n → (o : Op Char)
     → over (textStart n + length (textsOf s)) (inserted (inBytes o)) (entered n (length s) (code (inBytes o)) (size (inBytes o)) (laid n s (textsOf s) out)) ≡ laid n (o ∷ s) (textsOf (o ∷ s)) out
 unfolding textsOf
-lay-all n s out h o p =
-    ap (over (textStart n + length (textsOf s)) (inserted (inBytes o))) (lay-one n s (textsOf s) out h o p) ∙ lay-text n (o ∷ s) (textsOf s) out (inserted (inBytes o)) h
+lay-all n s out h o =
+    ap (over (textStart n + length (textsOf s)) (inserted (inBytes o))) (lay-record n s (textsOf s) out o h) ∙ lay-text n (o ∷ s) (textsOf s) out (inserted (inBytes o)) h
 
 -- two records in either order
 swap : (n k i c j d : ℕ) (o : List ℕ) → k + 1 < n → entered n k i c (entered n (k + 1) j d o) ≡ entered n (k + 1) j d (entered n k i c o)
@@ -220,7 +202,6 @@ module _ {n : ℕ} {r t o₀ : List ℕ} {s : State} {o : List ℕ} (g : Undone 
   one-more h end put o′ e a m few w =
       let l = links (g .reached) b in
       let takes-few : takes p ≤ length x = omega (arith, enough (g .reached) b) in
-      let some : 0 < size y = omega (arith, undo-size p x takes-few, l .0) in
       let added : add (g .held) y ≡ y ∷ g .held = add-apart p x (g .held) q (l .0) takes-few loose in
       record {
         reached = record {
@@ -243,7 +224,7 @@ module _ {n : ℕ} {r t o₀ : List ℕ} {s : State} {o : List ℕ} (g : Undone 
         wrote =
             w
             ∙ (λ i. over (g .texts i) (inserted (inBytes y)) (entered n (sym (g .many) i) (code (inBytes y)) (size (inBytes y)) (g .wrote i)))
-            ∙ lay-all n (g .held) o₀ (omega (arith, g .many)) y some;
+            ∙ lay-all n (g .held) o₀ (omega (arith, g .many)) y;
       }
 
 -- an insert, and the delete behind it
@@ -302,9 +283,9 @@ module _ {n : ℕ} {r t o₀ : List ℕ} {s : State} {o : List ℕ} (g : Undone 
             ∙ (λ i. lay (entered n (length old) 2 (length (bytes z)) (entered n (sym (g .many) i + 1) 3 l (g .wrote i))))
             ∙ ap lay
             (swap n (length old) 2 (length (bytes z)) 3 l (laid n old texts o₀) (omega (arith, g .many))
-            ∙ ap (entered n (length old + 1) 3 l) (lay-one n old texts o₀ (omega (arith, g .many)) (insert z) (omega (arith, second .0, length-take-le m x few)))
+            ∙ ap (entered n (length old + 1) 3 l) (lay-record n old texts o₀ (insert z) (omega (arith, g .many)))
             ∙ ap (λ k. entered n k 3 l (laid n (insert z ∷ old) texts o₀)) up
-            ∙ lay-one n (insert z ∷ old) texts o₀ (omega (arith, g .many)) (delete l) (first .0))
+            ∙ lay-record n (insert z ∷ old) texts o₀ (delete l) (omega (arith, g .many)))
             ∙ lay-text n new texts o₀ (bytes z) (omega (arith, g .many))
             ∙ ap (λ u. laid n new u o₀) (sym (append-nil (texts ++ bytes z)));
       }
@@ -390,11 +371,14 @@ module _ (n : ℕ) (r t : List ℕ) (s : State) (g : Reached n r t s) (e : n ≡
         }
 
     module _ (y : v ≡ true) where
-      pub more-follow : s .k + 1 < n
+      more-follow : s .k + 1 < n
       more-follow = found r n (s .k) (sym f ∙ y) .0
 
       pub next-in : s .k + 1 < recordsOf r
       next-in = rw (← e) more-follow
+
+      pub next-room : textStart n ≤ length o → countsStart n + 2 * (s .k + 1) + 1 < length o
+      next-room i = omega (arith, more-follow)
 
       pub undoes-pair : (more : ℕ) → more ≡ countAt r (s .k + 1) → more < 65536 → (o₁ : List ℕ) → o₁ ≡ entered n (s .k + 1) 3 num o → (to : ℕ) (o′ : List ℕ) → Restores n t (s .k) (s .at) (s .put) more o₁ to o′
           → Undoes n r t s o (record { k = s .k + 2; from = s .from + count; at = to; put = s .put + (to - s .at) }) o′
@@ -443,6 +427,10 @@ module _ (n : ℕ) (r t : List ℕ) (z : recordFault r ≡ 0) (e : n ≡ records
   unfolding invert build addAll
   is-held = ap reverse (sym (ap (λ q. addAll (g .held) (undoAll q (chars (drop (s .at) t)))) (sym (begins-none r n (s .k) (s .from) e h)) ∙ g .all))
 
+  -- as many operations as the record has
+  undone-length : length (invert (ops r) (chars t)) ≡ n
+  undone-length = ap length is-held ∙ length-reverse (g .held) ∙ omega (arith, g .many, g .reached .place .index)
+
   has-text : s .put - start ≡ length (text (map inBytes (invert (ops r) (chars t))))
   has-text = let p : s .put - start ≡ length (textsOf (g .held)) = omega (arith, g .texts) in p ∙ ap length (sym (text-ahead (g .held))) ∙ ap (λ u. length (text (map inBytes u))) (sym is-held)
 
@@ -451,14 +439,14 @@ module _ (n : ℕ) (r t : List ℕ) (z : recordFault r ≡ 0) (e : n ≡ records
   undone-gives after before pa pb {o₂} {o₃} {o₄} {o′} w₀ w₂ w₄ w₆ =
       let f = fits-limits (ops r) .0 (ops-good r z .in-limits) in
       let sizes : Emitter = record { ins = 0; del = 0; ret = 0; records = n; text = s .put - start; base = after; target = before } in
-      straight-gives r t z w num c b l n e o room o′ (s .put) (omega (arith, has-text, g .texts))
+      straight-gives r t z w num c b l n e undone-length o room o′ (s .put) (omega (arith, has-text, g .texts))
       (record {
         emitter = sizes;
         before = o₁;
         done = record {
           small = omega (arith, f .records, f .bases, f .targets, ops-length r z, ops-base r z, ops-target r z, has-text, inverse-text r t z w num c b);
           sizes = record {
-            records = e ∙ sym (inverse-length r t z w num c b);
+            records = sym undone-length;
             text-bytes = has-text;
             base-is = pa ∙ sym (ops-target r z) ∙ sym (invert-base (ops r) (chars t));
             target-is = pb ∙ sym (ops-base r z) ∙ sym (invert-target (ops r) (chars t) (enough-chars r t z w num c b));

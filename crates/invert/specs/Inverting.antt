@@ -1,5 +1,5 @@
 -- What the functions below `invert` promise each other. No entry's contract cites this.
-use Prim.Native.Nat.{ℕ, _+_, _-_, _*_, _≤_, _<_}
+use Prim.Native.Nat.{ℕ, _+_, _-_, _≤_, _<_}
 use mathlib.Core.Path.{_≡_}
 use mathlib.Core.Bool.{Bool, true, false, cond}
 use mathlib.Core.List.{List, [], _∷_}
@@ -11,12 +11,12 @@ use Rattle.utf8.specs.Places.{Passes}
 use Rattle.operation.specs.declared.core.Front.{Front}
 use Rattle.operation.specs.Op.{Op, retain, insert, delete, base}
 use Rattle.operation.specs.Built.{next, Built}
-use Rattle.operation.specs.Layout.{kindsStart, countsStart, textStart, kindAt}
+use Rattle.operation.specs.Layout.{textStart, kindAt}
 use Rattle.operation.specs.Record.{Seq, ops}
 use Rattle.operation.specs.Front.{opsLeft, Place}
 use Rattle.operational_transform.specs.Build.{addAll}
 use Rattle.operational_transform.specs.Invert.{undoAll}
-use Rattle.operational_transform.specs.Emit.{over, bytes16, textsOf, laid}
+use Rattle.operational_transform.specs.Emit.{over, entered, textsOf, laid}
 use Rattle.invert.specs.declared.State.{State}
 
 -- how many characters the front's operation takes from the text, and what undoes it where the text goes on with `t`
@@ -31,10 +31,6 @@ abbrev pub lastRetain : Front → ℕ → Bool
 lastRetain f records = cond (eqb (f .kind) 1) (leb records (f .next)) false
 
 -- ---- each record at its place at once
-
--- kind and count of record k of n
-abbrev pub entered : ℕ → ℕ → ℕ → ℕ → List ℕ → List ℕ
-entered n k kind c o = over (countsStart n + 2 * k) (bytes16 c) (over (kindsStart + k) (kind ∷ []) o)
 
 -- a delete stands behind record k of n
 abbrev pub deleteBehind : List ℕ → ℕ → ℕ → Bool

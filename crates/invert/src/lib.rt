@@ -19,9 +19,9 @@ ghost use Rattle.operation.specs.Layout.{recordsOf, baseOf, textStart, kindAt, 
 ghost use Rattle.operation.specs.Record.{ops, recordFault};
 ghost use Rattle.operational_transform.specs.Invert.{invert as invertOf};
 ghost use Rattle.operational_transform.specs.Calls.{deliver, invertCall};
-ghost use Rattle.operational_transform.specs.Emit.{writtenOf, Under, Adds, Done, Writes, Staged};
+ghost use Rattle.operational_transform.specs.Emit.{writtenOf, Under, Adds, Done, Writes};
 ghost use Rattle.operational_transform.specs.Given.{Gives};
-ghost use Rattle.invert.specs.Inverting.{taken, undone, lastRetain, entered, deleteBehind, restored, Restores, Reached, Undoes};
+ghost use Rattle.invert.specs.Inverting.{taken, undone, lastRetain, deleteBehind, restored, Restores, Reached, Undoes};
 
 // The place k characters behind `at`, or the end where they run out. The text has `chars` characters: where that is its length in
 // bytes each is one byte.
@@ -145,18 +145,6 @@ struct State {
     put: usize,
 }
 
-// Kind and count of record k of n.
-fn entry(out: &mut [u8], n: usize, k: usize, kind: u8, count: usize)
-    requires { ⌜ (n ≤ 1024) × (k < n) × (textStart n ≤ length (now out)) ⌝ }
-    ensures { λ _. ⌜ now (out .exit) ≡ entered n k kind count (now (out .entry)) ⌝ }
-{
-    let p = operation::core::kind_place(k);
-    let at = operation::core::count_place(n, k);
-    out[p] = kind;
-    out[at] = (count % 256) as u8;
-    out[at + 1] = (count / 256 % 256) as u8;
-}
-
 // Record k inserts again what a delete took: `count` characters from `at` on. The place behind them.
 fn restore(
     text: &[u8],
@@ -172,7 +160,7 @@ fn restore(
     ensures { λ to. ⌜ Restores n (now (text .entry)) k at put count (now (out .entry)) to (now (out .exit)) ⌝ }
 {
     let to = behind(text, chars, at, count);
-    entry(out, n, k, 2, to - at);
+    operational_transform::core::enter(out, n, k, 2, to - at);
     operational_transform::core::copy(out, put, text, at, to);
     to
 }
@@ -220,7 +208,7 @@ fn undo_insert(
     if delete_follows(rec, n, k) {
         let next = k + 1;
         let more = operation::core::count(rec, n, next);
-        entry(out, n, next, 3, num);
+        operational_transform::core::enter(out, n, next, 3, num);
         let to = restore(text, chars, out, n, k, s.at, s.put, more);
         return State {
             k: k + 2,
@@ -229,7 +217,7 @@ fn undo_insert(
             put: s.put + (to - s.at),
         };
     }
-    entry(out, n, k, 3, num);
+    operational_transform::core::enter(out, n, k, 3, num);
     State {
         k: k + 1,
         from: s.from + count,
@@ -246,7 +234,7 @@ fn undo(rec: &[u8], n: usize, text: &[u8], chars: usize, out: &mut [u8], s: Stat
     let kind = operation::core::kind(rec, s.k);
     let count = operation::core::count(rec, n, s.k);
     if kind == 1 {
-        entry(out, n, s.k, 1, count);
+        operational_transform::core::enter(out, n, s.k, 1, count);
         if s.k + 1 == n {
             return State {
                 k: s.k + 1,
@@ -292,80 +280,19 @@ fn straight(rec: &[u8], records: usize, text: &[u8], chars: usize, out: &mut [u8
     Written::Bytes(s.put)
 }
 
-// From a stage, if all of the result has a place there; else by a run of its own.
-fn place(
-    rec: &[u8],
-    records: usize,
-    text: &[u8],
-    chars: usize,
-    stage: &[u8],
-    e: Emitter,
-    out: &mut [u8],
-)
-    requires { ⌜ (recordFault (now rec) ≡ 0) × (records ≡ recordsOf (now rec)) × (records ≤ 1024) × T (wellFormed (now text)) × (chars ≡ numChars (now text)) × Under (2 ^ 40) e × Staged records (invertOf (ops (now rec)) (charsOf (now text))) e (now stage) ⌝ }
-    ensures { λ _. ⌜ Writes (e .records) (invertOf (ops (now (rec .entry))) (charsOf (now (text .entry)))) (now (out .entry)) (now (out .exit)) ⌝ }
-{
-    if !operational_transform::core::has_place(e, records, stage.len()) {
-        write(rec, records, text, chars, out, e.records);
-        return;
-    }
-    operational_transform::core::settle(out, e.records, stage, records, e.records, e.text);
-    operational_transform::core::header(out, e);
-}
-
-// Written to a stage, judged, and moved to the output. The result has no more records than the record.
-fn staged(
-    rec: &[u8],
-    records: usize,
-    text: &[u8],
-    chars: usize,
-    stage: &mut [u8],
-    out: &mut [u8],
-) -> Written
+// Else a first run yields the sizes and writes nothing.
+fn twice(rec: &[u8], records: usize, text: &[u8], chars: usize, out: &mut [u8]) -> Written
     requires { ⌜ (recordFault (now rec) ≡ 0) × (records ≡ recordsOf (now rec)) × (records ≤ 1024) × T (wellFormed (now text)) × (chars ≡ numChars (now text)) ⌝ }
     ensures { λ r. ⌜ Gives (deliver 0 (invertOf (ops (now (rec .entry))) (charsOf (now (text .entry)))) (now (out .entry))) r (now (out .exit)) ⌝ }
 {
-    let e = run(rec, records, text, chars, stage, records);
+    let mut none = [0u8; 0];
+    let e = run(rec, records, text, chars, &mut none, records);
     match operational_transform::core::judge(e, out.len()) {
         Written::Refused(x) => Written::Refused(x),
         Written::Bytes(k) => {
-            place(rec, records, text, chars, stage, e, out);
+            write(rec, records, text, chars, out, e.records);
             Written::Bytes(k)
         }
-    }
-}
-
-// With stages of several lengths: what is cleared is paid for.
-fn small(rec: &[u8], records: usize, text: &[u8], chars: usize, out: &mut [u8]) -> Written
-    requires { ⌜ (recordFault (now rec) ≡ 0) × (records ≡ recordsOf (now rec)) × (records ≤ 1024) × T (wellFormed (now text)) × (chars ≡ numChars (now text)) ⌝ }
-    ensures { λ r. ⌜ Gives (deliver 0 (invertOf (ops (now (rec .entry))) (charsOf (now (text .entry)))) (now (out .entry))) r (now (out .exit)) ⌝ }
-{
-    let mut stage = [0u8; 128];
-    match staged(rec, records, text, chars, &mut stage, out) {
-        Written::Bytes(k) => Written::Bytes(k),
-        Written::Refused(x) => Written::Refused(x),
-    }
-}
-
-fn medium(rec: &[u8], records: usize, text: &[u8], chars: usize, out: &mut [u8]) -> Written
-    requires { ⌜ (recordFault (now rec) ≡ 0) × (records ≡ recordsOf (now rec)) × (records ≤ 1024) × T (wellFormed (now text)) × (chars ≡ numChars (now text)) ⌝ }
-    ensures { λ r. ⌜ Gives (deliver 0 (invertOf (ops (now (rec .entry))) (charsOf (now (text .entry)))) (now (out .entry))) r (now (out .exit)) ⌝ }
-{
-    let mut stage = [0u8; 1024];
-    match staged(rec, records, text, chars, &mut stage, out) {
-        Written::Bytes(k) => Written::Bytes(k),
-        Written::Refused(x) => Written::Refused(x),
-    }
-}
-
-fn large(rec: &[u8], records: usize, text: &[u8], chars: usize, out: &mut [u8]) -> Written
-    requires { ⌜ (recordFault (now rec) ≡ 0) × (records ≡ recordsOf (now rec)) × (records ≤ 1024) × T (wellFormed (now text)) × (chars ≡ numChars (now text)) ⌝ }
-    ensures { λ r. ⌜ Gives (deliver 0 (invertOf (ops (now (rec .entry))) (charsOf (now (text .entry)))) (now (out .entry))) r (now (out .exit)) ⌝ }
-{
-    let mut stage = [0u8; 8192];
-    match staged(rec, records, text, chars, &mut stage, out) {
-        Written::Bytes(k) => Written::Bytes(k),
-        Written::Refused(x) => Written::Refused(x),
     }
 }
 
@@ -378,15 +305,7 @@ fn inverted(rec: &[u8], text: &[u8], chars: usize, out: &mut [u8]) -> Written
     if evident(rec, records, text, chars, out.len()) {
         return straight(rec, records, text, chars, out);
     }
-    // what lies behind the counts is for text
-    let least = operation::core::text_start(records);
-    if 512 < least {
-        return large(rec, records, text, chars, out);
-    }
-    if 64 < least {
-        return medium(rec, records, text, chars, out);
-    }
-    small(rec, records, text, chars, out)
+    twice(rec, records, text, chars, out)
 }
 
 // The sequence that undoes the record's on the text that it was applied to.

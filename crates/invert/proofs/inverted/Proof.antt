@@ -18,35 +18,14 @@ same-length c = search needs
 returns : tie.Need-returns
 returns c = search needs
 
-text-start-requires : tie.Need-text-start-requires
-text-start-requires c κs = search needs
-
-large-requires : tie.Need-large-requires
-large-requires c κs = search needs
+twice-requires : tie.Need-twice-requires
+twice-requires c κs = search needs
 
 same-length-2 : tie.Need-same-length-2
 same-length-2 c = search needs
 
 returns-2 : tie.Need-returns-2
 returns-2 c = search needs
-
-medium-requires : tie.Need-medium-requires
-medium-requires c κs = search needs
-
-same-length-3 : tie.Need-same-length-3
-same-length-3 c = search needs
-
-returns-3 : tie.Need-returns-3
-returns-3 c = search needs
-
-small-requires : tie.Need-small-requires
-small-requires c κs = search needs
-
-same-length-4 : tie.Need-same-length-4
-same-length-4 c = search needs
-
-returns-4 : tie.Need-returns-4
-returns-4 c = search needs
 
 pub inverted-spec : {M : Type 1} → statement M
 inverted-spec =
@@ -57,13 +36,6 @@ inverted-spec =
     straight-requires
     same-length
     returns
-    text-start-requires
-    large-requires
+    twice-requires
     same-length-2
-    returns-2
-    medium-requires
-    same-length-3
-    returns-3
-    small-requires
-    same-length-4
-    returns-4)
+    returns-2)

@@ -6,11 +6,11 @@ use Rattle.invert.proofs.restore.Tie as tie
 behind-requires : tie.Need-behind-requires
 behind-requires c κs = search needs
 
-sub-entry : tie.Need-sub-entry
-sub-entry c = search needs
+sub-enter : tie.Need-sub-enter
+sub-enter c = search needs
 
-entry-requires : tie.Need-entry-requires
-entry-requires c κs = search needs
+enter-requires : tie.Need-enter-requires
+enter-requires c κs = search needs
 
 copy-requires : tie.Need-copy-requires
 copy-requires c κs = search needs
@@ -23,4 +23,4 @@ returns c = search restores
 
 pub restore-spec : {M : Type 1} → statement M
 restore-spec =
-    tie.close (tie.spec behind-requires sub-entry entry-requires copy-requires same-length returns)
+    tie.close (tie.spec behind-requires sub-enter enter-requires copy-requires same-length returns)

@@ -9,8 +9,8 @@ kind-requires c κs = search needs
 count-requires : tie.Need-count-requires
 count-requires c κs = search needs
 
-entry-requires : tie.Need-entry-requires
-entry-requires c κs = search needs
+enter-requires : tie.Need-enter-requires
+enter-requires c κs = search needs
 
 add-if2 : tie.Need-add-if2
 add-if2 c = search needs
@@ -60,7 +60,7 @@ undo-spec =
     (tie.spec
     kind-requires
     count-requires
-    entry-requires
+    enter-requires
     add-if2
     add-t16
     same-length

@@ -1,5 +1,5 @@
 use native.Mathlib.Omega.{arith}
-use Rattle.invert.proofs.Placing.{text-in, more-follow, next-in, undoes-insert, undoes-pair}
+use Rattle.invert.proofs.Placing.{text-in, next-in, next-room, undoes-insert, undoes-pair}
 use borrow.Author.Needs.{needs}
 use Rattle.invert.proofs.undo_insert.Statement.{statement}
 use Rattle.invert.proofs.undo_insert.Tie as tie
@@ -19,8 +19,8 @@ add-next c = search needs
 count-requires : tie.Need-count-requires
 count-requires c κs = (search needs, search needs, search next-in)
 
-entry-requires : tie.Need-entry-requires
-entry-requires c κs = search (more-follow, needs)
+enter-requires : tie.Need-enter-requires
+enter-requires c κs = search (next-room, needs)
 
 restore-requires : tie.Need-restore-requires
 restore-requires c κs = search needs
@@ -43,8 +43,8 @@ same-length c = search needs
 returns : tie.Need-returns
 returns c = search undoes-pair
 
-entry-requires-2 : tie.Need-entry-requires-2
-entry-requires-2 c κs = search needs
+enter-requires-2 : tie.Need-enter-requires-2
+enter-requires-2 c κs = search needs
 
 add-t13 : tie.Need-add-t13
 add-t13 c = search needs
@@ -67,7 +67,7 @@ undo-insert-spec =
     delete-follows-requires
     add-next
     count-requires
-    entry-requires
+    enter-requires
     restore-requires
     add-t20
     add-t21
@@ -75,7 +75,7 @@ undo-insert-spec =
     add-t23
     same-length
     returns
-    entry-requires-2
+    enter-requires-2
     add-t13
     add-t27
     same-length-2

@@ -1,7 +1,10 @@
 use Rattle.operational_transform.proofs.Giving.{gives-refused, gives-written}
 use borrow.Author.Needs.{needs}
-use Rattle.invert.proofs.staged.Statement.{statement}
-use Rattle.invert.proofs.staged.Tie as tie
+use Rattle.invert.proofs.twice.Statement.{statement}
+use Rattle.invert.proofs.twice.Tie as tie
+
+slice-aggregate-run : tie.Need-slice-aggregate-run
+slice-aggregate-run c = search needs
 
 run-requires : tie.Need-run-requires
 run-requires c κs = search needs
@@ -15,35 +18,28 @@ enum-known-x c = search needs
 enum-known-k : tie.Need-enum-known-k
 enum-known-k c = search needs
 
-place-requires : tie.Need-place-requires
-place-requires c κs = search needs
-
-same-length : tie.Need-same-length
-same-length c = search needs
+write-requires : tie.Need-write-requires
+write-requires c κs = search needs
 
 returns : tie.Need-returns
 returns c = search gives-refused
 
-same-length-2 : tie.Need-same-length-2
-same-length-2 c = search needs
-
-same-length-3 : tie.Need-same-length-3
-same-length-3 c = search needs
+same-length : tie.Need-same-length
+same-length c = search needs
 
 returns-2 : tie.Need-returns-2
 returns-2 c = search gives-written
 
-pub staged-spec : {M : Type 1} → statement M
-staged-spec =
+pub twice-spec : {M : Type 1} → statement M
+twice-spec =
     tie.close
     (tie.spec
+    slice-aggregate-run
     run-requires
     judge-requires
     enum-known-x
     enum-known-k
-    place-requires
-    same-length
+    write-requires
     returns
-    same-length-2
-    same-length-3
+    same-length
     returns-2)
