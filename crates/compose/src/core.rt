@@ -319,7 +319,8 @@ fn staged(
     requires { ⌜ (na ≡ recordsOf (now a)) × (na ≤ 1024) × (nb ≡ recordsOf (now b)) × (nb ≤ 1024) × (recordFault (now a) ≡ 0) × (recordFault (now b) ≡ 0) × (slots ≤ 2048) × (targetOf (now a) ≡ baseOf (now b)) ⌝ }
     ensures { λ r. ⌜ Gives (composeCall (now (a .entry)) (now (b .entry)) (now (out .entry))) r (now (out .exit)) ⌝ }
 {
-    let z = run(a, na, b, nb, stage, slots);
+    // made anew, since a slice that is handed on as it came is copied, and the copy waits for its bytes
+    let z = run(&a[..], na, &b[..], nb, stage, slots);
     let e = sized(a, b, z);
     match operational_transform::core::judge(e, out.len()) {
         Written::Refused(x) => Written::Refused(x),

@@ -501,8 +501,9 @@ fn staged(
     match judge(e, f, out_a.len(), out_b.len()) {
         WrittenPair::Refused(x) => WrittenPair::Refused(x),
         WrittenPair::Bytes(k, l) => {
-            place_with_text(out_a, stage_a, slots, e, a, na);
-            place_with_text(out_b, stage_b, slots, f, b, nb);
+            // made anew: with the slices handed on as they came the loop would read them from memory
+            place_with_text(out_a, stage_a, slots, e, &a[..], na);
+            place_with_text(out_b, stage_b, slots, f, &b[..], nb);
             WrittenPair::Bytes(k, l)
         }
     }
