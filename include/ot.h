@@ -19,7 +19,7 @@
    ot_well_formed, ot_num_chars, ot_step and ot_insert_text are never refused.
 
    Stack: ot_accept uses about 12 KB, and 55 KB where the edit on its way past other revisions has more than 1,024 bytes, it or a
-   counterpart more than 128 records, or the counterparts more than 8,192 bytes; ot_summary 82 KB, ot_compose and ot_invert 9 KB,
+   counterpart more than 128 records, or the counterparts more than 8,192 bytes; ot_summary 82 KB, ot_compose 9 KB,
    ot_transform 7 KB, every other call less than 4 KB. */
 #ifndef OT_H
 #define OT_H
