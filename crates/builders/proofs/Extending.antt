@@ -1,40 +1,42 @@
 -- The record of the operations and the one added, as it is written.
-use Prim.Native.Nat.{ℕ, _+_, _-_, _≤_, _<_}
+use Prim.Native.Nat.{ℕ, _+_, _≤_, _-_, _<_}
+use mathlib.Core.Path.{_≡_, sym, ap, _∙_, refl}
 use native.Mathlib.Omega.{arith}
-use mathlib.Core.Path.{_≡_, refl, sym, ap, _∙_}
-use mathlib.Core.Bool.{Bool, true, false}
-use mathlib.Core.List.{List, [], _++_, reverse, reverse-reverse}
-use lib.Dec.{T}
+use mathlib.Core.List.{List, _++_, reverse, reverse-reverse, []}
+use lib.ListN.{length, length-reverse, take, drop, length-append}
 use lib.Seq.{take-all}
-use lib.ListN.{length, take, drop, length-append, length-reverse}
-use Rattle.utf8.specs.Form.{wellFormed}
-use Rattle.utf8.specs.Text.{Char, chars, bytes}
-use Rattle.utf8.proofs.Tests.{known}
-use Rattle.utf8.proofs.Texts.{bytes-chars}
-use Rattle.operation.specs.declared.Refusal.{Refusal}
-use Rattle.operation.specs.declared.Refusal.the-variants.{Limit}
-use Rattle.operation.specs.declared.Fact.{Fact}
-use Rattle.operation.specs.declared.Fact.the-variants as fact
-use Rattle.operation.specs.Answer.{factOf}
-use Rattle.operation.specs.Calls.{checkCall}
-use Rattle.operation.specs.Op.{Op, retain, insert, delete, takes}
-use Rattle.operation.specs.Layout.{recordsOf, textBytesOf, textStart}
-use Rattle.operation.specs.Record.{Seq, inBytes, inserted, text, fits, ops, recordFault}
-use Rattle.operation.proofs.Sequences.{fits-limits}
-use Rattle.operation.proofs.Faults.{limits, faultless}
-use Rattle.operational_transform.specs.declared.Written.{Written}
-use Rattle.operational_transform.specs.declared.Written.the-variants as written
-use Rattle.operational_transform.specs.declared.core.Emitter.{Emitter}
-use Rattle.operational_transform.specs.Build.{add, extend}
+use mathlib.Core.Bool.{true, Bool, false}
+use lib.Dec.{T}
+use Rattle.buffers.specs.InnerOver.{over}
+use Rattle.buffers.proofs.Over.{over-nil}
+use Rattle.buffers.proofs.Tests.{known}
+use Rattle.characters.specs.Text.{Char, bytes, chars}
+use Rattle.characters.specs.Form.{wellFormed}
+use Rattle.characters.proofs.Texts.{bytes-chars}
+use Rattle.edits.specs.Op.{Op, takes, retain, insert, delete}
+use Rattle.edits.specs.Build.{add, extend}
+use Rattle.edits.specs.Sequence.{Seq}
+use Rattle.answers.specs.declared.Refusal.{Refusal}
+use Rattle.answers.specs.declared.Written.{Written}
+use Rattle.answers.specs.declared.Written.the-variants as written
+use Rattle.answers.specs.InnerGiven.{Gives}
+use Rattle.answers.specs.declared.Fact.{Fact}
+use Rattle.answers.specs.declared.Fact.the-variants as fact
+use Rattle.answers.specs.Answer.{factOf}
+use Rattle.answers.specs.declared.Refusal.the-variants.{Limit}
+use Rattle.record.specs.Record.{text, ops, recordFault, fits, inBytes, inserted}
+use Rattle.record.specs.Layout.{recordsOf, textBytesOf, textStart}
+use Rattle.record.specs.Calls.{checkCall}
+use Rattle.record.proofs.Faults.{limits, faultless}
+use Rattle.record.proofs.Sequences.{fits-limits}
 use Rattle.operational_transform.specs.Calls.{deliver}
-use Rattle.operational_transform.specs.Emit.{over, one, flushed, textsOf, laid, group, settled, Done, headed, judged}
-use Rattle.operational_transform.specs.Given.{Gives}
-use Rattle.operational_transform.proofs.Loops.{add-base}
-use Rattle.operational_transform.proofs.Over.{over-nil}
-use Rattle.operational_transform.proofs.Emitting.{flushed-few, group-text, group-length, lay-group}
-use Rattle.operational_transform.proofs.Delivering.{text-ahead}
-use Rattle.operational_transform.proofs.Giving.{gives-limit, gives-refused, gives-written, text-refused, no-text}
-use Rattle.builders.specs.Extending.{closedOf, Grown}
+use Rattle.emitter.specs.declared.core.Emitter.{Emitter}
+use Rattle.emitter.specs.InnerEmit.{one, flushed, textsOf, laid, group, settled, Done, headed, judged}
+use Rattle.emitter.proofs.Emitting.{flushed-few, group-text, group-length, lay-group}
+use Rattle.emitter.proofs.Delivering.{text-ahead}
+use Rattle.emitter.proofs.Giving.{gives-refused, gives-written, text-refused, no-text, gives-limit}
+use Rattle.emitter.proofs.Loops.{add-base}
+use Rattle.builders.specs.InnerExtending.{closedOf, Grown}
 use Rattle.builders.proofs.Growing.{add-texts}
 
 -- ---- `closed`, `finish`

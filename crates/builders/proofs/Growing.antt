@@ -1,32 +1,34 @@
 -- A record's last operations, and the operation that is added to them.
-use Prim.Native.Nat.{ℕ, zero, suc, _+_, _-_, _^_, _≤_, _<_}
-use native.Mathlib.Nat.{add-zero, zero-add, suc-add}
+use Prim.Native.Nat.{ℕ, suc, _+_, zero, _-_, _≤_, _^_, _<_}
+use mathlib.Core.Bool.{cond, Bool, true, false}
+use mathlib.Core.List.{[], _∷_, List, _++_, append-nil, map, reverseAux, reverse, reverse-reverse}
+use lib.Dec.{eqb, eqb→eq, T}
 use native.Mathlib.Omega.{arith}
-use mathlib.Core.Path.{_≡_, refl, sym, ap, ap₂, _∙_}
-use mathlib.Core.Bool.{Bool, true, false, cond}
-use mathlib.Core.List.{List, [], _∷_, _++_, map, reverse, reverseAux, reverse-reverse, append-nil}
-use lib.Dec.{T, eqb, eqb→eq}
+use mathlib.Core.Path.{_≡_, refl, ap₂, sym, ap, _∙_}
+use native.Mathlib.Nat.{add-zero, zero-add, suc-add}
 use lib.ListN.{length, length-append}
 use borrow.Author.Tests.{eq-eqb}
-use Rattle.utf8.specs.Form.{wellFormed}
-use Rattle.utf8.specs.Chars.{numChars}
-use Rattle.utf8.specs.Text.{Char, chars, bytes}
-use Rattle.utf8.proofs.Tests.{known}
-use Rattle.utf8.proofs.Texts.{bytes-chars, chars-length, bytes-append, bytes-length}
-use Rattle.operation.specs.Op.{Op, retain, insert, delete, size, takes, gives, base, target}
-use Rattle.operation.specs.Layout.{recordsOf, textBytesOf, baseOf, targetOf, kindsStart, countsStart, textStart, kindAt, countAt}
-use Rattle.operation.specs.Record.{Seq, inBytes, code, inserted, text, textOf, ops, recordFault}
-use Rattle.operation.proofs.Sequences.{inBytes-size}
-use Rattle.operation.proofs.Faults.{limits, faultless}
-use Rattle.operation.proofs.Records.{Bytes, ops-base, ops-target}
-use Rattle.operational_transform.specs.Build.{put, add, extend}
-use Rattle.operational_transform.specs.Emit.{over, one, textsOf, laid, group, settled}
-use Rattle.operational_transform.proofs.Building.{Back}
-use Rattle.operational_transform.proofs.Loops.{add-base, add-target, add-text, add-bytes}
-use Rattle.operational_transform.proofs.Delivering.{text-ahead}
-use Rattle.operational_transform.proofs.Emitting.{some-is, group-text, lay-text}
-use Rattle.operational_transform.proofs.Parts.{At, at-before, at-end, text-at, text-long, kinds-at, counts-at, kind-last, count-last}
-use Rattle.builders.specs.Extending.{lastCount, Grown}
+use Rattle.buffers.specs.InnerOver.{over}
+use Rattle.buffers.proofs.Tests.{known}
+use Rattle.characters.specs.Text.{Char, bytes, chars}
+use Rattle.characters.specs.Form.{wellFormed}
+use Rattle.characters.specs.Chars.{numChars}
+use Rattle.characters.proofs.Texts.{bytes-chars, chars-length, bytes-append, bytes-length}
+use Rattle.edits.specs.Op.{size, retain, insert, delete, Op, takes, gives, base, target}
+use Rattle.edits.specs.Sequence.{Seq}
+use Rattle.edits.specs.Build.{put, add, extend}
+use Rattle.edits.proofs.Building.{Back}
+use Rattle.record.specs.Record.{inBytes, code, recordFault, inserted, text, textOf, ops}
+use Rattle.record.specs.Layout.{kindAt, countAt, recordsOf, textBytesOf, baseOf, targetOf, kindsStart, countsStart, textStart}
+use Rattle.record.proofs.Sequences.{inBytes-size}
+use Rattle.record.proofs.Records.{Bytes, ops-base, ops-target}
+use Rattle.record.proofs.Faults.{limits, faultless}
+use Rattle.emitter.specs.InnerEmit.{one, group, textsOf, laid, settled}
+use Rattle.emitter.proofs.Emitting.{some-is, group-text, lay-text}
+use Rattle.emitter.proofs.Parts.{At, at-before, kind-last, count-last, at-end, text-at, text-long, kinds-at, counts-at}
+use Rattle.emitter.proofs.Loops.{add-text, add-bytes, add-base, add-target}
+use Rattle.emitter.proofs.Delivering.{text-ahead}
+use Rattle.builders.specs.InnerExtending.{lastCount, Grown}
 
 -- ---- a last operation of a kind, taken off
 

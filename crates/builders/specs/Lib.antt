@@ -1,2 +1,2 @@
 -- builders
-pub mod Extending
+pub mod InnerExtending

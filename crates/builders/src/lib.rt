@@ -2,27 +2,29 @@
 //
 // One operation more changes the last one or two records only. All before them, and the text, is copied by blocks to its place in
 // the result; those that change are held by an emitter as its pending group, and written behind it.
-use operation::Fact;
-use operation::Refusal;
-use operational_transform::Written;
-use operational_transform::core::Emitter;
-use utf8::core::Form;
+use answers::Fact;
+use answers::Refusal;
+use answers::Written;
+use characters::Form;
+use emitter::core::Emitter;
 ghost use mathlib.Core.Path.{_≡_};
+ghost use Prim.Native.Nat.{_≤_, _<_, _+_, _^_};
 ghost use mathlib.Core.List.{[]};
-ghost use Prim.Native.Nat.{_+_, _^_, _≤_, _<_};
 ghost use lib.Dec.{T};
 ghost use lib.ListN.{length};
-ghost use Rattle.utf8.specs.Form.{wellFormed};
-ghost use Rattle.utf8.specs.Chars.{numChars};
-ghost use Rattle.utf8.specs.Text.{chars};
-ghost use Rattle.operation.specs.Layout.{recordsOf, textStart};
-ghost use Rattle.operation.specs.Op.{retain, insert, delete};
-ghost use Rattle.operation.specs.Record.{ops, recordFault};
-ghost use Rattle.operational_transform.specs.Build.{extend};
+ghost use Rattle.buffers.specs.InnerOver.{over};
+ghost use Rattle.characters.specs.Form.{wellFormed};
+ghost use Rattle.characters.specs.Chars.{numChars};
+ghost use Rattle.characters.specs.Text.{chars};
+ghost use Rattle.edits.specs.Op.{retain, delete, insert};
+ghost use Rattle.edits.specs.Build.{extend};
+ghost use Rattle.answers.specs.InnerGiven.{Gives};
+ghost use Rattle.answers.specs.Answer.{writtenOf};
+ghost use Rattle.record.specs.Layout.{recordsOf, textStart};
+ghost use Rattle.record.specs.Record.{recordFault, ops};
 ghost use Rattle.operational_transform.specs.Calls.{deliver, retainCall, deleteCall, insertCall};
-ghost use Rattle.operational_transform.specs.Emit.{writtenOf, over, one, flushed, Under, headed, settled};
-ghost use Rattle.operational_transform.specs.Given.{Gives};
-ghost use Rattle.builders.specs.Extending.{lastCount, closedOf, Grown};
+ghost use Rattle.emitter.specs.InnerEmit.{one, Under, settled, flushed, headed};
+ghost use Rattle.builders.specs.InnerExtending.{lastCount, closedOf, Grown};
 
 // The count of the record before record k, where it is of this kind; else 0.
 fn ending(rec: &[u8], records: usize, k: usize, kind: u8) -> usize
@@ -32,10 +34,10 @@ fn ending(rec: &[u8], records: usize, k: usize, kind: u8) -> usize
     if k == 0 {
         return 0;
     }
-    if operation::core::kind(rec, k - 1) != kind {
+    if reader::core::kind(rec, k - 1) != kind {
         return 0;
     }
-    operation::core::count(rec, records, k - 1)
+    reader::core::count(rec, records, k - 1)
 }
 
 // How many records stand before one of this count, which is none where the count is 0.
@@ -79,9 +81,9 @@ fn retain_more(rec: &[u8], records: usize, k: usize) -> Emitter
         del: 0,
         ret: ret + k,
         records: before(records, ret),
-        text: operation::core::text_bytes(rec),
-        base: operation::core::base(rec) + k,
-        target: operation::core::target(rec) + k,
+        text: reader::core::text_bytes(rec),
+        base: reader::core::base(rec) + k,
+        target: reader::core::target(rec) + k,
     }
 }
 
@@ -96,9 +98,9 @@ fn delete_more(rec: &[u8], records: usize, k: usize) -> Emitter
         del: del + k,
         ret: 0,
         records: before(records, del),
-        text: operation::core::text_bytes(rec),
-        base: operation::core::base(rec) + k,
-        target: operation::core::target(rec),
+        text: reader::core::text_bytes(rec),
+        base: reader::core::base(rec) + k,
+        target: reader::core::target(rec),
     }
 }
 
@@ -115,9 +117,9 @@ fn insert_more(rec: &[u8], records: usize, text: &[u8], num: usize) -> Emitter
         del,
         ret: 0,
         records: before(y, ins),
-        text: operation::core::text_bytes(rec) + text.len(),
-        base: operation::core::base(rec),
-        target: operation::core::target(rec) + num,
+        text: reader::core::text_bytes(rec) + text.len(),
+        base: reader::core::base(rec),
+        target: reader::core::target(rec) + num,
     }
 }
 
@@ -134,9 +136,9 @@ fn settle_with(
     requires { ⌜ (n ≤ 2 ^ 40) × (records ≤ 2 ^ 40) × (k ≤ records) × (bytes ≤ 2 ^ 40) × (textStart records + bytes ≤ length (now rec)) ⌝ }
     ensures { λ _. ⌜ now (out .exit) ≡ over (textStart n + bytes) (now (more .entry)) (settled records n k bytes (now (rec .entry)) (now (out .entry))) ⌝ }
 {
-    operational_transform::core::settle(out, n, rec, records, k, bytes);
-    let at = operation::core::text_start(n) + bytes;
-    operational_transform::core::copy(out, at, more, 0, more.len());
+    emitter::core::settle(out, n, rec, records, k, bytes);
+    let at = layout::core::text_start(n) + bytes;
+    buffers::core::copy(out, at, more, 0, more.len());
 }
 
 // The pending group, and the sizes in front.
@@ -144,8 +146,8 @@ fn finish(out: &mut [u8], f: Emitter, g: Emitter)
     requires { ⌜ Under (2 ^ 38) f × Under (2 ^ 40) g ⌝ }
     ensures { λ _. ⌜ now (out .exit) ≡ headed g (flushed (g .records) f (now (out .entry))) ⌝ }
 {
-    operational_transform::core::flush(out, g.records, f.records, f.ins, f.del, f.ret);
-    operational_transform::core::header(out, g);
+    emitter::core::flush(out, g.records, f.records, f.ins, f.del, f.ret);
+    emitter::core::header(out, g);
 }
 
 // Of a record that was checked, and a count within the limits.
@@ -153,14 +155,14 @@ fn retained(rec: &[u8], k: usize, out: &mut [u8]) -> Written
     requires { ⌜ (recordFault (now rec) ≡ 0) × (k ≤ 32768) ⌝ }
     ensures { λ r. ⌜ Gives (deliver 0 (extend (ops (now (rec .entry))) (retain k)) (now (out .entry))) r (now (out .exit)) ⌝ }
 {
-    let records = operation::core::records(rec);
+    let records = reader::core::records(rec);
     let f = retain_more(rec, records, k);
     let g = closed(f);
-    match operational_transform::core::judge(g, out.len()) {
+    match emitter::core::judge(g, out.len()) {
         Written::Refused(y) => Written::Refused(y),
         Written::Bytes(b) => {
-            let bytes = operation::core::text_bytes(rec);
-            operational_transform::core::settle(out, g.records, rec, records, f.records, bytes);
+            let bytes = reader::core::text_bytes(rec);
+            emitter::core::settle(out, g.records, rec, records, f.records, bytes);
             finish(out, f, g);
             Written::Bytes(b)
         }
@@ -171,14 +173,14 @@ fn deleted(rec: &[u8], k: usize, out: &mut [u8]) -> Written
     requires { ⌜ (recordFault (now rec) ≡ 0) × (k ≤ 32768) ⌝ }
     ensures { λ r. ⌜ Gives (deliver 0 (extend (ops (now (rec .entry))) (delete k)) (now (out .entry))) r (now (out .exit)) ⌝ }
 {
-    let records = operation::core::records(rec);
+    let records = reader::core::records(rec);
     let f = delete_more(rec, records, k);
     let g = closed(f);
-    match operational_transform::core::judge(g, out.len()) {
+    match emitter::core::judge(g, out.len()) {
         Written::Refused(y) => Written::Refused(y),
         Written::Bytes(b) => {
-            let bytes = operation::core::text_bytes(rec);
-            operational_transform::core::settle(out, g.records, rec, records, f.records, bytes);
+            let bytes = reader::core::text_bytes(rec);
+            emitter::core::settle(out, g.records, rec, records, f.records, bytes);
             finish(out, f, g);
             Written::Bytes(b)
         }
@@ -189,14 +191,14 @@ fn inserted(rec: &[u8], text: &[u8], num: usize, out: &mut [u8]) -> Written
     requires { ⌜ (recordFault (now rec) ≡ 0) × T (wellFormed (now text)) × (num ≡ numChars (now text)) × (length (now text) ≤ 32768) ⌝ }
     ensures { λ r. ⌜ Gives (deliver 0 (extend (ops (now (rec .entry))) (insert (chars (now (text .entry))))) (now (out .entry))) r (now (out .exit)) ⌝ }
 {
-    let records = operation::core::records(rec);
+    let records = reader::core::records(rec);
     let f = insert_more(rec, records, text, num);
     let g = closed(f);
     let room = out.len();
-    match operational_transform::core::judge(g, room) {
+    match emitter::core::judge(g, room) {
         Written::Refused(y) => Written::Refused(y),
         Written::Bytes(b) => {
-            let bytes = operation::core::text_bytes(rec);
+            let bytes = reader::core::text_bytes(rec);
             settle_with(out, g.records, rec, records, f.records, bytes, text);
             finish(out, f, g);
             Written::Bytes(b)

@@ -1,30 +1,31 @@
 -- Two results fit into one number: each is at most the size of 256 records.
-use Prim.Native.Nat.{ℕ, zero, suc, _*_, _≤_}
-use native.Mathlib.Omega.{arith}
+use Prim.Native.Nat.{ℕ, zero, suc, _≤_, _*_}
 use mathlib.Core.Path.{_≡_, refl, ap}
+use lib.Dec.{T, leb, le→leb, eqb, ltb, ltb→lt}
+use mathlib.Core.List.{[], _∷_, List}
 use mathlib.Core.Bool.{_&&_}
-use mathlib.Core.List.{List, [], _∷_}
-use lib.Dec.{T, leb, ltb, eqb, le→leb, ltb→lt}
-use lib.ListN.{length, drop, length-append, length-drop}
-use Rattle.utf8.specs.Order.{order}
-use Rattle.utf8.proofs.Tests.{both}
-use Rattle.operation.specs.Answer.{gives, refused, needs, first, settle}
-use Rattle.operation.specs.Layout.{sizeOf, baseOf}
-use Rattle.operation.specs.Record.{Seq, encode, fits, ops, recordFault}
-use Rattle.operation.proofs.Sequences.{Good}
-use Rattle.operation.proofs.Records.{encode-small, ops-good}
-use Rattle.operation.proofs.Refusals.{needs-out, first-zero}
-use Rattle.operational_transform.specs.Output.{atFront, Outs, writingBoth}
-use Rattle.operational_transform.specs.Transform.{transform}
+use lib.ListN.{length, length-append, drop, length-drop}
+use native.Mathlib.Omega.{arith}
+use Rattle.buffers.specs.Buffers.{atFront}
+use Rattle.buffers.proofs.Tests.{both}
+use Rattle.characters.specs.Order.{order}
+use Rattle.edits.specs.Transform.{transform}
+use Rattle.edits.specs.Sequence.{Seq}
+use Rattle.answers.specs.Answer.{settle, gives, refused, needs, first, pairOf}
+use Rattle.answers.specs.Output.{Outs, writingBoth}
+use Rattle.answers.specs.declared.WrittenPair.{WrittenPair}
+use Rattle.answers.proofs.Refusals.{first-zero, needs-out}
+use Rattle.record.specs.Layout.{baseOf, sizeOf}
+use Rattle.record.specs.Record.{encode, fits, ops, recordFault}
+use Rattle.record.proofs.Records.{encode-small, ops-good}
+use Rattle.record.proofs.Sequences.{Good}
 use Rattle.operational_transform.specs.Calls.{recordsFault, transformCall}
-use Rattle.log.specs.Log.{encodeAll, countOf, readable, lengthAt, editsIn, revisions}
+use Rattle.log.specs.Log.{encodeAll, editsIn, countOf, readable, lengthAt, revisions}
 use Rattle.log.proofs.Rows.{Each}
 use Rattle.session.specs.Rows.{rebase}
 use Rattle.session.specs.Session.{movedIn, acceptFault, append, acceptCall}
 use Rattle.session.proofs.Moving.{rebase-length, rebase-good}
-use Rattle.transform.specs.declared.WrittenPair.{WrittenPair}
-use Rattle.transform.specs.Pairs.{pairOf}
-use Rattle.c_api.specs.Numbers.{most, small}
+use Rattle.packing.specs.Numbers.{small, most}
 
 settled : (f : ℕ) (g : ℕ → Outs) (x : Outs) → ((n : ℕ) → T (small (g n .answer))) → (f ≡ 0 → T (small (x .answer))) → T (small (settle f g x .answer))
 settled zero g x p q = q refl

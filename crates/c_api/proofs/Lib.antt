@@ -1,4 +1,3 @@
 -- c_api
 pub mod Bounds
-pub mod Packing
 pub mod Reading

@@ -1,35 +1,38 @@
 -- Reading a call's number gives back its answer. Outputs are shorter than 2 ^ 63 bytes, as every buffer is.
-use Prim.Native.Nat.{ℕ, zero, suc, _+_, _*_, _-_, _/_, _%_, _^_, _≤_, _<_}
-use native.Mathlib.Omega.{arith}
+use Prim.Native.Nat.{_+_, _%_, _^_, ℕ, _-_, _*_, _/_, _<_, zero, suc, _≤_}
 use mathlib.Core.Path.{_≡_, refl, ap, ap₂}
+use native.Mathlib.Omega.{arith}
 use mathlib.Core.Bool.{true}
-use mathlib.Core.List.{List, [], _∷_}
-use lib.Dec.{T, leb, eqb, leb→le}
-use lib.ListN.{length}
+use lib.Dec.{leb, T, leb→le, eqb}
 use borrow.Author.Tests.{le-leb, lt-leb}
-use Rattle.utf8.specs.Chars.{numChars}
-use Rattle.utf8.specs.Text.{chars, bytes}
-use Rattle.utf8.proofs.Tests.{both}
-use Rattle.operation.specs.declared.Refusal.{Refusal}
-use Rattle.operation.specs.declared.Refusal.the-variants.{Size, Entry, Utf8, Neighbours, Sums, Log, Revision, IncompatibleLengths, Limit, Room}
-use Rattle.operation.specs.Answer.{number, Answer, gives, refused, needs, first, settle}
-use Rattle.operation.specs.Op.{retain, insert, delete}
-use Rattle.operation.specs.Layout.{words, baseOf, targetOf, sizeOf}
-use Rattle.operation.specs.Record.{Seq, encode, fits, ops, recordFault}
-use Rattle.operation.specs.Calls.{checkCall, baseCall, targetCall, noEffect, noopCall}
-use Rattle.operation.proofs.Refusals.{needs-out, first-zero}
-use Rattle.operation.proofs.Faults.{InLimits, limits, faultless}
-use Rattle.operational_transform.specs.Output.{atFront, Out, writing}
-use Rattle.operational_transform.specs.Build.{extend}
-use Rattle.operational_transform.specs.Apply.{apply}
-use Rattle.operational_transform.specs.Compose.{compose}
-use Rattle.operational_transform.specs.Invert.{invert}
-use Rattle.operational_transform.specs.Calls.{recordsFault, textFault, deliver, retainCall, deleteCall, insertCall, applyCall, invertCall, composeCall, transformCall}
+use mathlib.Core.List.{[], _∷_, List}
+use lib.ListN.{length}
+use Rattle.buffers.specs.Buffers.{atFront}
+use Rattle.buffers.specs.Words.{words}
+use Rattle.buffers.proofs.Tests.{both}
+use Rattle.characters.specs.Chars.{numChars}
+use Rattle.characters.specs.Text.{chars, bytes}
+use Rattle.edits.specs.Op.{retain, insert, delete}
+use Rattle.edits.specs.Sequence.{Seq}
+use Rattle.edits.specs.Build.{extend}
+use Rattle.edits.specs.Apply.{apply}
+use Rattle.edits.specs.Compose.{compose}
+use Rattle.edits.specs.Invert.{invert}
+use Rattle.answers.specs.declared.Refusal.{Refusal}
+use Rattle.answers.specs.declared.Refusal.the-variants.{Size, Entry, Utf8, Neighbours, Sums, Log, Revision, IncompatibleLengths, Limit, Room}
+use Rattle.answers.specs.Answer.{number, Answer, gives, refused, settle, needs, first}
+use Rattle.answers.specs.Output.{Out, writing}
+use Rattle.answers.proofs.Refusals.{needs-out, first-zero}
+use Rattle.record.specs.Layout.{baseOf, targetOf, sizeOf}
+use Rattle.record.specs.Record.{ops, recordFault, encode, fits}
+use Rattle.record.specs.Calls.{checkCall, baseCall, targetCall, noEffect, noopCall}
+use Rattle.record.proofs.Faults.{InLimits, limits, faultless}
+use Rattle.operational_transform.specs.Calls.{transformCall, recordsFault, textFault, deliver, retainCall, deleteCall, insertCall, applyCall, invertCall, composeCall}
 use Rattle.log.specs.Log.{startOf, revisions}
 use Rattle.log.specs.Open.{openCall}
-use Rattle.session.specs.Rows.{still, composeAll}
 use Rattle.session.specs.Session.{acceptCall, summaryFault, summaryCall, played, playFault, playCall}
-use Rattle.c_api.specs.Numbers.{packed, readOne, readTwo, most, small}
+use Rattle.session.specs.Rows.{still, composeAll}
+use Rattle.packing.specs.Numbers.{packed, readTwo, most, small, readOne}
 use Rattle.c_api.proofs.Bounds.{transform-small, accept-small}
 
 -- a refusal's number is the low byte

@@ -2,16 +2,14 @@
 ghost use mathlib.Core.Path.{_≡_};
 ghost use mathlib.Core.Bool.{cond};
 ghost use lib.ListN.{length};
-ghost use Rattle.utf8.specs.Form.{wellFormed};
-ghost use Rattle.utf8.specs.Chars.{numChars};
-ghost use Rattle.operation.specs.Calls.{checkCall, baseCall, targetCall, noopCall, textCall, textFrom};
+ghost use Rattle.characters.specs.Form.{wellFormed};
+ghost use Rattle.characters.specs.Chars.{numChars};
+ghost use Rattle.record.specs.Calls.{checkCall, baseCall, targetCall, noopCall, textCall, textFrom};
 ghost use Rattle.walker.specs.Walk.{stepAt};
 ghost use Rattle.operational_transform.specs.Calls.{retainCall, deleteCall, insertCall, applyCall, invertCall, composeCall, transformCall};
 ghost use Rattle.log.specs.Open.{openCall};
 ghost use Rattle.session.specs.Session.{acceptCall, summaryCall, playCall};
-ghost use Rattle.c_api.specs.Numbers.{packed, stepNumber, part};
-
-mod answers;
+ghost use Rattle.packing.specs.Numbers.{packed, stepNumber, part};
 
 // ---- texts
 
@@ -19,7 +17,7 @@ mod answers;
 pub extern "C" fn ot_well_formed(text: &[u8]) -> u64
     ensures { λ r. ⌜ r ≡ cond (wellFormed (now (text .entry))) 1 0 ⌝ }
 {
-    answers::flag(utf8::well_formed(text))
+    packing::core::flag(utf8::well_formed(text))
 }
 
 #[no_mangle]
@@ -35,35 +33,35 @@ pub extern "C" fn ot_num_chars(bytes: &[u8]) -> u64
 pub extern "C" fn ot_check(rec: &[u8]) -> u64
     ensures { λ r. ⌜ r ≡ packed (checkCall (now (rec .entry))) ⌝ }
 {
-    answers::fact(operation::check(rec))
+    packing::core::fact(operation::check(rec))
 }
 
 #[no_mangle]
 pub extern "C" fn ot_base_len(rec: &[u8]) -> u64
     ensures { λ r. ⌜ r ≡ packed (baseCall (now (rec .entry))) ⌝ }
 {
-    answers::fact(operation::base_len(rec))
+    packing::core::fact(operation::base_len(rec))
 }
 
 #[no_mangle]
 pub extern "C" fn ot_target_len(rec: &[u8]) -> u64
     ensures { λ r. ⌜ r ≡ packed (targetCall (now (rec .entry))) ⌝ }
 {
-    answers::fact(operation::target_len(rec))
+    packing::core::fact(operation::target_len(rec))
 }
 
 #[no_mangle]
 pub extern "C" fn ot_is_noop(rec: &[u8]) -> u64
     ensures { λ r. ⌜ r ≡ packed (noopCall (now (rec .entry))) ⌝ }
 {
-    answers::noop(operation::is_noop(rec))
+    packing::core::noop(operation::is_noop(rec))
 }
 
 #[no_mangle]
 pub extern "C" fn ot_step(rec: &[u8], at: u64) -> u64
     ensures { λ r. ⌜ r ≡ stepNumber (stepAt (now (rec .entry)) at) ⌝ }
 {
-    answers::step(walker::step(rec, at as usize))
+    packing::core::step(walker::step(rec, at as usize))
 }
 
 #[no_mangle]
@@ -75,7 +73,7 @@ pub extern "C" fn ot_insert_text(rec: &[u8], k: u64) -> u64
     if size == 0 {
         return 0;
     }
-    let n = operation::core::records(rec);
+    let n = reader::core::records(rec);
     let from = operation::core::text_from(rec, n, k as usize);
     from as u64 + 0x1_0000_0000 * (size as u64)
 }
@@ -86,21 +84,21 @@ pub extern "C" fn ot_insert_text(rec: &[u8], k: u64) -> u64
 pub extern "C" fn ot_retain(rec: &[u8], n: u64, out: &mut [u8]) -> u64
     ensures { λ r. ⌜ (r ≡ packed (retainCall (now (rec .entry)) n (now (out .entry)) .answer)) × (now (out .exit) ≡ retainCall (now (rec .entry)) n (now (out .entry)) .out) ⌝ }
 {
-    answers::written(builders::retain(rec, n, out))
+    packing::core::written(builders::retain(rec, n, out))
 }
 
 #[no_mangle]
 pub extern "C" fn ot_delete(rec: &[u8], n: u64, out: &mut [u8]) -> u64
     ensures { λ r. ⌜ (r ≡ packed (deleteCall (now (rec .entry)) n (now (out .entry)) .answer)) × (now (out .exit) ≡ deleteCall (now (rec .entry)) n (now (out .entry)) .out) ⌝ }
 {
-    answers::written(builders::delete(rec, n, out))
+    packing::core::written(builders::delete(rec, n, out))
 }
 
 #[no_mangle]
 pub extern "C" fn ot_insert(rec: &[u8], text: &[u8], out: &mut [u8]) -> u64
     ensures { λ r. ⌜ (r ≡ packed (insertCall (now (rec .entry)) (now (text .entry)) (now (out .entry)) .answer)) × (now (out .exit) ≡ insertCall (now (rec .entry)) (now (text .entry)) (now (out .entry)) .out) ⌝ }
 {
-    answers::written(builders::insert(rec, text, out))
+    packing::core::written(builders::insert(rec, text, out))
 }
 
 // ---- records and texts
@@ -109,28 +107,28 @@ pub extern "C" fn ot_insert(rec: &[u8], text: &[u8], out: &mut [u8]) -> u64
 pub extern "C" fn ot_apply(rec: &[u8], text: &[u8], out: &mut [u8]) -> u64
     ensures { λ r. ⌜ (r ≡ packed (applyCall (now (rec .entry)) (now (text .entry)) (now (out .entry)) .answer)) × (now (out .exit) ≡ applyCall (now (rec .entry)) (now (text .entry)) (now (out .entry)) .out) ⌝ }
 {
-    answers::written(playing::apply(rec, text, out))
+    packing::core::written(apply::apply(rec, text, out))
 }
 
 #[no_mangle]
 pub extern "C" fn ot_invert(rec: &[u8], text: &[u8], out: &mut [u8]) -> u64
     ensures { λ r. ⌜ (r ≡ packed (invertCall (now (rec .entry)) (now (text .entry)) (now (out .entry)) .answer)) × (now (out .exit) ≡ invertCall (now (rec .entry)) (now (text .entry)) (now (out .entry)) .out) ⌝ }
 {
-    answers::written(invert::invert(rec, text, out))
+    packing::core::written(invert::invert(rec, text, out))
 }
 
 #[no_mangle]
 pub extern "C" fn ot_compose(a: &[u8], b: &[u8], out: &mut [u8]) -> u64
     ensures { λ r. ⌜ (r ≡ packed (composeCall (now (a .entry)) (now (b .entry)) (now (out .entry)) .answer)) × (now (out .exit) ≡ composeCall (now (a .entry)) (now (b .entry)) (now (out .entry)) .out) ⌝ }
 {
-    answers::written(compose::compose(a, b, out))
+    packing::core::written(compose::compose(a, b, out))
 }
 
 #[no_mangle]
 pub extern "C" fn ot_transform(a: &[u8], b: &[u8], out_a: &mut [u8], out_b: &mut [u8]) -> u64
     ensures { λ r. ⌜ (r ≡ packed (transformCall (now (a .entry)) (now (b .entry)) (now («out_a» .entry)) (now («out_b» .entry)) .answer)) × (now («out_a» .exit) ≡ transformCall (now (a .entry)) (now (b .entry)) (now («out_a» .entry)) (now («out_b» .entry)) .outA) × (now («out_b» .exit) ≡ transformCall (now (a .entry)) (now (b .entry)) (now («out_a» .entry)) (now («out_b» .entry)) .outB) ⌝ }
 {
-    answers::pair(transform::transform(a, b, out_a, out_b))
+    packing::core::pair(transform::transform(a, b, out_a, out_b))
 }
 
 // ---- a session's log
@@ -139,21 +137,21 @@ pub extern "C" fn ot_transform(a: &[u8], b: &[u8], out_a: &mut [u8], out_b: &mut
 pub extern "C" fn ot_open(start: u64, log: &mut [u8]) -> u64
     ensures { λ r. ⌜ (r ≡ packed (openCall start (now (log .entry)) .answer)) × (now (log .exit) ≡ openCall start (now (log .entry)) .out) ⌝ }
 {
-    answers::written(log::open(start, log))
+    packing::core::written(log::open(start, log))
 }
 
 #[no_mangle]
 pub extern "C" fn ot_accept(edit: &[u8], r: u64, log: &mut [u8], out: &mut [u8]) -> u64
     ensures { λ x. ⌜ (x ≡ packed (acceptCall (now (edit .entry)) r (now (log .entry)) (now (out .entry)) .answer)) × (now (log .exit) ≡ acceptCall (now (edit .entry)) r (now (log .entry)) (now (out .entry)) .outA) × (now (out .exit) ≡ acceptCall (now (edit .entry)) r (now (log .entry)) (now (out .entry)) .outB) ⌝ }
 {
-    answers::pair(accept::accept(edit, r, log, out))
+    packing::core::pair(accept::accept(edit, r, log, out))
 }
 
 #[no_mangle]
 pub extern "C" fn ot_summary(log: &[u8], out: &mut [u8]) -> u64
     ensures { λ r. ⌜ (r ≡ packed (summaryCall (now (log .entry)) (now (out .entry)) .answer)) × (now (out .exit) ≡ summaryCall (now (log .entry)) (now (out .entry)) .out) ⌝ }
 {
-    answers::written(summary::summary(log, out))
+    packing::core::written(summary::summary(log, out))
 }
 
 #[no_mangle]
@@ -166,5 +164,5 @@ pub extern "C" fn ot_play(
 ) -> u64
     ensures { λ r. ⌜ (r ≡ packed (playCall (now (log .entry)) (now (text .entry)) (length (now («scratch_a» .entry))) (length (now («scratch_b» .entry))) (now (out .entry)) .answer)) × (now (out .exit) ≡ playCall (now (log .entry)) (now (text .entry)) (length (now («scratch_a» .entry))) (length (now («scratch_b» .entry))) (now (out .entry)) .out) ⌝ }
 {
-    answers::written(playback::play(log, text, scratch_a, scratch_b, out))
+    packing::core::written(playback::play(log, text, scratch_a, scratch_b, out))
 }

@@ -1,8 +1,8 @@
 // Calls on a log by their names, each with its answer printed: no contract states that.
+use answers::WrittenPair;
 use listing::core::line;
 use listing::core::line::State;
 use listing::core::show;
-use transform::WrittenPair;
 use wording::core::tell;
 use wording::core::words;
 ghost use mathlib.Core.Path.{_≡_};
@@ -182,8 +182,8 @@ fn accept_in(edit: &[u8], r: u64, log: &mut [u8], out: &mut [u8], kept: &mut [u8
 // The counterparts are kept for a relay, behind the number of their bytes.
 fn keep(out: &[u8], m: usize, kept: &mut [u8]) {
     if m <= out.len() {
-        operational_transform::core::put16(kept, 0, m);
-        operational_transform::core::copy(kept, 2, out, 0, m);
+        buffers::core::put16(kept, 0, m);
+        buffers::core::copy(kept, 2, out, 0, m);
     }
 }
 

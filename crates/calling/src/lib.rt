@@ -1,2 +1,3 @@
 // What the program `sessions` does with a line.
+
 pub mod core;

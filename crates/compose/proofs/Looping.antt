@@ -1,38 +1,39 @@
 -- The loop of compose, and its answers.
-use Prim.Native.Nat.{ℕ, suc, _+_, _*_, _^_, _≤_, _<_}
+use Prim.Native.Nat.{ℕ, _^_, suc}
 use native.Mathlib.Omega.{arith}
-use mathlib.Core.Path.{_≡_, refl, sym, ap, ap₂, _∙_}
+use mathlib.Core.Path.{_≡_, sym, _∙_, refl}
 use mathlib.Core.Bool.{Bool, false}
-use mathlib.Core.List.{List, [], _∷_, reverse}
-use lib.Dec.{eqb}
+use mathlib.Core.List.{List}
 use lib.ListN.{length}
-use borrow.Author.Tests.{eq-eqb, ne-eqb}
-use Rattle.operation.specs.declared.Refusal.{Refusal}
-use Rattle.operation.specs.declared.Refusal.the-variants.{IncompatibleLengths}
-use Rattle.operation.specs.declared.Fact.{Fact}
-use Rattle.operation.specs.declared.Fact.the-variants as fact
-use Rattle.operation.specs.Answer.{number, factOf, needs, first}
-use Rattle.operation.specs.Layout.{recordsOf, baseOf, targetOf}
-use Rattle.operation.specs.Op.{base, target}
-use Rattle.operation.specs.Record.{Seq, ops, recordFault}
-use Rattle.operation.specs.Calls.{checkCall}
-use Rattle.operation.proofs.Answers.{Stopped, stopped}
-use Rattle.operation.proofs.Records.{ops-base, ops-target}
-use Rattle.operational_transform.specs.declared.Written.{Written}
-use Rattle.operational_transform.specs.declared.Written.the-variants as written
-use Rattle.operational_transform.specs.declared.core.Emitter.{Emitter}
-use Rattle.operational_transform.specs.Compose.{composeTurn, made, compose}
-use Rattle.operational_transform.specs.Calls.{recordsFault, deliver, composeCall}
-use Rattle.operational_transform.specs.Emit.{Under, nothing, Rep, Done, Finishes, Writes, Staged, headed, judged}
-use Rattle.operational_transform.proofs.Loops.{compose-runs}
-use Rattle.operational_transform.proofs.Theorems.{compose-base, compose-target}
-use Rattle.operational_transform.specs.Given.{Gives}
-use Rattle.operational_transform.proofs.Giving.{refuses, gives-refused, gives-written}
-use Rattle.turns.specs.Turns.{liveIs}
-use Rattle.turns.specs.declared.core.State.{State}
-use Rattle.turns.proofs.Going.{Going, going-all}
+use lib.Dec.{eqb}
+use borrow.Author.Tests.{ne-eqb, eq-eqb}
+use Rattle.edits.specs.Op.{base, target}
+use Rattle.edits.specs.Compose.{composeTurn, made, compose}
+use Rattle.edits.specs.Sequence.{Seq}
+use Rattle.edits.proofs.Theorems.{compose-base, compose-target}
+use Rattle.answers.specs.Answer.{needs, first, number, factOf}
+use Rattle.answers.specs.declared.Refusal.{Refusal}
+use Rattle.answers.specs.declared.Written.the-variants as written
+use Rattle.answers.specs.InnerGiven.{Gives}
+use Rattle.answers.specs.declared.Refusal.the-variants.{IncompatibleLengths}
+use Rattle.answers.specs.declared.Written.{Written}
+use Rattle.answers.specs.declared.Fact.{Fact}
+use Rattle.answers.specs.declared.Fact.the-variants as fact
+use Rattle.record.specs.Layout.{baseOf, targetOf}
+use Rattle.record.specs.Record.{ops, recordFault}
+use Rattle.record.specs.Calls.{checkCall}
+use Rattle.record.proofs.Records.{ops-base, ops-target}
+use Rattle.record.proofs.Checked.{stopped}
+use Rattle.operational_transform.specs.Calls.{recordsFault, composeCall, deliver}
+use Rattle.emitter.specs.declared.core.Emitter.{Emitter}
+use Rattle.emitter.specs.InnerEmit.{Done, Finishes, Under, Writes, Staged, headed, judged}
+use Rattle.emitter.proofs.Loops.{compose-runs}
+use Rattle.emitter.proofs.Giving.{refuses, gives-refused, gives-written}
+use Rattle.steps.specs.InnerSteps.{liveIs}
+use Rattle.steps.specs.declared.core.State.{State}
+use Rattle.steps.proofs.Going.{Going, going-all}
+use Rattle.compose.specs.InnerSized.{between}
 use Rattle.compose.specs.declared.core.Sizes.{Sizes}
-use Rattle.compose.specs.Sized.{between}
 
 -- base and target of the result are those of the operands
 module _ (n : ℕ) (a b out0 : List ℕ) (za : recordFault a ≡ 0) (zb : recordFault b ≡ 0) (h : targetOf a ≡ baseOf b) where

@@ -98,7 +98,7 @@ fn built(word: &[u8], a: &[u8], b: &[u8], n: u64, out: &mut [u8]) -> bool {
         return true;
     }
     if check::same(word, b"apply") {
-        let w = playing::apply(a, b, out);
+        let w = apply::apply(a, b, out);
         show::written(w, out);
         return true;
     }

@@ -1,10 +1,10 @@
 // Runs the calls that standard input lists, a line each, and prints every line with its answer. README, "Examples",
 // says how a line is written.
-mod calls;
-
 use listing::core::line;
 use listing::core::line::State;
 use listing::core::show;
+
+mod calls;
 
 // A line's answer is printed behind it.
 fn run(s: State, buf: &[u8]) {

@@ -1,5 +1,2 @@
 -- invert
-pub mod Passing
 pub mod Undoing
-pub mod Inverses
-pub mod Placing

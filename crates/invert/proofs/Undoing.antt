@@ -1,30 +1,31 @@
 -- The loop over the record's operations.
-use Prim.Native.Nat.{ℕ, _+_, _*_, _^_, _≤_, _<_}
-use native.Mathlib.Omega.{arith}
-use mathlib.Core.Path.{_≡_, refl, sym, ap, ap₂, _∙_}
-use mathlib.Core.Bool.{Bool, true, false, cond}
-use mathlib.Core.List.{List, [], _∷_, _++_, append-assoc, append-nil}
-use lib.Dec.{T, leb, eqb, leb→le}
-use lib.ListN.{length, drop, length-append}
+use Prim.Native.Nat.{ℕ, _+_, _≤_, _*_, _^_, _<_}
+use mathlib.Core.Path.{_≡_, refl, ap, sym, ap₂, _∙_}
+use mathlib.Core.Bool.{false, Bool, true, cond}
+use lib.Dec.{leb, T, eqb, leb→le}
 use borrow.Author.Tests.{eq-eqb, ne-eqb, eqb-true}
-use Rattle.utf8.specs.Form.{wellFormed}
-use Rattle.utf8.specs.Text.{chars}
-use Rattle.utf8.specs.Places.{Passes}
-use Rattle.utf8.proofs.Tests.{known}
-use Rattle.operation.specs.declared.core.Front.{Front}
-use Rattle.operation.specs.Layout.{recordsOf}
-use Rattle.operation.specs.Record.{Seq, ops, recordFault}
-use Rattle.operation.specs.Front.{frontOp, ahead, Place, Stands, Loads}
-use Rattle.operation.specs.Op.{retain}
-use Rattle.operation.proofs.Fronts.{some-ahead, ended-ahead, op-retain, begins-none, fault-few}
-use Rattle.operation.proofs.Records.{ops-length}
-use Rattle.operational_transform.specs.declared.core.Emitter.{Emitter}
-use Rattle.operational_transform.specs.Invert.{undoAll, invert}
-use Rattle.operational_transform.specs.Emit.{Under, nothing, Adds, Retains, Finishes, Done}
-use Rattle.operational_transform.proofs.Adding.{adds-nil, adds-append, under-start, under-more}
-use Rattle.operational_transform.proofs.Delivering.{builds}
-use Rattle.invert.specs.Inverting.{taken, undone, lastRetain}
-use Rattle.invert.proofs.Passing.{taken-is, undone-is}
+use mathlib.Core.List.{List, _++_, [], _∷_, append-assoc, append-nil}
+use lib.ListN.{length, drop, length-append}
+use native.Mathlib.Omega.{arith}
+use Rattle.buffers.proofs.Tests.{known}
+use Rattle.characters.specs.Form.{wellFormed}
+use Rattle.characters.specs.Text.{chars}
+use Rattle.characters.specs.InnerPlaces.{Passes}
+use Rattle.edits.specs.Sequence.{Seq}
+use Rattle.edits.specs.Invert.{undoAll, invert}
+use Rattle.edits.specs.Op.{retain}
+use Rattle.record.specs.declared.core.Front.{Front}
+use Rattle.record.specs.Record.{ops, recordFault}
+use Rattle.record.specs.InnerFront.{ahead, Stands, frontOp, Place, Loads}
+use Rattle.record.specs.Layout.{recordsOf}
+use Rattle.record.proofs.Records.{ops-length}
+use Rattle.reader.proofs.Fronts.{fault-few, some-ahead, ended-ahead, op-retain, begins-none}
+use Rattle.emitter.specs.declared.core.Emitter.{Emitter}
+use Rattle.emitter.specs.InnerEmit.{nothing, Adds, Under, Retains, Finishes, Done}
+use Rattle.emitter.proofs.Adding.{adds-nil, adds-append, under-start, under-more}
+use Rattle.emitter.proofs.Delivering.{builds}
+use Rattle.invert_in_place.specs.InnerInverting.{lastRetain, taken, undone}
+use Rattle.invert_in_place.proofs.Passing.{taken-is, undone-is}
 
 -- ---- `is_last_retain`
 

@@ -1,10 +1,10 @@
 // A label, three translators who change it at the same time, and a server that their edits reach in each order: prints what ships.
 // A translator's copy is a log too. Its own edit is in it from the start; then come the counterparts that the server hands out
 // for this edit, and the server's revisions from there on.
+use answers::Written;
+use answers::WrittenPair;
 use listing::core::show;
 use log::core::Scanned;
-use operational_transform::Written;
-use transform::WrittenPair;
 use wording::core::tell;
 use wording::core::words;
 

@@ -1,3 +1,4 @@
 // Reading and printing, which no contract states.
+
 pub mod line;
 pub mod show;

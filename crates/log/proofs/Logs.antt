@@ -1,20 +1,22 @@
 -- Logs: what is written is read again, and what can be read is what was written.
-use Prim.Native.Nat.{ℕ, zero, suc, _+_, _≤_}
-use native.Mathlib.Omega.{arith}
+use Prim.Native.Nat.{ℕ, _≤_, suc, _+_, zero}
+use mathlib.Core.List.{List, [], _∷_, _++_, append-assoc, map, append-nil}
+use lib.ListN.{length, drop, length-append, take, take-append-drop}
 use mathlib.Core.Path.{_≡_, refl, sym, ap, ap₂, _∙_}
-use mathlib.Core.List.{List, [], _∷_, _++_, map, append-assoc, append-nil}
+use lib.Seq.{drop-at, take-at, length-take-le, take-length, getD-drop, take-add}
 use lib.Dec.{T, eqb}
-use lib.ListN.{length, take, drop, length-append, take-append-drop}
-use lib.Seq.{drop-at, take-at, take-add, take-length, getD-drop, length-take-le}
-use Rattle.utf8.proofs.Tests.{both, equal-T, le-and, eq-and}
-use Rattle.operation.specs.Op.{target}
-use Rattle.operation.specs.Layout.{words, sizeOf, baseOf, targetOf}
-use Rattle.operation.specs.Record.{Seq, encode, recordFault}
-use Rattle.operation.proofs.Sequences.{Good}
-use Rattle.operation.proofs.Records.{Bytes, words-at, joined, encode-ops, ops-good, ops-base, ops-target, ops-encode, size-encode, base-encode, target-encode, fault-encode}
-use Rattle.log.specs.Log.{encodeAll, logOf, countOf, startOf, recordsStart, recordsIn, sizesIn, editsIn, lengthIn, readableFrom, readable, placeOf, sizeOfLog, lengthAt, contents, revisions}
+use native.Mathlib.Omega.{arith}
+use Rattle.buffers.specs.Words.{words}
+use Rattle.buffers.proofs.Tests.{both, equal-T, le-and, eq-and}
+use Rattle.edits.specs.Sequence.{Seq}
+use Rattle.edits.specs.Op.{target}
+use Rattle.record.specs.Layout.{sizeOf, baseOf, targetOf}
+use Rattle.record.specs.Record.{encode, recordFault}
+use Rattle.record.proofs.Sequences.{Good}
+use Rattle.record.proofs.Records.{size-encode, ops-encode, target-encode, base-encode, fault-encode, Bytes, ops-good, ops-base, ops-target, encode-ops, words-at, joined}
+use Rattle.log.specs.Log.{encodeAll, editsIn, sizesIn, lengthIn, recordsIn, readableFrom, logOf, recordsStart, countOf, startOf, readable, placeOf, sizeOfLog, lengthAt, contents, revisions}
+use Rattle.log.proofs.Rows.{Each, Row, lengthAfter}
 use Rattle.log.proofs.Scanning.{edits-length}
-use Rattle.log.proofs.Rows.{Each, lengthAfter, Row}
 
 -- a starting length and edits that a log can hold
 pub record Sound (start : ℕ) (edits : List Seq) : Type 0 where

@@ -6,12 +6,12 @@ use mathlib.Core.List.{List, [], _∷_}
 use lib.Dec.{leb}
 use lib.ListN.{length}
 use borrow.Author.Tests.{le-leb, lt-leb}
-use Rattle.operation.specs.Answer.{gives, refused, needs}
-use Rattle.operation.specs.Layout.{words}
-use Rattle.operational_transform.specs.Emit.{over, bytes16}
-use Rattle.operational_transform.specs.Output.{atFront}
-use Rattle.operational_transform.proofs.Over.{over-join, over-front}
-use Rattle.operational_transform.proofs.Outputs.{writing-stops, writing-short, writing-goes, untouched}
+use Rattle.buffers.specs.Words.{words}
+use Rattle.buffers.specs.InnerOver.{over, bytes16}
+use Rattle.buffers.specs.Buffers.{atFront}
+use Rattle.buffers.proofs.Over.{over-join, over-front}
+use Rattle.answers.specs.Answer.{gives, refused, needs}
+use Rattle.answers.proofs.Outputs.{writing-stops, writing-short, writing-goes, untouched}
 use Rattle.log.specs.Open.{openCall}
 
 module _ (n : ℕ) (l : List ℕ) where

@@ -1,9 +1,9 @@
 -- Rows of edits: each one's base is the length before it.
+use mathlib.Core.List.{List, [], _∷_, _++_}
 use Prim.Native.Nat.{ℕ}
 use mathlib.Core.Path.{_≡_, refl}
-use mathlib.Core.List.{List, [], _∷_, _++_}
-use Rattle.operation.specs.Op.{base, target}
-use Rattle.operation.specs.Record.{Seq}
+use Rattle.edits.specs.Op.{target, base}
+use Rattle.edits.specs.Sequence.{Seq}
 
 abbrev pub Each : {A : Type 0} → (A → Type 0) → List A → Type 0
 Each P [] = Unit {0}

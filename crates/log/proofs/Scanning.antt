@@ -1,33 +1,33 @@
 -- Going through a log, record by record.
-use Prim.Native.Nat.{ℕ, zero, suc, _+_, _-_, _≤_, _<_}
-use native.Mathlib.Nat.{sub-zero}
-use native.Mathlib.Numerals.{add-one}
+use Prim.Native.Nat.{ℕ, _-_, suc, zero, _+_, _<_, _≤_}
 use native.Mathlib.Omega.{arith}
-use mathlib.Core.Path.{_≡_, refl, sym, ap, ap₂, _∙_}
-use mathlib.Core.Bool.{Bool, true, false, cond}
-use mathlib.Core.List.{List, [], _∷_}
-use lib.Dec.{T, eqb}
+use mathlib.Core.Path.{_≡_, sym, ap, refl, _∙_, ap₂}
+use mathlib.Core.List.{List, _∷_, []}
 use lib.ListN.{length, take, drop, length-drop}
 use lib.Seq.{take-all, drop-drop, drop-length}
-use borrow.Author.Tests.{le-leb, lt-leb, eq-eqb, ne-eqb, eqb-true, eqb-false}
-use Rattle.utf8.proofs.Tests.{known, le-and, eq-and}
-use Rattle.operation.specs.declared.Refusal.{Refusal}
-use Rattle.operation.specs.declared.Fact.{Fact}
-use Rattle.operation.specs.declared.Fact.the-variants as fact
-use Rattle.operation.specs.Answer.{factOf}
-use Rattle.operation.specs.Layout.{sizeOf, baseOf, targetOf}
-use Rattle.operation.specs.Record.{ops, recordFault}
-use Rattle.operation.specs.Calls.{checkCall}
-use Rattle.operation.proofs.Answers.{no-fault, passed}
-use Rattle.operation.proofs.Answers as answers
-use Rattle.operation.proofs.Faults.{limits, faultless}
-use Rattle.log.specs.Log.{countOf, startOf, recordsStart, sizesIn, editsIn, lengthIn, readableFrom, readable, placeOf, sizeOfLog, lengthAt, revisions}
-use Rattle.log.specs.Scan.{Found, Scans}
-use Rattle.log.specs.declared.core.Scanned.the-variants.{Unreadable, Of}
+use lib.Dec.{T, eqb}
+use native.Mathlib.Numerals.{add-one}
+use borrow.Author.Tests.{ne-eqb, eq-eqb, le-leb, lt-leb, eqb-true, eqb-false}
+use mathlib.Core.Bool.{cond, false, Bool, true}
+use native.Mathlib.Nat.{sub-zero}
+use Rattle.buffers.proofs.Tests.{eq-and, le-and, known}
+use Rattle.answers.specs.declared.Refusal.{Refusal}
+use Rattle.answers.specs.declared.Fact.{Fact}
+use Rattle.answers.specs.declared.Fact.the-variants as fact
+use Rattle.answers.specs.Answer.{factOf}
+use Rattle.record.specs.Layout.{sizeOf, targetOf, baseOf}
+use Rattle.record.specs.Record.{ops, recordFault}
+use Rattle.record.specs.Calls.{checkCall}
+use Rattle.record.proofs.Faults.{faultless, limits}
+use Rattle.record.proofs.Checked.{passed, stopped as check-stopped}
+use Rattle.operation.proofs.Answers.{no-fault}
+use Rattle.log.specs.Log.{sizesIn, lengthIn, editsIn, readableFrom, countOf, startOf, recordsStart, readable, placeOf, lengthAt, revisions, sizeOfLog}
 use Rattle.log.specs.declared.core.Spot.{Spot}
-use Rattle.log.specs.declared.core.Stepped.{Stepped}
 use Rattle.log.specs.declared.core.Stepped.the-variants.{Stopped, On}
-use Rattle.log.specs.Steps.{Past, Steps, stop, on, Passing}
+use Rattle.log.specs.InnerSteps.{Steps, stop, on, Passing, Past}
+use Rattle.log.specs.InnerScan.{Scans, Found}
+use Rattle.log.specs.declared.core.Scanned.the-variants.{Unreadable, Of}
+use Rattle.log.specs.declared.core.Stepped.{Stepped}
 
 -- ---- records that stand end to end
 
@@ -191,7 +191,7 @@ module _ (l : List ℕ) (p : Spot) (f : Fact) (e : factOf f ≡ checkCall (take 
   pub step-fault : (x : Refusal) → f ≡ fact.Refused x → Steps l p Stopped
   unfolding readableFrom
   step-fault x q =
-      let s = answers.stopped part f e x q in
+      let s = check-stopped part f e x q in
       let z : recordFault (drop (p .at) l) ≡ suc (s .less) = ap recordFault (sym (to-end l (p .at))) ∙ s .fault in
       stop (λ n. rw (ne-eqb (recordFault (drop (p .at) l)) 0 (λ y. absurd (omega arith))))
 

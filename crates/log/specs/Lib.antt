@@ -1,5 +1,5 @@
 -- log
 pub mod Log
 pub mod Open
-pub mod Scan
-pub mod Steps
+pub mod InnerScan
+pub mod InnerSteps

@@ -1,11 +1,13 @@
 -- The log of a session, as bytes: document 01, "Session", and refusal 6.
 use Prim.Native.Nat.{ℕ, zero, suc, _+_}
-use mathlib.Core.Bool.{Bool, true, _&&_}
 use mathlib.Core.List.{List, [], _∷_, _++_}
 use lib.ListN.{length, take, drop}
-use lib.Dec.{leb, eqb}
-use Rattle.operation.specs.Layout.{words, wordAt, sizeOf, baseOf, targetOf}
-use Rattle.operation.specs.Record.{Seq, encode, ops, recordFault}
+use mathlib.Core.Bool.{Bool, true, _&&_}
+use lib.Dec.{eqb, leb}
+use Rattle.buffers.specs.Words.{words, wordAt}
+use Rattle.edits.specs.Sequence.{Seq}
+use Rattle.record.specs.Record.{encode, ops, recordFault}
+use Rattle.record.specs.Layout.{sizeOf, targetOf, baseOf}
 
 -- ---- writing: "the number of revisions, the starting length, then the revisions' records end to end"
 

@@ -2,9 +2,9 @@
 use Prim.Native.Nat.{ℕ}
 use mathlib.Core.List.{List, [], _∷_}
 use lib.Dec.{leb}
-use Rattle.operation.specs.Answer.{needs}
-use Rattle.operation.specs.Layout.{words}
-use Rattle.operational_transform.specs.Output.{Out, writing}
+use Rattle.buffers.specs.Words.{words}
+use Rattle.answers.specs.Answer.{needs}
+use Rattle.answers.specs.Output.{Out, writing}
 
 unfoldable pub openCall : ℕ → List ℕ → Out
 unfolding writing

@@ -1,13 +1,13 @@
 // A log gone through once.
-use operation::Fact;
+use answers::Fact;
 ghost use mathlib.Core.Path.{_≡_};
-ghost use mathlib.Core.Bool.{cond};
 ghost use Prim.Native.Nat.{_≤_};
-ghost use lib.Dec.{eqb};
 ghost use lib.ListN.{length};
+ghost use mathlib.Core.Bool.{cond};
+ghost use lib.Dec.{eqb};
+ghost use Rattle.log.specs.InnerScan.{Scans};
 ghost use Rattle.log.specs.Log.{countOf, startOf};
-ghost use Rattle.log.specs.Scan.{Scans};
-ghost use Rattle.log.specs.Steps.{Steps};
+ghost use Rattle.log.specs.InnerSteps.{Steps};
 
 // The number of revisions, the starting length and the size of the contents; where revision r ends, and the length after it
 // (where there is no revision r, the last two are 0).
@@ -42,11 +42,11 @@ pub fn read(log: &[u8], r: u64) -> Scanned
     if log.len() < 4 {
         return Scanned::Unreadable;
     }
-    let count = operation::core::word(log, 0);
+    let count = buffers::core::word(log, 0);
     if 256 < count {
         return Scanned::Unreadable;
     }
-    let start = operation::core::word(log, 2);
+    let start = buffers::core::word(log, 2);
     if 32768 < start {
         return Scanned::Unreadable;
     }
@@ -106,11 +106,11 @@ fn step(log: &[u8], here: Spot) -> Stepped
     let Fact::Is(size) = operation::check(rec) else {
         return Stepped::Stopped;
     };
-    if operation::core::base(rec) != here.len {
+    if reader::core::base(rec) != here.len {
         return Stepped::Stopped;
     }
     Stepped::On(Spot {
         at: at + size,
-        len: operation::core::target(rec),
+        len: reader::core::target(rec),
     })
 }

@@ -1,8 +1,8 @@
 // The log of a session: opened, and gone through.
-use operation::Refusal;
-use operational_transform::Written;
+use answers::Refusal;
+use answers::Written;
 ghost use mathlib.Core.Path.{_≡_};
-ghost use Rattle.operational_transform.specs.Emit.{writtenOf};
+ghost use Rattle.answers.specs.Answer.{writtenOf};
 ghost use Rattle.log.specs.Open.{openCall};
 
 pub mod core;
@@ -17,7 +17,7 @@ pub fn open(start: u64, log: &mut [u8]) -> Written
     if log.len() < 4 {
         return Written::Refused(Refusal::Room);
     }
-    operational_transform::core::put16(log, 0, 0);
-    operational_transform::core::put16(log, 2, start as usize);
+    buffers::core::put16(log, 0, 0);
+    buffers::core::put16(log, 2, start as usize);
     Written::Bytes(4)
 }

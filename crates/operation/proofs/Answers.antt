@@ -1,38 +1,43 @@
 -- From what the code finds to the answers of the calls.
-use Prim.Native.Nat.{ℕ, zero, suc, _+_, _-_, _^_, _≤_, _<_}
-use native.Mathlib.Nat.{add-zero}
+use Prim.Native.Nat.{ℕ, _^_, _≤_, _<_, _+_, zero, suc, _-_}
 use native.Mathlib.Omega.{arith}
-use mathlib.Core.Path.{_≡_, refl, sym, ap, ap₂, _∙_}
+use mathlib.Core.Path.{_≡_, refl, sym, ap, _∙_, ap₂}
 use mathlib.Core.Bool.{Bool, true, false, cond, not}
 use mathlib.Core.List.{List, [], _∷_, map}
+use lib.ListN.{length, drop, length-take, take, getD, length-map, List·getD-map, List·getD-eq-default}
+use borrow.Author.Tests.{eq-eqb, ne-eqb, not-true, not-false, eqb-true, eqb-false, leb-true, leb-false, ltb-true, ltb-false}
+use native.Mathlib.Nat.{add-zero}
 use lib.Dec.{eqb, leb, ltb}
-use lib.ListN.{length, take, drop, getD, length-map, length-take, List·getD-map, List·getD-eq-default}
 use lib.Seq.{getD-drop}
-use borrow.Author.Tests.{eq-eqb, ne-eqb, eqb-true, eqb-false, leb-true, leb-false, ltb-true, ltb-false, not-true, not-false}
-use Rattle.utf8.specs.Chars.{numChars, allOf}
-use Rattle.utf8.proofs.Tests.{known}
-use Rattle.utf8.proofs.Chars.{num-le}
-use Rattle.operation.specs.declared.Refusal.{Refusal}
-use Rattle.operation.specs.declared.Fact.{Fact}
-use Rattle.operation.specs.declared.Fact.the-variants as fact
-use Rattle.operation.specs.declared.Noop.the-variants as noop
-use Rattle.operation.specs.declared.checks.Entries.{Entries}
-use Rattle.operation.specs.declared.checks.Entries.the-variants.{Unsound, Of}
-use Rattle.operation.specs.declared.checks.Sums.{Sums}
+use Rattle.buffers.specs.Lists.{allOf}
+use Rattle.buffers.proofs.Tests.{known}
+use Rattle.characters.specs.Chars.{numChars}
+use Rattle.characters.proofs.Chars.{num-le}
+use Rattle.edits.specs.Op.{total, base, Op, retain}
+use Rattle.edits.specs.Built.{chained}
+use Rattle.edits.specs.Sequence.{Seq}
+use Rattle.answers.specs.Answer.{refused, gives, number, factOf, noopOf, settle}
+use Rattle.answers.specs.declared.Refusal.{Refusal}
+use Rattle.answers.specs.declared.Fact.{Fact}
+use Rattle.answers.specs.declared.Fact.the-variants as fact
+use Rattle.answers.specs.declared.Noop.the-variants as noop
+use Rattle.record.specs.Layout.{recordsOf, textBytesOf, baseOf, textStart, targetOf, sizeOf, kindAt, countAt}
+use Rattle.record.specs.Record.{byteOps, inLimits, sound, wellInserted, givesChars, entries, soundEntry, textOf, insertBytes, adds, recordFault, ByteSeq, inChars, inserted, ops}
+use Rattle.record.specs.Calls.{checkCall, baseCall, targetCall, noEffect, noopCall, textCall, textFrom}
+use Rattle.record.specs.InnerFront.{byteOpsLeft}
+use Rattle.record.proofs.Faults.{InLimits, limits, faultless}
+use Rattle.record.proofs.Records.{byteOps-length, ops-length}
+use Rattle.record.proofs.Walks.{left-all, left-done, left-retain, left-insert, left-delete, inserts-all, inserts-more}
+use Rattle.record.proofs.Checked.{same-refusal, passed}
+use Rattle.tally.specs.declared.core.Entries.{Entries}
+use Rattle.tally.specs.declared.core.Entries.the-variants.{Unsound, Of}
+use Rattle.tally.specs.declared.core.Sums.{Sums}
+use Rattle.tally.specs.InnerTally.{sumsOf, entriesOf}
+use Rattle.tally.proofs.Tallying.{found, Found}
 use Rattle.operation.specs.declared.checks.Inserted.{Inserted}
 use Rattle.operation.specs.declared.checks.Inserted.the-variants.{IllFormed, Chars}
-use Rattle.operation.specs.Answer.{number, Answer, gives, refused, factOf, noopOf, settle}
-use Rattle.operation.specs.Op.{Op, retain, total, base}
-use Rattle.operation.specs.Built.{chained}
-use Rattle.operation.specs.Layout.{recordsOf, textBytesOf, baseOf, targetOf, textStart, sizeOf, kindAt, countAt}
-use Rattle.operation.specs.Record.{Seq, ByteSeq, inChars, inserted, entries, textOf, byteOps, ops, inLimits, soundEntry, insertBytes, sound, wellInserted, givesChars, adds, recordFault}
-use Rattle.operation.specs.Front.{byteOpsLeft}
-use Rattle.operation.specs.Checks.{sumsOf, entriesOf, insertedOf, Sound, Reached}
-use Rattle.operation.specs.Calls.{checkCall, baseCall, targetCall, noEffect, noopCall, textCall, textFrom}
-use Rattle.operation.proofs.Faults.{InLimits, limits, faultless}
-use Rattle.operation.proofs.Records.{byteOps-length, ops-length}
-use Rattle.operation.proofs.Walks.{left-all, left-done, left-retain, left-insert, left-delete, inserts-more, inserts-all}
-use Rattle.operation.proofs.Checking.{Found, found, reached-room, Reach, reach}
+use Rattle.operation.specs.InnerTexts.{insertedOf, Sound, Reached}
+use Rattle.operation.proofs.Texts.{reached-room, Reach, reach}
 
 -- which enum's case is found by a test
 unsound : (b : Bool) (x : Sums) (e : Entries) → e ≡ cond b (Of x) Unsound → e ≡ Unsound → b ≡ false
@@ -178,40 +183,18 @@ no-fault r z =
     let l = limits r .0 (f .in-limits) in
     record { few = l .records; short = l .text-bytes; room = l .whole; entries-sound = f .sound; adds-up = f .adds-up }
 
--- the record is refused by this number
-pub record Stopped (r : List ℕ) (x : Refusal) : Type 0 where
-  pub less : ℕ
-  pub fault : recordFault r ≡ suc less
-  pub number-is : number x ≡ suc less
-
 module _ (r : List ℕ) (f : Fact) (p : factOf f ≡ checkCall r) where
-  pub stopped : (x : Refusal) → f ≡ fact.Refused x → Stopped r x
-  unfolding checkCall
-  stopped x q = go (recordFault r) refl (ap factOf (sym q) ∙ p)
-    where
-      go : (k : ℕ) → recordFault r ≡ k → refused (number x) ≡ settle k refused (gives (sizeOf r ∷ [])) → Stopped r x
-      go zero h e = absurd (let z : _≡_ {A = ℕ} 0 1 = cc e in omega arith)
-      go (suc k) h e = record { less = k; fault = h; number-is = (cc e) }
-
-  pub same-refusal : (x : Refusal) (g : Answer) → f ≡ fact.Refused x → refused (number x) ≡ settle (recordFault r) refused g
-  unfolding checkCall
-  same-refusal x g q = go (recordFault r) (ap factOf (sym q) ∙ p)
-    where
-      go : (k : ℕ) → refused (number x) ≡ settle k refused (gives (sizeOf r ∷ [])) → refused (number x) ≡ settle k refused g
-      go zero e = absurd (let z : _≡_ {A = ℕ} 0 1 = cc e in omega arith)
-      go (suc k) e = e
-
   pub base-refused : (x : Refusal) → f ≡ fact.Refused x → refused (number x) ≡ baseCall r
   unfolding baseCall
-  base-refused x q = same-refusal x _ q
+  base-refused x q = same-refusal r f p x _ q
 
   pub target-refused : (x : Refusal) → f ≡ fact.Refused x → refused (number x) ≡ targetCall r
   unfolding targetCall
-  target-refused x q = same-refusal x _ q
+  target-refused x q = same-refusal r f p x _ q
 
   pub noop-refused : (x : Refusal) → f ≡ fact.Refused x → refused (number x) ≡ noopCall r
   unfolding noopCall
-  noop-refused x q = same-refusal x _ q
+  noop-refused x q = same-refusal r f p x _ q
 
   pub text-refused : (k : ℕ) (x : Refusal) → f ≡ fact.Refused x → [] ≡ textCall r k
   unfolding checkCall textCall
@@ -222,16 +205,8 @@ module _ (r : List ℕ) (f : Fact) (p : factOf f ≡ checkCall r) where
       go (suc m) e = refl
 
   module _ (s : ℕ) (q : f ≡ fact.Is s) where
-    pub passed : recordFault r ≡ 0
-    unfolding checkCall
-    passed = go (recordFault r) (ap factOf (sym q) ∙ p)
-      where
-        go : (k : ℕ) → gives (s ∷ []) ≡ settle k refused (gives (sizeOf r ∷ [])) → k ≡ 0
-        go zero e = refl
-        go (suc k) e = absurd (let z : _≡_ {A = ℕ} 0 1 = cc e in omega arith)
-
     pub passed-sound : Sound r
-    passed-sound = no-fault r passed
+    passed-sound = no-fault r (passed r f p s q)
 
     pub passed-header : 8 ≤ length r
     passed-header = omega (arith, passed-sound)
@@ -241,11 +216,11 @@ module _ (r : List ℕ) (f : Fact) (p : factOf f ≡ checkCall r) where
 
     pub base-is : (b : ℕ) → b ≡ baseOf r → gives (b ∷ []) ≡ baseCall r
     unfolding baseCall
-    base-is b e = rw passed (ap (λ n. gives (n ∷ [])) e)
+    base-is b e = rw (passed r f p s q) (ap (λ n. gives (n ∷ [])) e)
 
     pub target-is : (b : ℕ) → b ≡ targetOf r → gives (b ∷ []) ≡ targetCall r
     unfolding targetCall
-    target-is b e = rw passed (ap (λ n. gives (n ∷ [])) e)
+    target-is b e = rw (passed r f p s q) (ap (λ n. gives (n ∷ [])) e)
 
     -- ---- no effect
 
@@ -255,14 +230,14 @@ module _ (r : List ℕ) (f : Fact) (p : factOf f ≡ checkCall r) where
 
       noop-by : (m : ℕ) → noEffect (ops r) ≡ m → gives (m ∷ []) ≡ noopCall r
       unfolding noopCall
-      noop-by m e = rw (passed, e)
+      noop-by m e = rw ((passed r f p s q), e)
 
       pub noop-none : n ≡ 0 → gives (1 ∷ []) ≡ noopCall r
       unfolding ops
       noop-none z = noop-by 1 (ap (λ q. noEffect (map inChars q)) (all-ahead ∙ left-done r 0 _ (omega arith)))
 
       pub noop-many : 1 < n → gives (0 ∷ []) ≡ noopCall r
-      noop-many h = noop-by 0 (go (ops r) (omega (arith, ops-length r passed)))
+      noop-many h = noop-by 0 (go (ops r) (omega (arith, ops-length r (passed r f p s q))))
         where
           go : (s : Seq) → 1 < length s → noEffect s ≡ 0
           go [] l = absurd (omega arith)
@@ -293,10 +268,10 @@ module _ (r : List ℕ) (f : Fact) (p : factOf f ≡ checkCall r) where
     module _ (n k : ℕ) (pn : n ≡ recordsOf r) where
       text-by : (x : List ℕ) → x ≡ getD (map inserted (byteOps r)) k [] → x ≡ textCall r k
       unfolding textCall
-      text-by x e = rw passed e
+      text-by x e = rw (passed r f p s q) e
 
       pub text-past : n ≤ k → [] ≡ textCall r k
-      text-past h = text-by [] (sym (List·getD-eq-default (map inserted (byteOps r)) [] (simp length-map (omega (arith, byteOps-length r passed)))))
+      text-past h = text-by [] (sym (List·getD-eq-default (map inserted (byteOps r)) [] (simp length-map (omega (arith, byteOps-length r (passed r f p s q))))))
 
       -- the operation in front of what lies ahead
       at-front : (at : ℕ) (o : Op ℕ) (s : ByteSeq) → Reached r k at → byteOpsLeft r k at ≡ o ∷ s → inserted o ≡ textCall r k

@@ -1,21 +1,21 @@
 -- Document 01's examples T1 to T10, as one table.
 use Prim.Native.Nat.{ℕ}
-use mathlib.Core.Path.{_≡_, refl}
 use mathlib.Core.List.{List, [], _∷_}
 use lib.ListN.{replicate}
-use Rattle.utf8.specs.Form.{within, leadOf}
-use Rattle.utf8.specs.Chars.{isCont}
-use Rattle.utf8.specs.Text.{Char, chars, bytes}
-use Rattle.utf8.specs.Order.{order}
-use Rattle.operation.specs.Answer.{gives, refused}
-use Rattle.operation.specs.Op.{Op, retain, insert, delete}
-use Rattle.operation.specs.Record.{encode}
-use Rattle.operational_transform.specs.Build.{build}
-use Rattle.operational_transform.specs.Apply.{apply}
-use Rattle.operational_transform.specs.Compose.{compose}
-use Rattle.operational_transform.specs.Transform.{transform}
-use Rattle.operational_transform.specs.Invert.{invert}
-use Rattle.operational_transform.specs.Calls.{retainCall, insertCall, transformCall}
+use mathlib.Core.Path.{_≡_, refl}
+use Rattle.characters.specs.Text.{Char, chars, bytes}
+use Rattle.characters.specs.Form.{within, leadOf}
+use Rattle.characters.specs.Chars.{isCont}
+use Rattle.characters.specs.Order.{order}
+use Rattle.edits.specs.Op.{Op, retain, insert, delete}
+use Rattle.edits.specs.Build.{build}
+use Rattle.edits.specs.Apply.{apply}
+use Rattle.edits.specs.Compose.{compose}
+use Rattle.edits.specs.Transform.{transform}
+use Rattle.edits.specs.Invert.{invert}
+use Rattle.answers.specs.Answer.{gives, refused}
+use Rattle.record.specs.Record.{encode}
+use Rattle.operational_transform.specs.Calls.{insertCall, transformCall, retainCall}
 
 abbrev R : ℕ → Op Char
 R n = retain n

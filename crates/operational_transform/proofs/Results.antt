@@ -1,31 +1,33 @@
 -- A record that a call has written can be read, and is its result.
 use Prim.Native.Nat.{ℕ}
 use mathlib.Core.Path.{_≡_, ap, _∙_}
-use mathlib.Core.Bool.{_&&_}
 use mathlib.Core.List.{List, [], _∷_}
 use lib.Dec.{T, eqb}
-use lib.ListN.{length, take, drop}
-use Rattle.utf8.specs.Form.{wellFormed}
-use Rattle.utf8.specs.Chars.{numChars}
-use Rattle.utf8.specs.Text.{Char, chars, bytes}
-use Rattle.utf8.specs.Order.{order}
-use Rattle.utf8.proofs.Tests.{both}
-use Rattle.operation.specs.Answer.{gives, goes, needs, first}
-use Rattle.operation.specs.Op.{Op, retain, insert, delete}
-use Rattle.operation.specs.Built.{Built}
-use Rattle.operation.specs.Layout.{baseOf, targetOf, sizeOf}
-use Rattle.operation.specs.Record.{Seq, encode, fits, ops, recordFault}
-use Rattle.operation.proofs.Refusals.{needs-out, first-zero}
-use Rattle.operation.proofs.Records.{ops-encode, fault-encode, size-encode, ops-good}
-use Rattle.operational_transform.specs.Build.{extend}
-use Rattle.operational_transform.specs.Apply.{apply}
-use Rattle.operational_transform.specs.Compose.{compose}
-use Rattle.operational_transform.specs.Transform.{Sides, keepBoth, transform}
-use Rattle.operational_transform.specs.Invert.{invert}
-use Rattle.operational_transform.specs.Output.{atFront, Out, Outs}
-use Rattle.operational_transform.specs.Calls.{recordsFault, textFault, deliver, retainCall, deleteCall, insertCall, applyCall, composeCall, transformCall, invertCall}
-use Rattle.operational_transform.proofs.Claims.{extend-built, compose-built, transform-built, invert-built}
-use Rattle.operational_transform.proofs.Outputs.{wrote, wroteBoth, atFront-take}
+use lib.ListN.{length, drop, take}
+use mathlib.Core.Bool.{_&&_}
+use Rattle.buffers.specs.Buffers.{atFront}
+use Rattle.buffers.proofs.Tests.{both}
+use Rattle.characters.specs.Text.{Char, chars, bytes}
+use Rattle.characters.specs.Form.{wellFormed}
+use Rattle.characters.specs.Order.{order}
+use Rattle.characters.specs.Chars.{numChars}
+use Rattle.edits.specs.Sequence.{Seq}
+use Rattle.edits.specs.Built.{Built}
+use Rattle.edits.specs.Op.{Op, retain, delete, insert}
+use Rattle.edits.specs.Build.{extend}
+use Rattle.edits.specs.Compose.{compose}
+use Rattle.edits.specs.Invert.{invert}
+use Rattle.edits.specs.Transform.{Sides, keepBoth, transform}
+use Rattle.edits.specs.Apply.{apply}
+use Rattle.edits.proofs.Claims.{extend-built, compose-built, invert-built, transform-built}
+use Rattle.answers.specs.Answer.{gives, goes, needs, first}
+use Rattle.answers.specs.Output.{Out, Outs}
+use Rattle.answers.proofs.Refusals.{needs-out, first-zero}
+use Rattle.answers.proofs.Outputs.{wrote, wroteBoth, atFront-take}
+use Rattle.record.specs.Layout.{sizeOf, baseOf, targetOf}
+use Rattle.record.specs.Record.{ops, recordFault, encode, fits}
+use Rattle.record.proofs.Records.{ops-encode, fault-encode, size-encode, ops-good}
+use Rattle.operational_transform.specs.Calls.{deliver, retainCall, deleteCall, textFault, insertCall, recordsFault, composeCall, invertCall, transformCall, applyCall}
 
 -- the buffer has the record of `s` at its front, `n` bytes
 pub record Stored (s : Seq) (n : ℕ) (buffer : List ℕ) : Type 0 where

@@ -1,23 +1,24 @@
 -- What each call on records gives back and leaves in its output, for every input.
 -- "Operands are checked one after another: first record, second record, text ..; then the rest": 8, 9, 10.
 use Prim.Native.Nat.{ℕ}
-use mathlib.Core.Bool.{_&&_}
 use mathlib.Core.List.{List}
 use lib.Dec.{eqb}
-use Rattle.utf8.specs.Form.{wellFormed}
-use Rattle.utf8.specs.Chars.{numChars}
-use Rattle.utf8.specs.Text.{chars, bytes}
-use Rattle.utf8.specs.Order.{order}
-use Rattle.operation.specs.Answer.{needs, first}
-use Rattle.operation.specs.Op.{retain, insert, delete}
-use Rattle.operation.specs.Layout.{baseOf, targetOf}
-use Rattle.operation.specs.Record.{Seq, encode, fits, ops, recordFault}
-use Rattle.operational_transform.specs.Build.{extend}
-use Rattle.operational_transform.specs.Apply.{apply}
-use Rattle.operational_transform.specs.Compose.{compose}
-use Rattle.operational_transform.specs.Transform.{transform}
-use Rattle.operational_transform.specs.Invert.{invert}
-use Rattle.operational_transform.specs.Output.{Out, writing, Outs, writingBoth}
+use mathlib.Core.Bool.{_&&_}
+use Rattle.characters.specs.Form.{wellFormed}
+use Rattle.characters.specs.Text.{chars, bytes}
+use Rattle.characters.specs.Chars.{numChars}
+use Rattle.characters.specs.Order.{order}
+use Rattle.edits.specs.Sequence.{Seq}
+use Rattle.edits.specs.Op.{retain, delete, insert}
+use Rattle.edits.specs.Build.{extend}
+use Rattle.edits.specs.Apply.{apply}
+use Rattle.edits.specs.Compose.{compose}
+use Rattle.edits.specs.Transform.{transform}
+use Rattle.edits.specs.Invert.{invert}
+use Rattle.answers.specs.Answer.{first, needs}
+use Rattle.answers.specs.Output.{Out, writing, Outs, writingBoth}
+use Rattle.record.specs.Record.{recordFault, encode, fits, ops}
+use Rattle.record.specs.Layout.{baseOf, targetOf}
 
 -- the operands: two records; a record and a text
 abbrev pub recordsFault : List ℕ → List ℕ → ℕ

@@ -8,28 +8,28 @@ use mathlib.Core.List.{List, [], _∷_, _++_}
 use lib.Dec.{T}
 use lib.ListN.{length, take, drop, length-take}
 use borrow.Author.Tests.{eq-eqb, ne-eqb}
-use Rattle.utf8.specs.declared.core.Form.{Form}
-use Rattle.utf8.specs.declared.core.Form.the-variants as form
-use Rattle.utf8.specs.Form.{wellFormed}
-use Rattle.utf8.specs.Passed.{formOf}
-use Rattle.utf8.specs.Chars.{numChars}
-use Rattle.utf8.specs.Text.{chars}
-use Rattle.utf8.proofs.Tests.{holds}
-use Rattle.utf8.proofs.Passed.{form-ill, form-well, form-num}
-use Rattle.operation.specs.Answer.{gives, refused}
-use Rattle.operational_transform.specs.Output.{atFront}
-use Rattle.operational_transform.proofs.Outputs.{writing-stops, writing-short, writing-goes, untouched}
+use Rattle.buffers.specs.Buffers.{atFront}
+use Rattle.buffers.proofs.Tests.{holds}
+use Rattle.characters.specs.declared.Form.{Form}
+use Rattle.characters.specs.declared.Form.the-variants as form
+use Rattle.characters.specs.Form.{wellFormed}
+use Rattle.characters.specs.InnerPassed.{formOf}
+use Rattle.characters.specs.Chars.{numChars}
+use Rattle.characters.specs.Text.{chars}
+use Rattle.characters.proofs.Passed.{form-ill, form-well, form-num}
+use Rattle.answers.specs.Answer.{gives, refused}
+use Rattle.answers.proofs.Outputs.{writing-stops, writing-short, writing-goes, untouched}
 use Rattle.log.specs.declared.core.Scan.{Scan}
 use Rattle.log.specs.declared.core.Scanned.{Scanned}
 use Rattle.log.specs.declared.core.Scanned.the-variants as scanned
 use Rattle.log.specs.Log.{countOf, startOf, readable, revisions}
-use Rattle.log.specs.Scan.{Found, Scans, ScansTo}
+use Rattle.log.specs.InnerScan.{Found, Scans, ScansTo}
 use Rattle.session.specs.Rows.{longest}
 use Rattle.session.specs.Session.{played, playFault, playCall}
 use Rattle.playback.specs.declared.Reached.{Reached}
 use Rattle.playback.specs.declared.Reached.the-variants as reached
-use Rattle.playback.specs.Stages.{room, Ends, whole}
-use Rattle.playback.specs.Stages as stages
+use Rattle.playback.specs.InnerStages.{room, Ends, whole}
+use Rattle.playback.specs.InnerStages as stages
 
 module _ (l t o : List ℕ) (a b : ℕ) where
   stops : (n : ℕ) → playFault l t a b ≡ suc n → refused (suc n) ≡ playCall l t a b o .answer

@@ -1,16 +1,16 @@
 -- Whether the scratch buffers have room for every text on the way.
 use Prim.Native.Nat.{ℕ, _≤_, _<_, max}
-use native.Mathlib.Omega.{arith}
-use mathlib.Core.Path.{_≡_, refl, sym, ap₂, _∙_}
-use mathlib.Core.Bool.{Bool, true, false, _&&_}
-use mathlib.Core.List.{List, [], _∷_}
+use mathlib.Core.Path.{_≡_, refl, sym, _∙_, ap₂}
+use mathlib.Core.Bool.{true, false, Bool, _&&_}
+use borrow.Author.Tests.{le-leb, lt-leb, leb-false, leb-true}
 use lib.Dec.{leb}
+use native.Mathlib.Omega.{arith}
+use mathlib.Core.List.{List, [], _∷_}
 use lib.ListN.{length}
-use borrow.Author.Tests.{le-leb, lt-leb, leb-true, leb-false}
-use Rattle.utf8.specs.Text.{Char, bytes}
-use Rattle.operation.specs.Record.{Seq}
+use Rattle.characters.specs.Text.{Char, bytes}
+use Rattle.edits.specs.Sequence.{Seq}
 use Rattle.session.specs.Rows.{longest}
-use Rattle.playback.specs.Stages.{room}
+use Rattle.playback.specs.InnerStages.{room}
 
 pub room-both : (a b n : ℕ) → n ≤ a → n ≤ b → room a b n ≡ true
 room-both a b n h g = rw (le-leb n a h, le-leb n b g)

@@ -1,36 +1,36 @@
 -- From one text to the next.
-use Prim.Native.Nat.{ℕ, _+_, _-_, _≤_, _<_}
+use Prim.Native.Nat.{ℕ, _+_, _≤_, _<_, _-_}
 use native.Mathlib.Nat.{zero-add}
-use native.Mathlib.Omega.{arith}
-use mathlib.Core.Path.{_≡_, refl, sym, ap, ap₂, _∙_}
-use mathlib.Core.Bool.{Bool, true, false, not}
-use mathlib.Core.List.{List, [], _++_}
-use lib.Dec.{T}
+use mathlib.Core.Path.{_≡_, sym, ap, _∙_, ap₂, refl}
+use mathlib.Core.Bool.{true, false, Bool, not}
+use mathlib.Core.List.{List, _++_, []}
 use lib.ListN.{length, take, drop, length-take}
 use lib.Seq.{length-front, length-take-le, take-append-seam}
-use Rattle.utf8.specs.Form.{wellFormed}
-use Rattle.utf8.specs.Chars.{numChars}
-use Rattle.utf8.specs.Text.{Char, chars, bytes}
-use Rattle.utf8.proofs.Texts.{bytes-chars, chars-bytes, bytes-well, chars-length}
-use Rattle.operation.specs.Op.{base, target}
-use Rattle.operation.specs.Layout.{sizeOf, baseOf}
-use Rattle.operation.specs.Record.{ops, recordFault}
-use Rattle.operation.proofs.Records.{ops-base, ops-target}
-use Rattle.operational_transform.specs.Apply.{apply}
-use Rattle.operational_transform.specs.Emit.{over}
-use Rattle.operational_transform.proofs.Outputs.{atFront-take}
-use Rattle.operational_transform.proofs.Over.{length-over, over-front}
-use Rattle.operational_transform.proofs.Theorems.{apply-length}
-use Rattle.playing.specs.Steps.{played}
-use Rattle.log.specs.Log.{countOf, startOf, readable, revisions}
+use native.Mathlib.Omega.{arith}
+use lib.Dec.{T}
+use Rattle.buffers.specs.InnerOver.{over}
+use Rattle.buffers.proofs.Over.{length-over, over-front}
+use Rattle.characters.specs.Form.{wellFormed}
+use Rattle.characters.specs.Chars.{numChars}
+use Rattle.characters.specs.Text.{Char, chars, bytes}
+use Rattle.characters.proofs.Texts.{bytes-chars, chars-bytes, bytes-well, chars-length}
+use Rattle.edits.specs.Op.{base}
+use Rattle.edits.specs.Apply.{apply}
+use Rattle.edits.proofs.Theorems.{apply-length}
+use Rattle.answers.proofs.Outputs.{atFront-take}
+use Rattle.record.specs.Layout.{sizeOf, baseOf}
+use Rattle.record.specs.Record.{ops, recordFault}
+use Rattle.record.proofs.Records.{ops-base, ops-target}
+use Rattle.apply.specs.InnerSteps.{played}
+use Rattle.log.specs.Log.{startOf, countOf, readable, revisions}
 use Rattle.log.proofs.Scanning.{place-start, length-start, place-inside, Revision, revision, revisions-end}
 use Rattle.session.specs.Rows.{playAll, longest}
 use Rattle.session.specs.Session as session
-use Rattle.playback.specs.declared.Reached.{Reached}
+use Rattle.playback.specs.InnerStages.{Holds, held, missed, Advances, Stage, room, Ends, whole}
 use Rattle.playback.specs.declared.Reached.the-variants.{Short, Of}
-use Rattle.playback.specs.Stages.{room, Holds, held, missed, Advances, Stage, Ends, whole}
-use Rattle.playback.specs.Stages as stages
-use Rattle.playback.proofs.Rooms.{room-both, room-first, room-second, room-more, room-max, longest-here}
+use Rattle.playback.specs.InnerStages as stages
+use Rattle.playback.specs.declared.Reached.{Reached}
+use Rattle.playback.proofs.Rooms.{room-first, room-second, room-both, room-more, room-max, longest-here}
 
 -- ---- a text at the front of a buffer
 

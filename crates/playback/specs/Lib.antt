@@ -1,2 +1,2 @@
 -- playback
-pub mod Stages
+pub mod InnerStages

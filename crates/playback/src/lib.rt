@@ -1,20 +1,20 @@
 // Playing a log's revisions on a text, oldest first.
+use answers::Refusal;
+use answers::Written;
+use characters::Form;
 use log::core::Scanned;
-use operation::Refusal;
-use operational_transform::Written;
-use utf8::core::Form;
 ghost use mathlib.Core.Path.{_≡_};
-ghost use Prim.Native.Nat.{_≤_};
-ghost use lib.Dec.{T};
 ghost use lib.ListN.{length, take};
-ghost use Rattle.utf8.specs.Form.{wellFormed};
-ghost use Rattle.utf8.specs.Chars.{numChars};
-ghost use Rattle.operation.specs.Layout.{baseOf};
-ghost use Rattle.operation.specs.Record.{recordFault};
-ghost use Rattle.operational_transform.specs.Emit.{writtenOf};
+ghost use lib.Dec.{T};
+ghost use Prim.Native.Nat.{_≤_};
+ghost use Rattle.characters.specs.Form.{wellFormed};
+ghost use Rattle.characters.specs.Chars.{numChars};
+ghost use Rattle.answers.specs.Answer.{writtenOf};
+ghost use Rattle.record.specs.Layout.{baseOf};
+ghost use Rattle.record.specs.Record.{recordFault};
 ghost use Rattle.log.specs.Log.{countOf, startOf, readable};
 ghost use Rattle.session.specs.Session.{playCall};
-ghost use Rattle.playback.specs.Stages.{Advances, Ends, Holds};
+ghost use Rattle.playback.specs.InnerStages.{Ends, Advances, Holds};
 
 // How many bytes a text at the front of the first scratch buffer has; or one of the two was too short for it.
 pub(crate) enum Reached {
@@ -47,7 +47,7 @@ pub fn play(
     if out.len() < n {
         return Written::Refused(Refusal::Room);
     }
-    utf8::core::copy_into(out, 0, &scratch_a[..n]);
+    buffers::core::copy_into(out, 0, &scratch_a[..n]);
     Written::Bytes(n)
 }
 
@@ -80,7 +80,7 @@ fn revise(log: &[u8], count: usize, n: usize, a: &mut [u8], b: &mut [u8]) -> Rea
                 len = m;
             }
         }
-        at += operation::core::size(rec);
+        at += reader::core::size(rec);
         k += 1;
     }
     Reached::Of(len)
@@ -91,7 +91,7 @@ fn advance(rec: &[u8], n: usize, a: &mut [u8], b: &mut [u8]) -> Reached
     requires { ⌜ (recordFault (now rec) ≡ 0) × (n ≤ length (now a)) × T (wellFormed (take n (now a))) × (numChars (take n (now a)) ≡ baseOf (now rec)) ⌝ }
     ensures { λ r. ⌜ Advances (now (rec .entry)) (take n (now (a .entry))) (length (now (a .entry))) (length (now (b .entry))) (now (a .exit)) r ⌝ }
 {
-    let m = playing::core::run(b, rec, &a[..n]);
+    let m = apply::core::run(b, rec, &a[..n]);
     if b.len() < m {
         return Reached::Short;
     }
@@ -108,6 +108,6 @@ fn hold(a: &mut [u8], text: &[u8]) -> bool
     if a.len() < text.len() {
         return false;
     }
-    utf8::core::copy_into(a, 0, text);
+    buffers::core::copy_into(a, 0, text);
     true
 }

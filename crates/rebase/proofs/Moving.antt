@@ -1,39 +1,40 @@
 -- The run past the revisions: what was moved already, and what is still to come, is the whole.
-use Prim.Native.Nat.{ℕ, zero, suc, _+_, _-_, _*_, _^_, _≤_}
+use Prim.Native.Nat.{ℕ, zero, suc, _+_, _*_, _≤_, _-_, _^_}
+use mathlib.Core.Path.{_≡_, refl, sym, ap, _∙_, subst, ap₂, subst₂}
+use mathlib.Core.List.{List, _++_, [], map, _∷_, append-assoc, append-nil}
+use lib.Dec.{eqb, eqb→eq, leb}
+use lib.ListN.{drop, length, take, length-append, length-drop}
 use native.Mathlib.Omega.{arith}
-use mathlib.Core.Path.{_≡_, refl, sym, ap, ap₂, _∙_, subst, subst₂}
 use mathlib.Core.Bool.{Bool, true, false, not, _&&_, and-eq-true-iff, true≢false}
-use mathlib.Core.List.{List, [], _∷_, _++_, append-assoc, append-nil, map}
-use lib.Dec.{leb, eqb, eqb→eq}
-use lib.ListN.{length, take, drop, length-append, length-drop}
 use lib.Seq.{take-at, drop-at, drop-drop}
 use borrow.Author.Tests.{not-true, not-false, le-leb, leb-true}
-use Rattle.utf8.specs.Order.{order}
-use Rattle.utf8.proofs.Tests.{both, holds}
-use Rattle.utf8.specs.Text.{Char}
-use Rattle.operation.specs.declared.Refusal.the-variants.{Limit}
-use Rattle.operation.specs.Layout.{sizeOf, baseOf, targetOf}
-use Rattle.operation.specs.Op.{base}
-use Rattle.operation.specs.Record.{Seq, inBytes, text, encode, fits, ops, recordFault}
-use Rattle.operation.proofs.Faults.{limits, faultless}
-use Rattle.operation.proofs.Sequences.{fits-limits}
-use Rattle.operation.proofs.Records.{encode-small, ops-base, ops-target}
-use Rattle.operational_transform.specs.Transform.{Sides, transform}
-use Rattle.operational_transform.specs.Emit.{within, sizeIn}
-use Rattle.operational_transform.specs.Output.{atFront}
-use Rattle.operational_transform.proofs.Theorems.{base-left}
-use Rattle.operational_transform.proofs.Counting.{text-left}
-use Rattle.operational_transform.proofs.Delivering.{sized-fits}
-use Rattle.transform.specs.declared.core.Pair.{Pair}
-use Rattle.transform.specs.declared.core.Counts.{Counts}
-use Rattle.transform.specs.Both.{MarkedBoth, SizedBoth}
-use Rattle.log.specs.Log.{encodeAll, editsIn, readableFrom}
+use Rattle.buffers.specs.Buffers.{atFront}
+use Rattle.buffers.proofs.Tests.{both, holds}
+use Rattle.characters.specs.Order.{order}
+use Rattle.characters.specs.Text.{Char}
+use Rattle.edits.specs.Sequence.{Seq}
+use Rattle.edits.specs.Op.{base}
+use Rattle.edits.specs.Transform.{Sides, transform}
+use Rattle.edits.proofs.Theorems.{base-left}
+use Rattle.answers.specs.declared.Refusal.the-variants.{Limit}
+use Rattle.record.specs.Layout.{baseOf, sizeOf, targetOf}
+use Rattle.record.specs.Record.{recordFault, ops, inBytes, text, encode, fits}
+use Rattle.record.proofs.Records.{ops-base, encode-small, ops-target}
+use Rattle.record.proofs.Faults.{limits, faultless}
+use Rattle.record.proofs.Sequences.{fits-limits}
+use Rattle.emitter.specs.InnerEmit.{within, sizeIn}
+use Rattle.emitter.proofs.Counting.{text-left}
+use Rattle.emitter.proofs.Delivering.{sized-fits}
+use Rattle.steps.specs.declared.core.Pair.{Pair}
+use Rattle.steps.specs.declared.core.Counts.{Counts}
+use Rattle.steps.specs.InnerBoth.{MarkedBoth, SizedBoth}
+use Rattle.log.specs.Log.{readableFrom, encodeAll, editsIn}
 use Rattle.log.proofs.Logs.{encodeAll-append}
 use Rattle.log.proofs.Scanning.{to-end}
-use Rattle.session.specs.Rows.{rule, Moved, rebase}
+use Rattle.session.specs.Rows.{Moved, rebase, rule}
+use Rattle.rebase.specs.InnerRunning.{Lie, Holds, SameText, Fit, Ready, GoesOn, Runs}
 use Rattle.rebase.specs.declared.core.Spot.{Spot}
 use Rattle.rebase.specs.declared.core.Run.the-variants as outcome
-use Rattle.rebase.specs.Running.{Lie, Holds, SameText, Fit, Ready, GoesOn, Runs}
 use Rattle.rebase.proofs.Passing.{within-fits}
 
 -- ---- records end to end

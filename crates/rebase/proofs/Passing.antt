@@ -1,33 +1,34 @@
 -- Past one revision: the edit's side takes the edit's place, the revision's side goes behind the counterparts before it.
-use Prim.Native.Nat.{ℕ, _+_, _-_, _^_, _≤_, _<_}
-use native.Mathlib.Omega.{arith}
-use mathlib.Core.Path.{_≡_, refl, sym, ap, ap₂, _∙_, subst}
-use mathlib.Core.Bool.{Bool, true, false, not, _&&_}
-use mathlib.Core.List.{List, [], _++_, append-nil, map}
+use mathlib.Core.Path.{_≡_, sym, _∙_, ap, ap₂, refl, subst}
+use mathlib.Core.Bool.{true, Bool, false, not, _&&_}
 use lib.Dec.{T, leb}
-use lib.ListN.{length, take, drop, length-drop}
+use Prim.Native.Nat.{ℕ, _≤_, _<_, _+_, _^_, _-_}
+use mathlib.Core.List.{List, map, [], _++_, append-nil}
+use lib.ListN.{length, drop, take, length-drop}
 use lib.Seq.{take-at, drop-length}
-use borrow.Author.Tests.{le-leb, lt-leb, not-true, not-false}
+use borrow.Author.Tests.{not-true, not-false, le-leb, lt-leb}
+use native.Mathlib.Omega.{arith}
 use borrow.Rule.Slice.PartMut.{putMid}
-use Rattle.utf8.specs.Order.{order}
-use Rattle.utf8.proofs.Tests.{known}
-use Rattle.operation.specs.Layout.{sizeOf, recordsOf, textBytesOf, textStart}
-use Rattle.operation.specs.Record.{Seq, inBytes, text, encode, fits, ops, recordFault}
-use Rattle.operation.proofs.Sequences.{Good, fits-limits}
-use Rattle.operation.proofs.Records.{size-encode, ops-encode, fault-encode, ops-text}
-use Rattle.operational_transform.specs.declared.core.Emitter.{Emitter}
-use Rattle.operational_transform.specs.Output.{atFront}
-use Rattle.operational_transform.specs.Transform.{keepBoth, transform}
-use Rattle.operational_transform.specs.Emit.{Under, Sizes, Marked, within, sizeIn}
-use Rattle.operational_transform.proofs.Claims.{transform-built}
-use Rattle.operational_transform.proofs.Counting.{text-left, text-right}
-use Rattle.operational_transform.proofs.Delivering.{sized-fits, sized-length, written-front}
-use Rattle.operational_transform.proofs.Staging.{marked-writes}
-use Rattle.transform.specs.declared.core.Pair.{Pair}
-use Rattle.transform.proofs.Marking.{bounds, text-there}
+use Rattle.buffers.specs.Buffers.{atFront}
+use Rattle.buffers.proofs.Tests.{known}
+use Rattle.characters.specs.Order.{order}
+use Rattle.edits.specs.Sequence.{Seq}
+use Rattle.edits.specs.Transform.{keepBoth, transform}
+use Rattle.edits.proofs.Claims.{transform-built}
+use Rattle.record.specs.Record.{fits, encode, inBytes, text, ops, recordFault}
+use Rattle.record.specs.Layout.{recordsOf, textBytesOf, textStart, sizeOf}
+use Rattle.record.proofs.Sequences.{Good, fits-limits}
+use Rattle.record.proofs.Records.{size-encode, ops-encode, fault-encode, ops-text}
+use Rattle.emitter.specs.declared.core.Emitter.{Emitter}
+use Rattle.emitter.specs.InnerEmit.{Sizes, within, sizeIn, Under, Marked}
+use Rattle.emitter.proofs.Delivering.{sized-fits, sized-length, written-front}
+use Rattle.emitter.proofs.Staging.{marked-writes}
+use Rattle.emitter.proofs.Counting.{text-left, text-right}
+use Rattle.steps.specs.declared.core.Pair.{Pair}
+use Rattle.steps.proofs.Marking.{bounds, text-there}
 use Rattle.log.proofs.Scanning.{to-end}
+use Rattle.rebase.specs.InnerRunning.{Holds, withText, Keeps, SameText, Ready, GoesOn}
 use Rattle.rebase.specs.declared.core.Spot.{Spot}
-use Rattle.rebase.specs.Running.{Holds, SameText, Ready, withText, Keeps, GoesOn}
 
 pub within-fits : (s : Seq) (e : Emitter) → Sizes s e → within e ≡ true → T (fits s)
 within-fits s e d w = known (sym (sized-fits s e d) ∙ w)

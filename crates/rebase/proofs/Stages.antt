@@ -1,20 +1,19 @@
 -- Both sides of a transform, written to stages by one run.
 use Prim.Native.Nat.{ℕ}
-use mathlib.Core.Path.{_≡_, sym, _∙_, subst}
-use mathlib.Core.Bool.{Bool, true, false, not}
+use mathlib.Core.Path.{_≡_, sym, subst, _∙_}
+use mathlib.Core.Bool.{Bool, true, not, false}
 use mathlib.Core.List.{List}
 use lib.ListN.{length}
 use borrow.Author.Tests.{not-true, not-false}
-use Rattle.utf8.specs.Order.{order}
-use Rattle.operation.specs.Record.{ops}
-use Rattle.operational_transform.specs.Transform.{transform}
-use Rattle.turns.specs.Turns.{liveIs}
-use Rattle.transform.specs.declared.core.Both.{Both}
-use Rattle.transform.specs.declared.core.Counts.{Counts}
-use Rattle.transform.specs.Both.{MarkedBoth}
-use Rattle.transform.proofs.Looping.{GoingBoth}
-use Rattle.transform.proofs.Marking.{both-marked}
-use Rattle.rebase.specs.Running.{Ends}
+use Rattle.characters.specs.Order.{order}
+use Rattle.edits.specs.Transform.{transform}
+use Rattle.record.specs.Record.{ops}
+use Rattle.steps.specs.InnerSteps.{liveIs}
+use Rattle.steps.specs.declared.core.Both.{Both}
+use Rattle.steps.specs.declared.core.Counts.{Counts}
+use Rattle.steps.specs.InnerBoth.{MarkedBoth, Ends}
+use Rattle.steps.proofs.Looping.{GoingBoth}
+use Rattle.steps.proofs.Marking.{both-marked}
 
 pub marked-run : (n : ℕ) (a b next₀ side₀ : List ℕ) (s : Both) (next side : List ℕ) → GoingBoth n n a b next₀ side₀ s next side → length next ≡ length next₀ → length side ≡ length side₀
     → (v : Bool) → v ≡ liveIs (s .x) (s .y) → not v ≡ true → (c : Counts) (next′ side′ : List ℕ) → Ends n s next side c next′ side′ → length next′ ≡ length next → length side′ ≡ length side

@@ -1,2 +1,2 @@
 -- rebase
-pub mod Running
+pub mod InnerRunning

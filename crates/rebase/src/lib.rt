@@ -1,2 +1,3 @@
 // An edit is moved past revisions.
+
 pub mod core;

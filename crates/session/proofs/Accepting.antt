@@ -1,27 +1,30 @@
 -- One accept on the log of a history: it is what the history is told.
-use Prim.Native.Nat.{ℕ, zero, suc, _+_, _≤_, _<_}
+use mathlib.Core.List.{[], _∷_, _++_, List, append-assoc}
+use Prim.Native.Nat.{ℕ, _≤_, _<_, zero, suc, _+_}
+use lib.ListN.{drop, length, take, length-append, take-append-drop}
+use mathlib.Core.Bool.{_&&_, Bool, true, false}
+use lib.Dec.{leb, ltb, eqb, T, leb→le, ltb→lt, eqb→eq}
+use mathlib.Core.Path.{_≡_, sym, ap, _∙_, refl, ap₂}
 use native.Mathlib.Omega.{arith}
-use mathlib.Core.Path.{_≡_, refl, sym, ap, ap₂, _∙_}
-use mathlib.Core.Bool.{Bool, true, false, _&&_}
-use mathlib.Core.List.{List, [], _∷_, _++_, append-assoc}
-use lib.Dec.{T, leb, ltb, eqb, leb→le, ltb→lt, eqb→eq}
-use lib.ListN.{length, take, drop, length-append, take-append-drop}
-use lib.Seq.{drop-at, take-at, drop-append-seam, drop-append-add}
-use Rattle.utf8.proofs.Tests.{both, holds}
-use Rattle.operation.specs.Answer.{Answer, first, gives, needs, refused, settle}
-use Rattle.operation.specs.Layout.{words, baseOf}
-use Rattle.operation.specs.Op.{base}
-use Rattle.operation.specs.Record.{Seq, encode, ops, recordFault}
-use Rattle.operation.proofs.Sequences.{Good}
-use Rattle.operation.proofs.Records.{ops-base}
-use Rattle.operation.proofs.Refusals.{needs-out, first-zero}
-use Rattle.operational_transform.specs.Output.{atFront, Outs}
+use lib.Seq.{drop-at, take-at, drop-append-add, drop-append-seam}
+use Rattle.buffers.specs.Words.{words}
+use Rattle.buffers.specs.Buffers.{atFront}
+use Rattle.buffers.proofs.Tests.{both, holds}
+use Rattle.edits.specs.Sequence.{Seq}
+use Rattle.edits.specs.Op.{base}
+use Rattle.answers.specs.Answer.{Answer, gives, refused, needs, first, settle}
+use Rattle.answers.specs.Output.{Outs}
+use Rattle.answers.proofs.Refusals.{needs-out, first-zero}
+use Rattle.record.specs.Record.{ops, encode, recordFault}
+use Rattle.record.specs.Layout.{baseOf}
+use Rattle.record.proofs.Sequences.{Good}
+use Rattle.record.proofs.Records.{ops-base}
 use Rattle.log.specs.Log.{encodeAll, logOf, readable, sizeOfLog, lengthAt}
-use Rattle.log.proofs.Rows.{each-append, lengthAfter, Row, row-append, row-right, after-append}
 use Rattle.log.proofs.Logs.{Sound, log-more, log-more-length, count-log, length-log, revisions-log, size-log, readable-log}
+use Rattle.log.proofs.Rows.{lengthAfter, each-append, Row, row-append, row-right, after-append}
+use Rattle.session.specs.History.{History, Told, logIn, historyAccept}
 use Rattle.session.specs.Rows.{Moved, rebase}
 use Rattle.session.specs.Session.{movedIn, acceptFault, append, acceptCall}
-use Rattle.session.specs.History.{History, logIn, Told, historyAccept}
 use Rattle.session.specs.Demand.{Call, accept, shown}
 use Rattle.session.proofs.Rows.{target-after}
 use Rattle.session.proofs.Moving.{later-gathered, rebase-base, rebase-good}

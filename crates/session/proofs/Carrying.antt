@@ -1,21 +1,21 @@
 -- Marks carried along a row of edits, and what an edit that is moved past a row types and keeps.
-use Prim.Native.Nat.{ℕ, zero, suc, _<_}
-use native.Mathlib.Omega.{arith}
-use mathlib.Core.Path.{_≡_, refl, sym, ap, _∙_}
+use mathlib.Core.Path.{_≡_, refl, sym, _∙_, ap}
 use mathlib.Core.Bool.{Bool, true, false}
 use mathlib.Core.List.{List, [], _∷_, _++_, map}
-use lib.ListN.{length, take, drop, replicate, length-replicate}
-use Rattle.utf8.specs.Text.{Char}
-use Rattle.operation.specs.Op.{base, target}
-use Rattle.operation.specs.Record.{Seq}
-use Rattle.operational_transform.specs.Apply.{apply}
-use Rattle.operational_transform.specs.Trace.{Within, typed, stays, marked, carry}
-use Rattle.operational_transform.proofs.Claims.{apply-length}
-use Rattle.operational_transform.proofs.Marks.{within-none, within-carry, carry-length, marked-carry, marked-typed}
-use Rattle.log.proofs.Rows.{lengthAfter, Row}
-use Rattle.session.specs.Rows.{playAll, rule, rebase}
+use lib.ListN.{length, replicate, length-replicate, take, drop}
+use Prim.Native.Nat.{ℕ, zero, suc, _<_}
+use native.Mathlib.Omega.{arith}
+use Rattle.characters.specs.Text.{Char}
+use Rattle.edits.specs.Sequence.{Seq}
+use Rattle.edits.specs.Trace.{carry, Within, stays, marked, typed}
+use Rattle.edits.specs.Apply.{apply}
+use Rattle.edits.specs.Op.{target, base}
+use Rattle.edits.proofs.Marks.{within-carry, carry-length, marked-carry, marked-typed, within-none}
+use Rattle.edits.proofs.Claims.{apply-length}
+use Rattle.log.proofs.Rows.{Row, lengthAfter}
 use Rattle.session.specs.Keeping.{carryAll, newest}
-use Rattle.session.proofs.Moving.{rule-tp1, rule-types, rule-moves}
+use Rattle.session.specs.Rows.{playAll, rule, rebase}
+use Rattle.session.proofs.Moving.{rule-types, rule-tp1, rule-moves}
 
 -- ---- rows
 

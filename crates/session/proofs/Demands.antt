@@ -1,28 +1,29 @@
 -- Demand 3.
 use Prim.Native.Nat.{ℕ}
-use mathlib.Core.Path.{_≡_, refl, sym, ap, _∙_, subst, subst₂}
-use mathlib.Core.List.{List, [], _++_, map}
+use mathlib.Core.Path.{_≡_, ap, _∙_, subst, sym, subst₂}
+use mathlib.Core.List.{List, _++_, [], map}
 use lib.Dec.{T}
 use lib.ListN.{length, take}
-use Rattle.utf8.specs.Form.{wellFormed}
-use Rattle.utf8.specs.Chars.{numChars}
-use Rattle.utf8.specs.Text.{Char, chars, bytes}
-use Rattle.utf8.proofs.Tests.{both}
-use Rattle.utf8.proofs.Texts.{chars-bytes, chars-length, bytes-well, bytes-inj}
-use Rattle.operation.specs.Answer.{goes}
-use Rattle.operation.specs.Record.{Seq, encode, ops}
-use Rattle.operation.proofs.Faults.{limits, faultless}
-use Rattle.operation.proofs.Records.{ops-encode}
-use Rattle.operation.proofs.Theorems.{ops-behind}
+use Rattle.buffers.proofs.Tests.{both}
+use Rattle.characters.specs.Form.{wellFormed}
+use Rattle.characters.specs.Chars.{numChars}
+use Rattle.characters.specs.Text.{Char, chars, bytes}
+use Rattle.characters.proofs.Texts.{chars-bytes, chars-length, bytes-well, bytes-inj}
+use Rattle.edits.specs.Sequence.{Seq}
+use Rattle.answers.specs.Answer.{goes}
+use Rattle.record.specs.Record.{encode, ops}
+use Rattle.record.proofs.Records.{ops-encode}
+use Rattle.record.proofs.Faults.{limits, faultless}
+use Rattle.record.proofs.Theorems.{ops-behind}
 use Rattle.log.proofs.Rows.{Row}
-use Rattle.session.specs.Rows.{playAll}
 use Rattle.session.specs.Session.{summaryCall}
-use Rattle.session.specs.History.{History, fresh, logIn, historyPlay}
-use Rattle.session.specs.Demand.{Fresh, Call, accept, ran, logAfter, fed, after, Given, AllGo, Lent, againstNewest, again, AsForetold, SummariesTell, CopiesMeet, Demand3}
-use Rattle.session.proofs.Rows.{summary, summary-unique, same-plays}
+use Rattle.session.specs.History.{fresh, logIn, History, historyPlay}
+use Rattle.session.specs.Demand.{Fresh, Call, ran, logAfter, after, Given, AsForetold, SummariesTell, fed, AllGo, Lent, againstNewest, again, accept, CopiesMeet, Demand3}
+use Rattle.session.specs.Rows.{playAll}
 use Rattle.session.proofs.Accepting.{SoundIn, joined}
-use Rattle.session.proofs.Running.{Went, fed-sound, left-log, run-log, after-sound, after-start, after-log, fresh-log, summary-log, given}
-use Rattle.session.proofs.Meeting.{revisions-in, goes-fed, newest, relayed, movedBy, handed, newest-there, meet-plays}
+use Rattle.session.proofs.Running.{run-log, after-sound, after-log, fresh-log, summary-log, given, after-start, Went, fed-sound, left-log}
+use Rattle.session.proofs.Rows.{summary, summary-unique, same-plays}
+use Rattle.session.proofs.Meeting.{newest, relayed, movedBy, newest-there, meet-plays, revisions-in, goes-fed, handed}
 
 -- a session's log is that of its history, which a log can hold
 module _ (n : ℕ) (log : List ℕ) (f : Fresh n log) (cs : List Call) where

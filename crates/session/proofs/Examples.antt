@@ -1,20 +1,20 @@
 -- What the claims about lists of calls ask can be had: that the copies meet, with two counterparts, and that nothing typed is lost.
 use Prim.Native.Nat.{ℕ}
-use native.Mathlib.Omega.{arith}
-use mathlib.Core.Path.{_≡_, refl}
 use mathlib.Core.List.{List, [], _∷_}
+use lib.ListN.{replicate, take, length}
+use mathlib.Core.Path.{_≡_, refl}
 use lib.Dec.{T}
-use lib.ListN.{length, replicate, take}
-use Rattle.utf8.specs.Form.{leadOf}
-use Rattle.utf8.specs.Chars.{isCont}
-use Rattle.operation.specs.Answer.{goes}
-use Rattle.operational_transform.specs.Compose.{compose}
-use Rattle.operational_transform.specs.Trace.{none, more}
+use native.Mathlib.Omega.{arith}
+use Rattle.characters.specs.Form.{leadOf}
+use Rattle.characters.specs.Chars.{isCont}
+use Rattle.edits.specs.Compose.{compose}
+use Rattle.edits.specs.Trace.{none, more}
+use Rattle.answers.specs.Answer.{goes}
 use Rattle.log.specs.Log.{contents, revisions}
 use Rattle.log.specs.Open.{openCall}
+use Rattle.session.specs.Demand.{Call, Lent, accept, againstNewest, handedOut, again, Fresh, ran, logAfter, Given, AllGo, CopiesMeet, fed, after}
+use Rattle.session.specs.History.{fresh, History, historyAccept}
 use Rattle.session.specs.Session.{acceptCall, summaryCall}
-use Rattle.session.specs.History.{History, fresh, historyAccept}
-use Rattle.session.specs.Demand.{Fresh, Call, accept, ran, logAfter, fed, after, Given, AllGo, Lent, againstNewest, handedOut, again, CopiesMeet}
 use Rattle.session.specs.Keeping.{newest, Spared}
 
 -- texts of two characters; the first session's revisions are R1 I"ä" R1 and D1 R1, both written against the start

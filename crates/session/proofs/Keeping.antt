@@ -1,27 +1,28 @@
 -- Nothing typed is lost, in any list of accept calls.
+use mathlib.Core.Path.{_≡_, refl, ap, _∙_, subst, sym}
+use mathlib.Core.Bool.{true, Bool, false}
+use lib.ListN.{drop, length, take, take-append-drop}
 use Prim.Native.Nat.{ℕ, _+_, _-_, _≤_, _<_}
 use native.Mathlib.Omega.{arith}
-use mathlib.Core.Path.{_≡_, refl, sym, ap, _∙_, subst}
-use mathlib.Core.Bool.{Bool, true, false}
 use mathlib.Core.List.{List, [], _∷_, _++_, append-assoc, append-nil}
 use lib.Dec.{T, ltb}
-use lib.ListN.{length, take, drop, take-append-drop}
 use lib.Seq.{drop-append-le, take-append-le, drop-append-add, drop-append-seam}
 use borrow.Author.Tests.{ltb-true, ltb-false}
-use Rattle.operation.specs.Answer.{goes}
-use Rattle.operation.specs.Record.{Seq, ops}
-use Rattle.operational_transform.specs.Trace.{Within, typed, stays, marked}
-use Rattle.operational_transform.proofs.Marks.{stays-length, within-trans, within-length, within-refl}
+use Rattle.edits.specs.Trace.{typed, stays, Within, marked}
+use Rattle.edits.specs.Sequence.{Seq}
+use Rattle.edits.proofs.Marks.{stays-length, within-trans, within-length, within-refl}
+use Rattle.answers.specs.Answer.{goes}
+use Rattle.record.specs.Record.{ops}
 use Rattle.log.proofs.Rows.{lengthAfter, Row, row-right}
-use Rattle.session.specs.Rows.{playAll}
 use Rattle.session.specs.History.{History, fresh}
 use Rattle.session.specs.Demand.{Call, fed, after}
 use Rattle.session.specs.Keeping.{carryAll, newest, Spared, NothingLost, TypedStands}
-use Rattle.session.proofs.Rows.{playAll-append, playAll-length}
-use Rattle.session.proofs.Accepting.{SoundIn, joined, past-row}
-use Rattle.session.proofs.Running.{Went, went, fed-rule, fed-sound, fed-start, after-sound, after-start, fresh-sound}
+use Rattle.session.specs.Rows.{playAll}
+use Rattle.session.proofs.Accepting.{SoundIn, past-row, joined}
+use Rattle.session.proofs.Running.{Went, fed-rule, fed-sound, fed-start, after-sound, after-start, went, fresh-sound}
 use Rattle.session.proofs.Meeting.{movedBy}
-use Rattle.session.proofs.Carrying.{carryAll-append, within-carryAll, LeaveAll, leave-more, leave-plays, newest-length, newest-typed, newest-kept, rebase-types, rebase-stays}
+use Rattle.session.proofs.Carrying.{rebase-types, rebase-stays, carryAll-append, within-carryAll, LeaveAll, leave-more, newest-kept, leave-plays, newest-length, newest-typed}
+use Rattle.session.proofs.Rows.{playAll-append, playAll-length}
 
 -- ---- one accept
 

@@ -1,28 +1,30 @@
 -- The copies of an edit meet: a session that accepts it against an older revision, and one that accepts it and then the
 -- counterparts.
-use Prim.Native.Nat.{ℕ, _-_}
-use mathlib.Core.Path.{_≡_, sym, ap, ap₂, _∙_, subst}
-use mathlib.Core.List.{List, [], _∷_, _++_, map, append-assoc, append-nil}
+use mathlib.Core.Path.{_≡_, sym, ap, _∙_, subst, ap₂}
+use mathlib.Core.List.{[], append-nil, List, _∷_, _++_, map, append-assoc}
+use lib.ListN.{length, drop, take, length-drop, take-append-drop}
 use lib.Dec.{T}
-use lib.ListN.{length, take, drop, length-drop, take-append-drop}
-use lib.Seq.{length-take-le, drop-length}
-use Rattle.utf8.specs.Text.{Char}
-use Rattle.utf8.proofs.Tests.{both}
-use Rattle.operation.specs.Answer.{goes}
-use Rattle.operation.specs.Record.{Seq, encode, ops}
-use Rattle.operation.proofs.Records.{ops-encode}
-use Rattle.operational_transform.specs.Apply.{apply}
-use Rattle.operational_transform.specs.Output.{atFront, Outs}
-use Rattle.log.specs.Log.{encodeAll, countOf, recordsIn, revisions}
-use Rattle.log.proofs.Rows.{Row, row-left}
+use Prim.Native.Nat.{ℕ, _-_}
+use lib.Seq.{drop-length, length-take-le}
+use Rattle.buffers.specs.Buffers.{atFront}
+use Rattle.buffers.proofs.Tests.{both}
+use Rattle.characters.specs.Text.{Char}
+use Rattle.edits.specs.Sequence.{Seq}
+use Rattle.edits.specs.Apply.{apply}
+use Rattle.answers.specs.Answer.{goes}
+use Rattle.answers.specs.Output.{Outs}
+use Rattle.record.specs.Record.{ops, encode}
+use Rattle.record.proofs.Records.{ops-encode}
+use Rattle.log.specs.Log.{countOf, revisions, encodeAll, recordsIn}
 use Rattle.log.proofs.Logs.{count-log, revisions-log, records-all}
-use Rattle.session.specs.Rows.{playAll, Moved, rebase}
+use Rattle.log.proofs.Rows.{Row, row-left}
 use Rattle.session.specs.History.{History, logIn}
-use Rattle.session.specs.Demand.{Call, accept, ran, fed, after, AllGo, Lent, againstNewest, handedOut}
+use Rattle.session.specs.Demand.{Call, accept, fed, ran, after, AllGo, Lent, againstNewest, handedOut}
+use Rattle.session.specs.Rows.{rebase, Moved, playAll}
+use Rattle.session.proofs.Accepting.{SoundIn, accept-log, joined, moved, past-row}
+use Rattle.session.proofs.Running.{Went, went, fed-sound, left-log}
 use Rattle.session.proofs.Rows.{playAll-append, playAll-length}
 use Rattle.session.proofs.Moving.{rebase-plays, rebase-length}
-use Rattle.session.proofs.Accepting.{SoundIn, joined, moved, past-row, accept-log}
-use Rattle.session.proofs.Running.{Went, went, fed-sound, left-log}
 
 pub count-in : (h : History) → countOf (logIn h) ≡ length (h .edits)
 count-in h = ap countOf (sym (append-nil (logIn h))) ∙ count-log (h .start) (h .edits) []

@@ -1,29 +1,30 @@
 -- An edit moved past a row ends in the text that the counterparts make of the edit's own.
 -- No law below looks into `rule`, here or in the files after this: the first four are all that is known of it.
-use Prim.Native.Nat.{ℕ, suc}
-use native.Mathlib.Omega.{arith}
-use mathlib.Core.Path.{_≡_, refl, sym, ap, _∙_}
-use mathlib.Core.Bool.{_&&_, and-assoc}
-use mathlib.Core.List.{List, [], _∷_, map}
+use mathlib.Core.Path.{_≡_, refl, ap, _∙_, sym}
 use lib.Dec.{T}
-use lib.ListN.{length, drop}
-use Rattle.utf8.specs.Chars.{allOf}
-use Rattle.utf8.specs.Text.{Char}
-use Rattle.utf8.specs.Order.{order}
-use Rattle.utf8.proofs.Tests.{both}
-use Rattle.utf8.proofs.Texts.{order-equal}
-use Rattle.operation.specs.Op.{base}
-use Rattle.operation.specs.Record.{Seq, fits}
-use Rattle.operation.proofs.Sequences.{Good}
-use Rattle.operational_transform.specs.Apply.{apply}
-use Rattle.operational_transform.specs.Transform.{transform}
-use Rattle.operational_transform.proofs.Effects.{Transforms}
-use Rattle.operational_transform.specs.Trace.{typed}
-use Rattle.operational_transform.proofs.Kept.{typed-left, typed-right}
-use Rattle.operational_transform.proofs.Traces.{Moves, transform-moves, keepBoth-stays}
-use Rattle.operational_transform.proofs.Claims.{apply-length, transform-built, transform-tp1}
-use Rattle.log.proofs.Rows.{Each, lengthAfter, Row}
-use Rattle.session.specs.Rows.{playAll, tie, rule, Moved, rebase}
+use mathlib.Core.Bool.{_&&_, and-assoc}
+use mathlib.Core.List.{List, map, [], _∷_}
+use Prim.Native.Nat.{ℕ, suc}
+use lib.ListN.{drop, length}
+use native.Mathlib.Omega.{arith}
+use Rattle.buffers.specs.Lists.{allOf}
+use Rattle.buffers.proofs.Tests.{both}
+use Rattle.characters.specs.Order.{order}
+use Rattle.characters.specs.Text.{Char}
+use Rattle.characters.proofs.Texts.{order-equal}
+use Rattle.edits.specs.Op.{base}
+use Rattle.edits.specs.Sequence.{Seq}
+use Rattle.edits.specs.Transform.{transform}
+use Rattle.edits.specs.Trace.{typed}
+use Rattle.edits.specs.Apply.{apply}
+use Rattle.edits.proofs.Effects.{Transforms}
+use Rattle.edits.proofs.Claims.{transform-tp1, transform-built, apply-length}
+use Rattle.edits.proofs.Traces.{Moves, transform-moves, keepBoth-stays}
+use Rattle.edits.proofs.Kept.{typed-left, typed-right}
+use Rattle.record.specs.Record.{fits}
+use Rattle.record.proofs.Sequences.{Good}
+use Rattle.log.proofs.Rows.{Row, lengthAfter, Each}
+use Rattle.session.specs.Rows.{rule, tie, Moved, rebase, playAll}
 use Rattle.session.specs.History.{transforms, comesOut, later}
 use Rattle.session.proofs.Rows.{later-drop}
 

@@ -1,21 +1,22 @@
 -- An edit against the newest revision: its own bytes are appended, and there is no counterpart.
-use Prim.Native.Nat.{ℕ, zero, suc, _+_}
-use native.Mathlib.Omega.{arith}
-use mathlib.Core.Path.{_≡_, refl, sym, ap, _∙_}
-use mathlib.Core.Bool.{true, _&&_, and-true}
+use Prim.Native.Nat.{ℕ, _+_, zero, suc}
 use mathlib.Core.List.{List, [], _∷_}
 use lib.Dec.{leb, ltb, eqb, le→leb, leb·zero}
 use lib.ListN.{length, take, drop}
+use mathlib.Core.Path.{_≡_, refl, sym, ap, _∙_}
+use native.Mathlib.Omega.{arith}
+use mathlib.Core.Bool.{true, _&&_, and-true}
 use lib.Seq.{drop-length, length-take-le}
-use Rattle.utf8.proofs.Tests.{holds}
-use Rattle.operation.specs.Answer.{first, gives, needs, refused, settle}
-use Rattle.operation.specs.Layout.{sizeOf, baseOf}
-use Rattle.operation.specs.Record.{encode, ops, recordFault}
-use Rattle.operation.proofs.Faults.{limits, faultless}
-use Rattle.operation.proofs.Records.{Bytes, encode-ops}
-use Rattle.operation.proofs.Refusals.{first-zero}
-use Rattle.operational_transform.specs.Output.{atFront, Outs}
-use Rattle.log.specs.Log.{encodeAll, countOf, readable, sizeOfLog, lengthAt, revisions}
+use Rattle.buffers.specs.Buffers.{atFront}
+use Rattle.buffers.proofs.Tests.{holds}
+use Rattle.answers.specs.Answer.{first, needs, settle, gives, refused}
+use Rattle.answers.specs.Output.{Outs}
+use Rattle.answers.proofs.Refusals.{first-zero}
+use Rattle.record.specs.Layout.{sizeOf, baseOf}
+use Rattle.record.specs.Record.{recordFault, encode, ops}
+use Rattle.record.proofs.Faults.{limits, faultless}
+use Rattle.record.proofs.Records.{Bytes, encode-ops}
+use Rattle.log.specs.Log.{countOf, readable, sizeOfLog, lengthAt, encodeAll, revisions}
 use Rattle.log.proofs.Scanning.{revisions-length}
 use Rattle.session.specs.Rows.{Moved, rebase}
 use Rattle.session.specs.Session.{movedIn, acceptFault, append, acceptCall}

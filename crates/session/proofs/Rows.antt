@@ -1,26 +1,27 @@
 -- Rows of edits, played and summed up: playing a summary plays the row.
 use Prim.Native.Nat.{ℕ, zero, suc}
+use mathlib.Core.Path.{_≡_, refl, sym, _∙_, ap}
+use mathlib.Core.List.{List, [], _∷_, _++_, append-nil}
+use lib.ListN.{drop, take, length}
 use native.Mathlib.Nat.{add-zero}
 use native.Mathlib.Omega.{arith}
-use mathlib.Core.Path.{_≡_, refl, sym, ap, _∙_}
-use mathlib.Core.Bool.{_&&_, and-true}
-use mathlib.Core.List.{List, [], _∷_, _++_, append-nil}
-use lib.ListN.{length, take, drop}
 use lib.Seq.{take-all}
-use Rattle.utf8.specs.Chars.{allOf}
-use Rattle.utf8.specs.Text.{Char}
-use Rattle.utf8.proofs.Texts.{letter-a, letter-b, a≢b}
-use Rattle.operation.specs.Op.{retain, base, target}
-use Rattle.operation.specs.Built.{Built}
-use Rattle.operation.specs.Record.{Seq, fits}
-use Rattle.operational_transform.specs.Apply.{apply}
-use Rattle.operational_transform.specs.Compose.{compose}
-use Rattle.operational_transform.proofs.Building.{build-built}
-use Rattle.operational_transform.proofs.Unique.{unique}
-use Rattle.operational_transform.proofs.Claims.{build-apply, build-base, build-target, apply-length, compose-base, compose-target, compose-apply, compose-built}
+use mathlib.Core.Bool.{_&&_, and-true}
+use Rattle.buffers.specs.Lists.{allOf}
+use Rattle.characters.specs.Text.{Char}
+use Rattle.characters.proofs.Texts.{letter-a, letter-b, a≢b}
+use Rattle.edits.specs.Sequence.{Seq}
+use Rattle.edits.specs.Op.{target, retain, base}
+use Rattle.edits.specs.Apply.{apply}
+use Rattle.edits.specs.Compose.{compose}
+use Rattle.edits.specs.Built.{Built}
+use Rattle.edits.proofs.Claims.{apply-length, build-base, build-target, build-apply, compose-base, compose-target, compose-built, compose-apply}
+use Rattle.edits.proofs.Building.{build-built}
+use Rattle.edits.proofs.Unique.{unique}
+use Rattle.record.specs.Record.{fits}
 use Rattle.log.proofs.Rows.{lengthAfter, Row}
+use Rattle.session.specs.History.{later, targetAfter, partials, final}
 use Rattle.session.specs.Rows.{playAll, still, composeAll, composesWithin}
-use Rattle.session.specs.History.{targetAfter, later, partials, final}
 
 -- ---- the history's words for parts of a row
 

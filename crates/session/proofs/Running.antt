@@ -1,27 +1,28 @@
 -- Lists of accept calls on the log of a history, and its summary: they are what the history foretells.
+use mathlib.Core.Path.{_≡_, refl, ap, _∙_, ap₂, sym}
 use Prim.Native.Nat.{ℕ, zero, suc, _≤_}
-use native.Mathlib.Omega.{arith}
-use mathlib.Core.Path.{_≡_, refl, sym, ap, ap₂, _∙_}
-use mathlib.Core.List.{List, [], _∷_, _++_}
+use mathlib.Core.List.{_++_, List, [], _∷_}
 use lib.Dec.{T, leb, leb→le}
-use lib.ListN.{length, take, drop}
-use Rattle.utf8.proofs.Tests.{holds}
-use Rattle.operation.specs.Answer.{gives, goes, needs, settle}
-use Rattle.operation.specs.Layout.{words}
-use Rattle.operation.specs.Record.{encode, ops, recordFault}
-use Rattle.operation.proofs.Records.{ops-good}
-use Rattle.operation.proofs.Refusals.{needs-out}
-use Rattle.operational_transform.specs.Output.{atFront, writing}
-use Rattle.operational_transform.proofs.Outputs.{wrote, atFront-take}
-use Rattle.log.specs.Log.{encodeAll, logOf, readable, contents}
+use lib.ListN.{length, drop, take}
+use native.Mathlib.Omega.{arith}
+use Rattle.buffers.specs.Buffers.{atFront}
+use Rattle.buffers.specs.Words.{words}
+use Rattle.buffers.proofs.Tests.{holds}
+use Rattle.answers.specs.Answer.{goes, settle, needs, gives}
+use Rattle.answers.specs.Output.{writing}
+use Rattle.answers.proofs.Refusals.{needs-out}
+use Rattle.answers.proofs.Outputs.{wrote, atFront-take}
+use Rattle.record.specs.Record.{ops, recordFault, encode}
+use Rattle.record.proofs.Records.{ops-good}
+use Rattle.log.specs.Log.{contents, encodeAll, logOf, readable}
 use Rattle.log.specs.Open.{openCall}
-use Rattle.log.proofs.Logs.{start-log, revisions-log, contents-log, readable-log}
+use Rattle.log.proofs.Logs.{contents-log, start-log, revisions-log, readable-log}
+use Rattle.session.specs.History.{History, logIn, Told, fresh, historySummary}
+use Rattle.session.specs.Demand.{Call, fed, accept, ran, foretold, after, logAfter, Fresh, Given}
 use Rattle.session.specs.Rows.{still, composesWithin}
 use Rattle.session.specs.Session.{summaryFault, summaryCall}
-use Rattle.session.specs.History.{History, fresh, logIn, Told, historySummary}
-use Rattle.session.specs.Demand.{Fresh, Call, accept, ran, logAfter, fed, after, foretold, Given}
+use Rattle.session.proofs.Accepting.{moved, through, Passed, SoundIn, joined, fault, back, history-told, passed, joined-sound, accept-log}
 use Rattle.session.proofs.Rows.{partials-final, partials-fit, summary}
-use Rattle.session.proofs.Accepting.{SoundIn, joined, moved, fault, back, through, history-told, Passed, passed, joined-sound, accept-log}
 
 -- ---- one call
 

@@ -1,19 +1,21 @@
 -- Demand 3: what is to hold of every list of accept calls on a fresh session, as one claim.
 use Prim.Native.Nat.{ℕ, _-_}
 use mathlib.Core.Path.{_≡_}
-use mathlib.Core.Logic.{_↔_}
 use mathlib.Core.List.{List, [], _∷_, _++_}
-use lib.Dec.{T}
 use lib.ListN.{length, take}
-use Rattle.utf8.specs.Form.{wellFormed}
-use Rattle.utf8.specs.Chars.{numChars, allOf}
-use Rattle.operation.specs.Answer.{gives, goes}
-use Rattle.operation.specs.Layout.{sizeOf}
-use Rattle.operational_transform.specs.Output.{atFront, Outs}
-use Rattle.log.specs.Log.{encodeAll, countOf, recordsIn, contents, revisions}
+use lib.Dec.{T}
+use mathlib.Core.Logic.{_↔_}
+use Rattle.buffers.specs.Buffers.{atFront}
+use Rattle.buffers.specs.Lists.{allOf}
+use Rattle.characters.specs.Form.{wellFormed}
+use Rattle.characters.specs.Chars.{numChars}
+use Rattle.answers.specs.Answer.{gives, goes}
+use Rattle.answers.specs.Output.{Outs}
+use Rattle.record.specs.Layout.{sizeOf}
+use Rattle.log.specs.Log.{contents, encodeAll, countOf, recordsIn, revisions}
 use Rattle.log.specs.Open.{openCall}
 use Rattle.session.specs.Session.{acceptCall, summaryCall}
-use Rattle.session.specs.History.{History, fresh, logIn, Told, historyAccept, historySummary, historyPlay}
+use Rattle.session.specs.History.{History, logIn, Told, historyAccept, fresh, historySummary, historyPlay}
 
 -- ---- a session: a log that was just opened, and a list of accept calls
 

@@ -1,20 +1,21 @@
 -- Document 01, the paragraph "A list's history is ..". It speaks of sequences and sizes alone, and takes from the calls
 -- nothing but the rule by which one edit is transformed past another.
 use Prim.Native.Nat.{ℕ, zero, suc}
-use mathlib.Core.Bool.{_&&_}
 use mathlib.Core.List.{List, [], _∷_, _++_, map}
+use mathlib.Core.Bool.{_&&_}
 use lib.ListN.{length}
 use lib.Dec.{leb, ltb, eqb}
-use Rattle.utf8.specs.Chars.{allOf}
-use Rattle.utf8.specs.Text.{Char, chars, bytes}
-use Rattle.operation.specs.Answer.{Answer, first, gives, needs, refused, settle}
-use Rattle.operation.specs.Op.{base, target}
-use Rattle.operation.specs.Record.{Seq, encode, fits, ops, recordFault}
-use Rattle.operational_transform.specs.Compose.{compose}
-use Rattle.operational_transform.specs.Transform.{Sides}
-use Rattle.operational_transform.specs.Output.{Out, writing}
-use Rattle.log.specs.Log.{encodeAll, logOf}
-use Rattle.session.specs.Rows.{playAll, still, rule}
+use Rattle.buffers.specs.Lists.{allOf}
+use Rattle.characters.specs.Text.{Char, chars, bytes}
+use Rattle.edits.specs.Sequence.{Seq}
+use Rattle.edits.specs.Op.{target, base}
+use Rattle.edits.specs.Transform.{Sides}
+use Rattle.edits.specs.Compose.{compose}
+use Rattle.answers.specs.Answer.{Answer, first, gives, needs, refused, settle}
+use Rattle.answers.specs.Output.{Out, writing}
+use Rattle.record.specs.Record.{encode, fits, ops, recordFault}
+use Rattle.log.specs.Log.{logOf, encodeAll}
+use Rattle.session.specs.Rows.{rule, still, playAll}
 
 -- "the starting length and a row of edits, its revisions: none at first"
 pub record History : Type 0 where

@@ -1,18 +1,19 @@
 -- Nothing typed is lost: what that says of a list of accept calls.
-use Prim.Native.Nat.{ℕ, _-_, _≤_}
-use mathlib.Core.Path.{_≡_}
 use mathlib.Core.Bool.{Bool, true, false}
 use mathlib.Core.List.{List, [], _∷_}
+use Prim.Native.Nat.{ℕ, _-_, _≤_}
+use lib.ListN.{replicate, take, drop, length}
 use lib.Dec.{T}
-use lib.ListN.{length, take, drop, replicate}
-use Rattle.utf8.specs.Text.{Char}
-use Rattle.operation.specs.Answer.{goes}
-use Rattle.operation.specs.Op.{target}
-use Rattle.operation.specs.Record.{Seq, ops}
-use Rattle.operational_transform.specs.Trace.{Within, typed, stays, marked, carry}
-use Rattle.session.specs.Rows.{playAll}
+use mathlib.Core.Path.{_≡_}
+use Rattle.characters.specs.Text.{Char}
+use Rattle.edits.specs.Sequence.{Seq}
+use Rattle.edits.specs.Trace.{carry, Within, stays, marked, typed}
+use Rattle.edits.specs.Op.{target}
+use Rattle.answers.specs.Answer.{goes}
+use Rattle.record.specs.Record.{ops}
 use Rattle.session.specs.History.{History}
 use Rattle.session.specs.Demand.{Call, fed, after}
+use Rattle.session.specs.Rows.{playAll}
 
 -- the marks of the text after a row of edits
 abbrev pub carryAll : Bool → List Seq → List Bool → List Bool

@@ -1,16 +1,17 @@
 -- A row of edits: played, summed up, and moved past.
-use Prim.Native.Nat.{ℕ, max}
-use mathlib.Core.Bool.{Bool, true, _&&_}
 use mathlib.Core.List.{List, [], _∷_}
+use Prim.Native.Nat.{ℕ, max}
 use lib.ListN.{length}
-use Rattle.utf8.specs.Text.{Char, bytes}
-use Rattle.utf8.specs.Order.{order}
-use Rattle.operation.specs.Op.{retain}
-use Rattle.operation.specs.Record.{Seq, fits}
-use Rattle.operational_transform.specs.Build.{build}
-use Rattle.operational_transform.specs.Apply.{apply}
-use Rattle.operational_transform.specs.Compose.{compose}
-use Rattle.operational_transform.specs.Transform.{Sides, keepBoth, transformBy}
+use mathlib.Core.Bool.{Bool, _&&_, true}
+use Rattle.characters.specs.Text.{Char, bytes}
+use Rattle.characters.specs.Order.{order}
+use Rattle.edits.specs.Sequence.{Seq}
+use Rattle.edits.specs.Apply.{apply}
+use Rattle.edits.specs.Op.{retain}
+use Rattle.edits.specs.Build.{build}
+use Rattle.edits.specs.Compose.{compose}
+use Rattle.edits.specs.Transform.{keepBoth, Sides, transformBy}
+use Rattle.record.specs.Record.{fits}
 
 -- ---- playing: "applies its edits, oldest first"
 

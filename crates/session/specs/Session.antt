@@ -1,18 +1,20 @@
 -- What accept, summary and play give back and leave in their buffers, for every input: document 01, "Session".
-use Prim.Native.Nat.{ℕ, suc, _+_}
-use mathlib.Core.Bool.{_&&_}
+use Prim.Native.Nat.{ℕ, _+_, suc}
 use mathlib.Core.List.{List, [], _∷_, _++_}
-use lib.ListN.{length, take, drop}
+use lib.ListN.{drop, length, take}
+use mathlib.Core.Bool.{_&&_}
 use lib.Dec.{leb, ltb, eqb}
-use Rattle.utf8.specs.Form.{wellFormed}
-use Rattle.utf8.specs.Chars.{numChars}
-use Rattle.utf8.specs.Text.{chars, bytes}
-use Rattle.operation.specs.Answer.{first, gives, needs, refused, settle}
-use Rattle.operation.specs.Layout.{words, baseOf}
-use Rattle.operation.specs.Record.{encode, fits, ops, recordFault}
-use Rattle.operational_transform.specs.Output.{atFront, Out, writing, Outs}
-use Rattle.log.specs.Log.{encodeAll, countOf, startOf, readable, sizeOfLog, lengthAt, revisions}
-use Rattle.session.specs.Rows.{playAll, longest, still, composeAll, composesWithin, Moved, rebase}
+use Rattle.buffers.specs.Words.{words}
+use Rattle.buffers.specs.Buffers.{atFront}
+use Rattle.characters.specs.Text.{chars, bytes}
+use Rattle.characters.specs.Form.{wellFormed}
+use Rattle.characters.specs.Chars.{numChars}
+use Rattle.answers.specs.Answer.{first, needs, gives, refused, settle}
+use Rattle.answers.specs.Output.{Outs, Out, writing}
+use Rattle.record.specs.Record.{ops, encode, recordFault, fits}
+use Rattle.record.specs.Layout.{baseOf}
+use Rattle.log.specs.Log.{revisions, encodeAll, countOf, readable, sizeOfLog, lengthAt, startOf}
+use Rattle.session.specs.Rows.{Moved, rebase, still, composesWithin, composeAll, playAll, longest}
 
 -- ---- accept: "Checks: the edit, the log, 7, 8 (its base isn't the length after revision r), 9, 10."
 

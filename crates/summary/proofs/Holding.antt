@@ -1,40 +1,42 @@
 -- A partial result, written to a buffer and read again.
-use Prim.Native.Nat.{ℕ, zero, suc, _-_, _^_, _≤_}
-use native.Mathlib.Nat.{sub-zero}
+use Prim.Native.Nat.{ℕ, _≤_, _-_, zero, suc, _^_}
 use native.Mathlib.Omega.{arith}
-use mathlib.Core.Path.{_≡_, refl, sym, ap, ap₂, _∙_}
-use mathlib.Core.Bool.{Bool, true, false}
-use mathlib.Core.List.{List, [], _∷_, _++_, map}
+use mathlib.Core.List.{List, _++_, [], _∷_, map}
+use lib.ListN.{length, drop, length-append, take, take-append-drop}
+use mathlib.Core.Path.{_≡_, ap, ap₂, _∙_, sym, refl}
 use lib.Dec.{T}
-use lib.ListN.{length, take, drop, take-append-drop, length-append}
+use native.Mathlib.Nat.{sub-zero}
+use mathlib.Core.Bool.{Bool, true, false}
 use borrow.Author.Tests.{eq-eqb}
-use Rattle.utf8.proofs.Tests.{known}
-use Rattle.operation.specs.declared.Refusal.{Refusal}
-use Rattle.operation.specs.Answer.{number, gives, refused}
-use Rattle.operation.specs.Op.{retain}
-use Rattle.operation.specs.Layout.{baseOf, targetOf}
-use Rattle.operation.specs.Built.{Built}
-use Rattle.operation.specs.Record.{Seq, inBytes, text, encode, fits, ops, recordFault}
-use Rattle.operation.proofs.Sequences.{Limits, fits-limits}
-use Rattle.operation.proofs.Records.{encode-small, ops-encode, fault-encode}
-use Rattle.operational_transform.specs.declared.Written.{Written}
-use Rattle.operational_transform.specs.declared.Written.the-variants.{Bytes, Refused}
-use Rattle.operational_transform.specs.declared.core.Emitter.{Emitter}
-use Rattle.operational_transform.specs.Output.{atFront}
-use Rattle.operational_transform.specs.Build.{put, add, addAll, build}
-use Rattle.operational_transform.specs.Compose.{compose}
+use Rattle.buffers.specs.Buffers.{atFront}
+use Rattle.buffers.specs.InnerOver.{over}
+use Rattle.buffers.proofs.Tests.{known}
+use Rattle.buffers.proofs.Over.{over-front}
+use Rattle.edits.specs.Built.{Built}
+use Rattle.edits.specs.Sequence.{Seq}
+use Rattle.edits.specs.Compose.{compose}
+use Rattle.edits.specs.Build.{put, add, addAll, build}
+use Rattle.edits.specs.Op.{retain}
+use Rattle.edits.proofs.Claims.{compose-built}
+use Rattle.edits.proofs.Building.{build-built}
+use Rattle.answers.specs.declared.Refusal.{Refusal}
+use Rattle.answers.specs.Answer.{number, gives, refused, writtenOf}
+use Rattle.answers.specs.declared.Written.{Written}
+use Rattle.answers.specs.declared.Written.the-variants.{Bytes, Refused}
+use Rattle.answers.specs.InnerGiven.{Gives}
+use Rattle.answers.proofs.Outputs.{atFront-take, writing-goes}
+use Rattle.record.specs.Record.{encode, fits, ops, recordFault, inBytes, text}
+use Rattle.record.specs.Layout.{baseOf, targetOf}
+use Rattle.record.proofs.Records.{ops-encode, fault-encode, encode-small}
+use Rattle.record.proofs.Sequences.{Limits, fits-limits}
 use Rattle.operational_transform.specs.Calls.{deliver, composeCall}
-use Rattle.operational_transform.specs.Emit.{one, writtenOf, over, Under, nothing, Retains, Done, Finishes, headed, sizeIn}
-use Rattle.operational_transform.specs.Given.{Gives}
-use Rattle.operational_transform.proofs.Over.{over-front}
-use Rattle.operational_transform.proofs.Outputs.{atFront-take, writing-goes}
-use Rattle.operational_transform.proofs.Adding.{under-start, under-more}
-use Rattle.operational_transform.proofs.Building.{build-built}
-use Rattle.operational_transform.proofs.Claims.{compose-built}
-use Rattle.operational_transform.proofs.Delivering.{builds, sized-length, written-front, writing-refused}
+use Rattle.emitter.specs.InnerEmit.{one, Under, nothing, Retains, Done, Finishes, headed, sizeIn}
+use Rattle.emitter.specs.declared.core.Emitter.{Emitter}
+use Rattle.emitter.proofs.Delivering.{writing-refused, builds, sized-length, written-front}
+use Rattle.emitter.proofs.Adding.{under-start, under-more}
 use Rattle.session.specs.Rows.{still}
 use Rattle.session.proofs.Rows.{still-base, still-target}
-use Rattle.summary.specs.Summing.{Holds, Makes}
+use Rattle.summary.specs.InnerSumming.{Holds, Makes}
 
 -- ---- what is held
 

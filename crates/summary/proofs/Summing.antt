@@ -1,33 +1,34 @@
 -- Going through the revisions, and the answers of the call.
-use Prim.Native.Nat.{ℕ, _+_, _-_, _≤_, _<_}
-use native.Mathlib.Nat.{sub-zero}
-use native.Mathlib.Omega.{arith}
+use Prim.Native.Nat.{ℕ, _≤_, _+_, _-_, _<_}
 use mathlib.Core.Path.{_≡_, refl, sym, ap, _∙_}
-use mathlib.Core.Bool.{true, false, _&&_}
 use mathlib.Core.List.{List, [], _∷_}
+use lib.ListN.{length, drop, take}
+use native.Mathlib.Omega.{arith}
+use mathlib.Core.Bool.{true, false, _&&_}
 use lib.Dec.{T}
-use lib.ListN.{length, take, drop}
+use native.Mathlib.Nat.{sub-zero}
 use lib.Seq.{length-take-le}
-use Rattle.utf8.proofs.Tests.{holds}
-use Rattle.operation.specs.declared.Refusal.{Refusal}
-use Rattle.operation.specs.declared.Refusal.the-variants.{Room}
-use Rattle.operation.specs.Answer.{gives, refused}
-use Rattle.operation.specs.Op.{target}
-use Rattle.operation.specs.Layout.{sizeOf, baseOf, targetOf}
-use Rattle.operation.specs.Record.{Seq, encode, fits, ops, recordFault}
-use Rattle.operation.proofs.Records.{ops-base, ops-target}
-use Rattle.operational_transform.specs.declared.Written.{Written}
-use Rattle.operational_transform.specs.declared.Written.the-variants.{Bytes, Refused}
-use Rattle.operational_transform.specs.Output.{writing}
-use Rattle.operational_transform.specs.Compose.{compose}
-use Rattle.operational_transform.specs.Emit.{over}
-use Rattle.operational_transform.specs.Given.{Gives}
-use Rattle.operational_transform.proofs.Over.{over-front}
-use Rattle.operational_transform.proofs.Outputs.{writing-goes, writing-short, untouched}
-use Rattle.operational_transform.proofs.Claims.{compose-target}
-use Rattle.operational_transform.proofs.Delivering.{writing-refused}
-use Rattle.log.specs.Log.{countOf, startOf, readable, placeOf, lengthAt, revisions}
-use Rattle.log.specs.Scan.{Found, Scans}
+use Rattle.buffers.specs.InnerOver.{over}
+use Rattle.buffers.proofs.Tests.{holds}
+use Rattle.buffers.proofs.Over.{over-front}
+use Rattle.edits.specs.Op.{target}
+use Rattle.edits.specs.Sequence.{Seq}
+use Rattle.edits.specs.Compose.{compose}
+use Rattle.edits.proofs.Claims.{compose-target}
+use Rattle.answers.specs.declared.Refusal.{Refusal}
+use Rattle.answers.specs.declared.Written.{Written}
+use Rattle.answers.specs.declared.Written.the-variants.{Bytes, Refused}
+use Rattle.answers.specs.declared.Refusal.the-variants.{Room}
+use Rattle.answers.specs.Answer.{gives, refused}
+use Rattle.answers.specs.Output.{writing}
+use Rattle.answers.specs.InnerGiven.{Gives}
+use Rattle.answers.proofs.Outputs.{writing-goes, writing-short, untouched}
+use Rattle.record.specs.Layout.{sizeOf, baseOf, targetOf}
+use Rattle.record.specs.Record.{fits, ops, recordFault, encode}
+use Rattle.record.proofs.Records.{ops-base, ops-target}
+use Rattle.emitter.proofs.Delivering.{writing-refused}
+use Rattle.log.specs.Log.{startOf, placeOf, lengthAt, revisions, countOf, readable}
+use Rattle.log.specs.InnerScan.{Found, Scans}
 use Rattle.log.specs.declared.core.Scan.{Scan}
 use Rattle.log.specs.declared.core.Scanned.{Scanned}
 use Rattle.log.specs.declared.core.Scanned.the-variants.{Unreadable, Of}
@@ -35,7 +36,7 @@ use Rattle.log.proofs.Scanning.{Revision, revision, revisions-end, place-start,
 use Rattle.session.specs.Rows.{still, composeAll, composesWithin}
 use Rattle.session.specs.Session.{summaryFault, summaryCall}
 use Rattle.session.proofs.Rows.{still-target}
-use Rattle.summary.specs.Summing.{Holds, Makes, Sums}
+use Rattle.summary.specs.InnerSumming.{Holds, Makes, Sums}
 use Rattle.summary.proofs.Holding.{held-fault, held-ops}
 
 -- before revision k + 1: what is held, composed with the revisions from here on, is the whole

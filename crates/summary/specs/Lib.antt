@@ -1,2 +1,2 @@
 -- summary
-pub mod Summing
+pub mod InnerSumming

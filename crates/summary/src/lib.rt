@@ -1,14 +1,14 @@
 // The revisions of a log composed into one record.
+use answers::Refusal;
+use answers::Written;
 use log::core::Scanned;
-use operation::Refusal;
-use operational_transform::Written;
 ghost use mathlib.Core.Path.{_≡_};
 ghost use Prim.Native.Nat.{_≤_};
 ghost use lib.Dec.{T};
 ghost use lib.ListN.{length, take};
-ghost use Rattle.operational_transform.specs.Output.{writing};
-ghost use Rattle.operational_transform.specs.Emit.{writtenOf};
-ghost use Rattle.operational_transform.specs.Given.{Gives};
+ghost use Rattle.answers.specs.Answer.{writtenOf};
+ghost use Rattle.answers.specs.InnerGiven.{Gives};
+ghost use Rattle.answers.specs.Output.{writing};
 ghost use Rattle.log.specs.Log.{countOf, startOf, readable};
 ghost use Rattle.session.specs.Session.{summaryCall};
 
@@ -49,6 +49,6 @@ fn delivered(cur: &[u8], k: usize, out: &mut [u8]) -> Written
     if out.len() < k {
         return Written::Refused(Refusal::Room);
     }
-    operational_transform::core::copy(out, 0, cur, 0, k);
+    buffers::core::copy(out, 0, cur, 0, k);
     Written::Bytes(k)
 }

@@ -1,16 +1,16 @@
 // The partial results of composing a log's revisions, each in the buffer of the one before.
-use operational_transform::Written;
+use answers::Written;
 ghost use mathlib.Core.Path.{_≡_};
 ghost use Prim.Native.Nat.{_≤_};
-ghost use lib.Dec.{T};
 ghost use lib.ListN.{length};
-ghost use Rattle.operation.specs.Layout.{baseOf, targetOf};
-ghost use Rattle.operation.specs.Record.{ops, recordFault};
-ghost use Rattle.operational_transform.specs.Compose.{compose as composeOf};
-ghost use Rattle.operational_transform.specs.Emit.{one};
+ghost use lib.Dec.{T};
+ghost use Rattle.edits.specs.Compose.{compose as composeOf};
+ghost use Rattle.record.specs.Layout.{baseOf, targetOf};
+ghost use Rattle.record.specs.Record.{ops, recordFault};
+ghost use Rattle.emitter.specs.InnerEmit.{one};
 ghost use Rattle.log.specs.Log.{countOf, startOf, readable};
 ghost use Rattle.session.specs.Rows.{still as stillOf};
-ghost use Rattle.summary.specs.Summing.{Holds, Makes, Sums};
+ghost use Rattle.summary.specs.InnerSumming.{Holds, Makes, Sums};
 
 // How many operations retain the starting length: none for 0.
 fn records(start: usize) -> usize
@@ -25,11 +25,11 @@ fn still(start: usize, cur: &mut [u8]) -> usize
     ensures { λ r. ⌜ Holds (stillOf start) r (now (cur .exit)) ⌝ }
 {
     let n = records(start);
-    let e = operational_transform::core::start();
-    let f = operational_transform::core::retain(e, start);
-    let g = operational_transform::core::finish(cur, n, f);
-    operational_transform::core::header(cur, g);
-    operational_transform::core::size(g)
+    let e = emitter::core::start();
+    let f = emitter::core::retain(e, start);
+    let g = emitter::core::finish(cur, n, f);
+    emitter::core::header(cur, g);
+    emitter::core::size(g)
 }
 
 // One revision more: the result takes the place of what the revision is composed with.
@@ -40,7 +40,7 @@ fn step(rec: &[u8], cur: &mut [u8], next: &mut [u8]) -> Written
     match compose::core::composed(cur, rec, next) {
         Written::Refused(x) => Written::Refused(x),
         Written::Bytes(k) => {
-            operational_transform::core::copy(cur, 0, next, 0, k);
+            buffers::core::copy(cur, 0, next, 0, k);
             Written::Bytes(k)
         }
     }
@@ -68,7 +68,7 @@ pub(crate) fn sum(
                 size = n;
             }
         }
-        at += operation::core::size(rec);
+        at += reader::core::size(rec);
         k += 1;
     }
     Written::Bytes(size)

@@ -1,36 +1,37 @@
 -- The answers of transform.
-use Prim.Native.Nat.{ℕ, suc, _≤_, _<_}
+use Prim.Native.Nat.{ℕ, _≤_, _<_, suc}
 use native.Mathlib.Omega.{arith}
-use mathlib.Core.Path.{_≡_, refl, sym, ap, _∙_}
-use mathlib.Core.Bool.{Bool, true, false, cond, not, _&&_, and-false, and-eq-true-iff}
-use mathlib.Core.List.{List, [], _∷_}
+use mathlib.Core.Path.{_≡_, sym, _∙_, ap, refl}
+use mathlib.Core.Bool.{Bool, true, false, not, and-false, _&&_, cond, and-eq-true-iff}
 use lib.Dec.{leb, eqb}
+use borrow.Author.Tests.{le-leb, lt-leb, not-true, not-false, ne-eqb, eq-eqb, leb-true}
+use mathlib.Core.List.{List, [], _∷_}
 use lib.ListN.{length}
-use borrow.Author.Tests.{eq-eqb, ne-eqb, le-leb, lt-leb, leb-true, not-true, not-false}
-use Rattle.utf8.specs.Text.{Char}
-use Rattle.utf8.specs.Order.{order}
-use Rattle.operation.specs.declared.Refusal.{Refusal}
-use Rattle.operation.specs.declared.Refusal.the-variants.{IncompatibleLengths, Limit, Room}
-use Rattle.operation.specs.declared.Fact.{Fact}
-use Rattle.operation.specs.declared.Fact.the-variants as fact
-use Rattle.operation.specs.Answer.{number, gives, refused, factOf, needs, first}
-use Rattle.operation.specs.Layout.{baseOf}
-use Rattle.operation.specs.Record.{encode, fits, ops, recordFault}
-use Rattle.operation.specs.Calls.{checkCall}
-use Rattle.utf8.proofs.Tests.{known}
-use Rattle.operation.proofs.Sequences.{fits-limits}
-use Rattle.operation.proofs.Answers.{stopped}
-use Rattle.operational_transform.specs.declared.core.Emitter.{Emitter}
-use Rattle.operational_transform.specs.Output.{atFront, writingBoth}
-use Rattle.operational_transform.specs.Transform.{Sides, transform}
+use Rattle.buffers.specs.Buffers.{atFront}
+use Rattle.buffers.proofs.Tests.{known}
+use Rattle.characters.specs.Order.{order}
+use Rattle.characters.specs.Text.{Char}
+use Rattle.edits.specs.Transform.{transform, Sides}
+use Rattle.answers.specs.declared.Refusal.the-variants.{Limit, Room, IncompatibleLengths}
+use Rattle.answers.specs.declared.WrittenPair.the-variants as written
+use Rattle.answers.specs.Answer.{refused, needs, first, number, gives, pairOf, factOf}
+use Rattle.answers.specs.Output.{writingBoth}
+use Rattle.answers.specs.declared.Refusal.{Refusal}
+use Rattle.answers.specs.declared.WrittenPair.{WrittenPair}
+use Rattle.answers.specs.declared.Fact.{Fact}
+use Rattle.answers.specs.declared.Fact.the-variants as fact
+use Rattle.record.specs.Layout.{baseOf}
+use Rattle.record.specs.Record.{fits, ops, recordFault, encode}
+use Rattle.record.specs.Calls.{checkCall}
+use Rattle.record.proofs.Sequences.{fits-limits}
+use Rattle.record.proofs.Checked.{stopped}
 use Rattle.operational_transform.specs.Calls.{recordsFault, transformCall}
-use Rattle.operational_transform.specs.Emit.{Sizes, within, sizeIn}
-use Rattle.operational_transform.proofs.Delivering.{sized-fits, sized-length, written-front}
-use Rattle.transform.specs.declared.WrittenPair.{WrittenPair}
-use Rattle.transform.specs.declared.WrittenPair.the-variants as written
-use Rattle.transform.specs.Pairs.{pairOf, judgedBoth, Transforms}
-use Rattle.transform.specs.Both.{WritesBoth, SizedBoth}
-use Rattle.transform.specs.declared.core.Pair.{Pair}
+use Rattle.emitter.specs.declared.core.Emitter.{Emitter}
+use Rattle.emitter.specs.InnerEmit.{within, sizeIn, judgedBoth, Sizes}
+use Rattle.emitter.proofs.Delivering.{sized-fits, sized-length, written-front}
+use Rattle.steps.specs.InnerBoth.{WritesBoth, SizedBoth}
+use Rattle.steps.specs.declared.core.Pair.{Pair}
+use Rattle.transform.specs.InnerPairs.{Transforms}
 
 -- ---- `judge`
 

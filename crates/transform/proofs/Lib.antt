@@ -1,6 +1,2 @@
 -- transform
-pub mod Siding
-pub mod Stepping
-pub mod Looping
-pub mod Marking
 pub mod Answering

@@ -1,4 +1,2 @@
 -- transform
-pub mod Pairs
-pub mod Sides
-pub mod Both
+pub mod InnerPairs

@@ -1,18 +1,13 @@
 // The Rust's `transform`, on records.
-use operation::Fact;
-use operation::Refusal;
+use answers::Fact;
+use answers::WrittenPair;
 ghost use mathlib.Core.Path.{_≡_};
-ghost use Rattle.operation.specs.Record.{recordFault};
+ghost use Rattle.answers.specs.Answer.{pairOf};
+ghost use Rattle.record.specs.Record.{recordFault};
 ghost use Rattle.operational_transform.specs.Calls.{transformCall};
-ghost use Rattle.transform.specs.Pairs.{pairOf, Transforms};
+ghost use Rattle.transform.specs.InnerPairs.{Transforms};
 
 pub mod core;
-
-// How many bytes were written to either output.
-pub enum WrittenPair {
-    Bytes(usize, usize),
-    Refused(Refusal),
-}
 
 fn transformed_with(a: &[u8], b: &[u8], out_a: &mut [u8], out_b: &mut [u8]) -> WrittenPair
     requires { ⌜ recordFault (now a) ≡ 0 ⌝ }

@@ -1,9 +1,9 @@
 // The calls by their numbers, and their answers beside the ones wanted.
 use crate::bytes;
-use operation::Fact;
-use operation::Noop;
-use operational_transform::Written;
-use transform::WrittenPair;
+use answers::Fact;
+use answers::Noop;
+use answers::Written;
+use answers::WrittenPair;
 ghost use mathlib.Core.Path.{_≡_};
 ghost use lib.ListN.{length};
 
@@ -54,28 +54,28 @@ pub(crate) fn agrees(head: &[u8], a: &[u8], b: &[u8], x: &[u8], y: &[u8]) -> boo
 fn fact(f: Fact, refusal: u8, want: usize) -> bool {
     match f {
         Fact::Is(n) => refusal == 0 && n == want,
-        Fact::Refused(r) => operation::number(r) == refusal,
+        Fact::Refused(r) => answers::number(r) == refusal,
     }
 }
 
 fn noop(f: Noop, refusal: u8, want: usize) -> bool {
     match f {
         Noop::Is(yes) => refusal == 0 && yes as usize == want,
-        Noop::Refused(r) => operation::number(r) == refusal,
+        Noop::Refused(r) => answers::number(r) == refusal,
     }
 }
 
 fn written(w: Written, refusal: u8, want: usize) -> bool {
     match w {
         Written::Bytes(n) => refusal == 0 && n == want,
-        Written::Refused(r) => operation::number(r) == refusal,
+        Written::Refused(r) => answers::number(r) == refusal,
     }
 }
 
 fn written_pair(w: WrittenPair, refusal: u8, x: usize, y: usize) -> bool {
     match w {
         WrittenPair::Bytes(n, m) => refusal == 0 && n == x && m == y,
-        WrittenPair::Refused(r) => operation::number(r) == refusal,
+        WrittenPair::Refused(r) => answers::number(r) == refusal,
     }
 }
 
@@ -84,7 +84,7 @@ fn run(call: u8, a: &[u8], b: &[u8], out: &mut [u8]) -> Written {
         1 => builders::retain(a, bytes::long(b), out),
         2 => builders::delete(a, bytes::long(b), out),
         3 => builders::insert(a, b, out),
-        4 => playing::apply(a, b, out),
+        4 => apply::apply(a, b, out),
         5 => invert::invert(a, b, out),
         _ => compose::compose(a, b, out),
     }

@@ -9,12 +9,12 @@
 //   the second: a text, a record, or the 8 bytes of the number of retain and delete
 //   what is written to the first output, and to the second
 // The calls 8 to 10 have no output: what would be written is the number asked for, in 2 bytes; 1 or 0 for is_noop.
-mod bytes;
-mod calls;
-
-ghost use Prim.Native.Nat.{_≤_};
 ghost use mathlib.Core.Path.{_≡_};
 ghost use lib.ListN.{length};
+ghost use Prim.Native.Nat.{_≤_};
+
+mod bytes;
+mod calls;
 
 struct Tally {
     cases: u64,

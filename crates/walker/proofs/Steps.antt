@@ -1,19 +1,16 @@
 -- What a step finds, as the code comes upon it.
-use Prim.Native.Nat.{ℕ, zero, suc, _+_, _≤_, _<_}
+use Prim.Native.Nat.{ℕ, _+_, _≤_, _<_}
 use native.Mathlib.Omega.{arith}
-use mathlib.Core.Path.{_≡_, refl, sym, ap, ap₂, _∙_}
-use mathlib.Core.Bool.{cond}
-use mathlib.Core.List.{List, [], _∷_}
-use lib.Dec.{ltb}
+use mathlib.Core.Path.{_≡_, refl, ap, ap₂}
+use mathlib.Core.List.{List}
 use borrow.Author.Tests.{le-ltb, lt-ltb}
-use Rattle.operation.specs.Answer.{factOf, settle}
-use Rattle.operation.specs.Layout.{recordsOf, kindAt, countAt}
-use Rattle.operation.specs.Record.{recordFault}
-use Rattle.operation.specs.Calls.{checkCall}
-use Rattle.operation.specs.declared.Fact.{Fact}
-use Rattle.operation.specs.declared.Fact.the-variants as fact
-use Rattle.operation.specs.declared.Refusal.{Refusal}
-use Rattle.operation.proofs.Answers.{stopped, passed}
+use Rattle.answers.specs.Answer.{factOf}
+use Rattle.answers.specs.declared.Fact.{Fact}
+use Rattle.answers.specs.declared.Fact.the-variants as fact
+use Rattle.answers.specs.declared.Refusal.{Refusal}
+use Rattle.record.specs.Layout.{recordsOf, kindAt, countAt}
+use Rattle.record.specs.Calls.{checkCall}
+use Rattle.record.proofs.Checked.{stopped, passed}
 use Rattle.walker.specs.declared.Found.{Found}
 use Rattle.walker.specs.declared.Found.the-variants.{Op, End}
 use Rattle.walker.specs.Walk.{stepAt, behind, nextAt}

@@ -4,9 +4,9 @@ use Prim.Native.Nat.{ℕ, _+_}
 use mathlib.Core.List.{List}
 use mathlib.Core.Bool.{cond}
 use lib.Dec.{ltb}
-use Rattle.operation.specs.Answer.{settle}
-use Rattle.operation.specs.Layout.{recordsOf, kindAt, countAt}
-use Rattle.operation.specs.Record.{recordFault}
+use Rattle.answers.specs.Answer.{settle}
+use Rattle.record.specs.Layout.{recordsOf, kindAt, countAt}
+use Rattle.record.specs.Record.{recordFault}
 use Rattle.walker.specs.declared.Found.{Found}
 use Rattle.walker.specs.declared.Found.the-variants.{Op, End}
 

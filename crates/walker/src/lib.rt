@@ -1,5 +1,5 @@
 // To go through a record: a walker carries the borrowed record along with its position.
-use operation::Fact;
+use answers::Fact;
 ghost use mathlib.Core.Path.{_≡_};
 ghost use Rattle.walker.specs.Walk.{stepAt, nextAt};
 
@@ -29,15 +29,15 @@ fn move_at(rec: &[u8], at: usize) -> Moved
             at,
         };
     };
-    let n = operation::core::records(rec);
+    let n = reader::core::records(rec);
     if n <= at {
         return Moved {
             step: Found::End,
             at,
         };
     }
-    let kind = operation::core::kind(rec, at);
-    let count = operation::core::count(rec, n, at) as u16;
+    let kind = reader::core::kind(rec, at);
+    let count = reader::core::count(rec, n, at) as u16;
     Moved {
         step: Found::Op { kind, count },
         at: at + 1,

@@ -1,3 +1,4 @@
 // Printing, which no contract states.
+
 pub mod tell;
 pub mod words;

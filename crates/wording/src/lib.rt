@@ -1,2 +1,3 @@
 // A session's log and records in words.
+
 pub mod core;

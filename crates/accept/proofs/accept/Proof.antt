@@ -1,8 +1,8 @@
-use Rattle.transform.specs.declared.WrittenPair.the-variants.{Refused}
-use Rattle.accept.specs.Accepting.{Accepts}
-use Rattle.operation.proofs.Answers.{passed}
-use Rattle.accept.proofs.Answering.{accepts-edit}
 use borrow.Author.Needs.{needs}
+use Rattle.answers.specs.declared.WrittenPair.the-variants.{Refused}
+use Rattle.record.proofs.Checked.{passed}
+use Rattle.append.specs.InnerAccepting.{Accepts}
+use Rattle.append.proofs.Answering.{accepts-edit}
 use Rattle.accept.proofs.accept.Statement.{statement}
 use Rattle.accept.proofs.accept.Tie as tie
 

@@ -1,7 +1,7 @@
 use Prim.Native.Nat.{_-_}
 use mathlib.Core.Path.{ap, _∙_}
-use Rattle.accept.proofs.Answering.{accepts-revision, accepts-lengths, accepts-many, admitted}
 use borrow.Author.Needs.{needs}
+use Rattle.append.proofs.Answering.{accepts-revision, accepts-lengths, accepts-many, admitted}
 use Rattle.accept.proofs.admit.Statement.{statement}
 use Rattle.accept.proofs.admit.Tie as tie
 

@@ -1,5 +1,5 @@
-use Rattle.accept.proofs.Answering.{accepts-log, scanned}
 use borrow.Author.Needs.{needs}
+use Rattle.append.proofs.Answering.{accepts-log, scanned}
 use Rattle.accept.proofs.checked.Statement.{statement}
 use Rattle.accept.proofs.checked.Tie as tie
 

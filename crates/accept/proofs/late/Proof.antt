@@ -1,6 +1,6 @@
 use native.Mathlib.Omega.{arith}
-use Rattle.accept.proofs.Places.{from-inside}
 use borrow.Author.Needs.{needs}
+use Rattle.append.proofs.Places.{from-inside}
 use Rattle.accept.proofs.late.Statement.{statement}
 use Rattle.accept.proofs.late.Tie as tie
 

@@ -1,5 +1,5 @@
-use Rattle.builders.proofs.Growing.{before-none, before-room, before-some}
 use borrow.Author.Needs.{needs}
+use Rattle.builders.proofs.Growing.{before-none, before-room, before-some}
 use Rattle.builders.proofs.before.Statement.{statement}
 use Rattle.builders.proofs.before.Tie as tie
 

@@ -1,6 +1,6 @@
 use native.Mathlib.Omega.{arith}
-use Rattle.builders.proofs.Extending.{closes}
 use borrow.Author.Needs.{needs}
+use Rattle.builders.proofs.Extending.{closes}
 use Rattle.builders.proofs.closed.Statement.{statement}
 use Rattle.builders.proofs.closed.Tie as tie
 

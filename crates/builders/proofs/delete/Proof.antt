@@ -1,10 +1,10 @@
-use Rattle.operation.proofs.Answers.{passed}
-use Rattle.operation.specs.declared.Refusal.the-variants.{Limit}
-use Rattle.operational_transform.specs.declared.Written.the-variants as written
-use Rattle.operational_transform.specs.Calls.{deleteCall}
-use Rattle.operational_transform.specs.Given.{Gives}
-use Rattle.builders.proofs.Extending.{delete-limit, record-refused, record-passed}
 use borrow.Author.Needs.{needs}
+use Rattle.answers.specs.declared.Refusal.the-variants.{Limit}
+use Rattle.answers.specs.declared.Written.the-variants as written
+use Rattle.answers.specs.InnerGiven.{Gives}
+use Rattle.record.proofs.Checked.{passed}
+use Rattle.operational_transform.specs.Calls.{deleteCall}
+use Rattle.builders.proofs.Extending.{delete-limit, record-refused, record-passed}
 use Rattle.builders.proofs.delete.Statement.{statement}
 use Rattle.builders.proofs.delete.Tie as tie
 

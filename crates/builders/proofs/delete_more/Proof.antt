@@ -1,9 +1,9 @@
-use Rattle.operation.proofs.Records.{Bytes}
-use Rattle.operation.proofs.Faults.{limits, faultless}
 use mathlib.Core.Path.{refl}
 use native.Mathlib.Omega.{arith}
-use Rattle.builders.proofs.Growing.{last-room, deletes-more}
 use borrow.Author.Needs.{needs}
+use Rattle.record.proofs.Records.{Bytes}
+use Rattle.record.proofs.Faults.{limits, faultless}
+use Rattle.builders.proofs.Growing.{last-room, deletes-more}
 use Rattle.builders.proofs.delete_more.Statement.{statement}
 use Rattle.builders.proofs.delete_more.Tie as tie
 

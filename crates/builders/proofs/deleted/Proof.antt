@@ -1,5 +1,5 @@
-use Rattle.builders.proofs.Extending.{before-few, text-room, more-refused, more-written}
 use borrow.Author.Needs.{needs}
+use Rattle.builders.proofs.Extending.{before-few, text-room, more-refused, more-written}
 use Rattle.builders.proofs.deleted.Statement.{statement}
 use Rattle.builders.proofs.deleted.Tie as tie
 

@@ -1,5 +1,5 @@
-use Rattle.builders.proofs.Growing.{last-none, last-other, last-count}
 use borrow.Author.Needs.{needs}
+use Rattle.builders.proofs.Growing.{last-none, last-other, last-count}
 use Rattle.builders.proofs.ending.Statement.{statement}
 use Rattle.builders.proofs.ending.Tie as tie
 

@@ -1,12 +1,12 @@
-use Rattle.utf8.proofs.Passed.{form-ill, form-holds, form-num}
-use Rattle.operation.proofs.Answers.{passed}
-use Rattle.operation.specs.declared.Refusal.the-variants.{Utf8, Limit}
-use Rattle.operational_transform.specs.declared.Written.the-variants as written
-use Rattle.operational_transform.specs.Calls.{insertCall}
-use Rattle.operational_transform.specs.Given.{Gives}
-use Rattle.operational_transform.proofs.Giving.{text-refused, text-ill, text-passed}
-use Rattle.builders.proofs.Extending.{insert-limit}
 use borrow.Author.Needs.{needs}
+use Rattle.characters.proofs.Passed.{form-ill, form-holds, form-num}
+use Rattle.answers.specs.declared.Refusal.the-variants.{Utf8, Limit}
+use Rattle.answers.specs.declared.Written.the-variants as written
+use Rattle.answers.specs.InnerGiven.{Gives}
+use Rattle.record.proofs.Checked.{passed}
+use Rattle.operational_transform.specs.Calls.{insertCall}
+use Rattle.emitter.proofs.Giving.{text-refused, text-ill, text-passed}
+use Rattle.builders.proofs.Extending.{insert-limit}
 use Rattle.builders.proofs.insert.Statement.{statement}
 use Rattle.builders.proofs.insert.Tie as tie
 

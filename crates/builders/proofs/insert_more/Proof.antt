@@ -1,10 +1,10 @@
-use Rattle.operational_transform.proofs.Adding.{few-counted}
-use Rattle.operation.proofs.Records.{Bytes}
-use Rattle.operation.proofs.Faults.{limits, faultless}
 use mathlib.Core.Path.{refl}
 use native.Mathlib.Omega.{arith}
-use Rattle.builders.proofs.Growing.{last-room, inserts-more}
 use borrow.Author.Needs.{needs}
+use Rattle.record.proofs.Records.{Bytes}
+use Rattle.record.proofs.Faults.{limits, faultless}
+use Rattle.emitter.proofs.Adding.{few-counted}
+use Rattle.builders.proofs.Growing.{last-room, inserts-more}
 use Rattle.builders.proofs.insert_more.Statement.{statement}
 use Rattle.builders.proofs.insert_more.Tie as tie
 

@@ -1,6 +1,6 @@
 use native.Mathlib.Omega.{arith}
-use Rattle.builders.proofs.Extending.{before-few, text-room, more-refused, text-written}
 use borrow.Author.Needs.{needs}
+use Rattle.builders.proofs.Extending.{before-few, text-room, more-refused, text-written}
 use Rattle.builders.proofs.inserted.Statement.{statement}
 use Rattle.builders.proofs.inserted.Tie as tie
 

@@ -1,5 +1,5 @@
-use Rattle.builders.proofs.Extending.{settles-with}
 use borrow.Author.Needs.{needs}
+use Rattle.builders.proofs.Extending.{settles-with}
 use Rattle.builders.proofs.settle_with.Statement.{statement}
 use Rattle.builders.proofs.settle_with.Tie as tie
 

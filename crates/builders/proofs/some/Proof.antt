@@ -1,6 +1,6 @@
 use native.Mathlib.Omega.{arith}
-use Rattle.operational_transform.proofs.Emitting.{some-is}
 use borrow.Author.Needs.{needs}
+use Rattle.emitter.proofs.Emitting.{some-is}
 use Rattle.builders.proofs.some.Statement.{statement}
 use Rattle.builders.proofs.some.Tie as tie
 

@@ -2,7 +2,7 @@ use borrow.Author.Needs.{needs}
 use Prim.Native.Nat.{_≤_}
 use lib.ListN.{length}
 use native.Mathlib.Omega.{arith}
-use Rattle.c_api.proofs.Packing.{part-none, part-passed, part-index, part-small, part-is}
+use Rattle.packing.proofs.Packing.{part-none, part-passed, part-index, part-small, part-is}
 use Rattle.c_api.proofs.ot_insert_text.Statement.{statement}
 use Rattle.c_api.proofs.ot_insert_text.Tie as tie
 

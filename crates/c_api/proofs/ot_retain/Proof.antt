@@ -1,6 +1,6 @@
 use mathlib.Core.Path.{ap, _∙_}
 use borrow.Author.Needs.{needs}
-use Rattle.c_api.specs.Numbers.{packed}
+use Rattle.packing.specs.Numbers.{packed}
 use Rattle.c_api.proofs.ot_retain.Statement.{statement}
 use Rattle.c_api.proofs.ot_retain.Tie as tie
 

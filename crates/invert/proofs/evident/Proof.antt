@@ -1,5 +1,5 @@
-use Rattle.invert.proofs.Inverses.{evident-other, evident-long, evident-room}
 use borrow.Author.Needs.{needs}
+use Rattle.invert_in_place.proofs.Inverses.{evident-other, evident-long, evident-room}
 use Rattle.invert.proofs.evident.Statement.{statement}
 use Rattle.invert.proofs.evident.Tie as tie
 

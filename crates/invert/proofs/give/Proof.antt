@@ -1,5 +1,5 @@
-use Rattle.invert.proofs.Passing.{passes-left, under-room, part-well, part-few, gives-retain, gives-delete, gives-insert}
 use borrow.Author.Needs.{needs}
+use Rattle.invert_in_place.proofs.Passing.{passes-left, under-room, part-well, part-few, gives-retain, gives-delete, gives-insert}
 use Rattle.invert.proofs.give.Statement.{statement}
 use Rattle.invert.proofs.give.Tie as tie
 

@@ -1,13 +1,13 @@
 use mathlib.Core.Path.{_≡_}
-use Rattle.utf8.proofs.Passed.{form-ill, form-holds, form-num}
-use Rattle.operation.specs.Record.{recordFault}
-use Rattle.operation.proofs.Answers.{passed}
-use Rattle.operational_transform.specs.declared.Written.the-variants.{Refused}
-use Rattle.operation.specs.declared.Refusal.the-variants.{Utf8}
-use Rattle.operational_transform.specs.Calls.{invertCall}
-use Rattle.operational_transform.specs.Given.{Gives}
-use Rattle.operational_transform.proofs.Giving.{text-refused, text-ill, text-passed}
 use borrow.Author.Needs.{needs}
+use Rattle.characters.proofs.Passed.{form-ill, form-holds, form-num}
+use Rattle.answers.specs.declared.Written.the-variants.{Refused}
+use Rattle.answers.specs.declared.Refusal.the-variants.{Utf8}
+use Rattle.answers.specs.InnerGiven.{Gives}
+use Rattle.record.specs.Record.{recordFault}
+use Rattle.record.proofs.Checked.{passed}
+use Rattle.operational_transform.specs.Calls.{invertCall}
+use Rattle.emitter.proofs.Giving.{text-refused, text-ill, text-passed}
 use Rattle.invert.proofs.invert.Statement.{statement}
 use Rattle.invert.proofs.invert.Tie as tie
 

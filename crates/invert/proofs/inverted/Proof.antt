@@ -1,5 +1,5 @@
-use Rattle.invert.proofs.Inverses.{evident-base, evident-few, evident-fits}
 use borrow.Author.Needs.{needs}
+use Rattle.invert_in_place.proofs.Inverses.{evident-base, evident-few, evident-fits}
 use Rattle.invert.proofs.inverted.Statement.{statement}
 use Rattle.invert.proofs.inverted.Tie as tie
 

@@ -1,5 +1,5 @@
-use Rattle.utf8.proofs.Places.{passes-all}
 use borrow.Author.Needs.{needs}
+use Rattle.characters.proofs.Places.{passes-all}
 use Rattle.invert.proofs.passed.Statement.{statement}
 use Rattle.invert.proofs.passed.Tie as tie
 

@@ -1,5 +1,5 @@
-use Rattle.invert.proofs.Passing.{stays, moves}
 use borrow.Author.Needs.{needs}
+use Rattle.invert_in_place.proofs.Passing.{stays, moves}
 use Rattle.invert.proofs.past.Statement.{statement}
 use Rattle.invert.proofs.past.Tie as tie
 

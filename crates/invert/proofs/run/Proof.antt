@@ -1,9 +1,9 @@
 use mathlib.Core.Path.{_≡_}
 use lib.ListN.{length}
-use Rattle.operation.specs.Front.{ahead}
-use Rattle.invert.proofs.Undoing.{Going, going-start, going-under, going-place, going-small, going-done, going-less, going-more, last-under, last-done}
-use Rattle.invert.proofs.Passing.{under-room}
 use borrow.Author.Needs.{needs}
+use Rattle.record.specs.InnerFront.{ahead}
+use Rattle.invert_in_place.proofs.Passing.{under-room}
+use Rattle.invert.proofs.Undoing.{Going, going-start, going-under, going-place, going-small, going-done, going-less, going-more, last-under, last-done}
 use Rattle.invert.proofs.run.Statement.{statement}
 use Rattle.invert.proofs.run.Tie as tie
 

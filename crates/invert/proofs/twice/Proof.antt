@@ -1,5 +1,5 @@
-use Rattle.operational_transform.proofs.Giving.{gives-refused, gives-written}
 use borrow.Author.Needs.{needs}
+use Rattle.emitter.proofs.Giving.{gives-refused, gives-written}
 use Rattle.invert.proofs.twice.Statement.{statement}
 use Rattle.invert.proofs.twice.Tie as tie
 

@@ -1,12 +1,12 @@
 // Answers in words on standard output.
-ghost use Prim.Native.Nat.{_<_};
 use crate::core::line::State;
-use operation::Fact;
-use operation::Noop;
-use operation::Refusal;
-use operational_transform::Written;
-use transform::WrittenPair;
+use answers::Fact;
+use answers::Noop;
+use answers::Refusal;
+use answers::Written;
+use answers::WrittenPair;
 use walker::Found;
+ghost use Prim.Native.Nat.{_<_};
 
 pub fn text(t: &[u8]) {
     io::write_all(1, t);
@@ -37,7 +37,7 @@ pub fn yes_or_no(b: bool) {
 
 pub fn refusal(x: Refusal) {
     text(b"refused ");
-    number(operation::number(x) as u64);
+    number(answers::number(x) as u64);
 }
 
 pub fn fact(f: Fact) {

@@ -1,5 +1,5 @@
-use Rattle.log.proofs.Opening.{open-refused, open-9, open-10, open-answer, open-out}
 use borrow.Author.Needs.{needs}
+use Rattle.log.proofs.Opening.{open-refused, open-9, open-10, open-answer, open-out}
 use Rattle.log.proofs.open.Statement.{statement}
 use Rattle.log.proofs.open.Tie as tie
 

@@ -1,7 +1,7 @@
 use Prim.Native.Nat.{_+_}
 use native.Mathlib.Omega.{arith}
-use Rattle.operation.proofs.Answers.{check-1, check-2, check-2′, check-3, check-4, check-5, check-5′, check-0, has-header, few-entries, has-entries, sounds, links, Agreed, agreed}
 use borrow.Author.Needs.{needs}
+use Rattle.operation.proofs.Answers.{check-1, check-2, check-2′, check-3, check-4, check-5, check-5′, check-0, has-header, few-entries, has-entries, sounds, links, Agreed, agreed}
 use Rattle.operation.proofs.check.Statement.{statement}
 use Rattle.operation.proofs.check.Tie as tie
 

@@ -1,5 +1,5 @@
-use Rattle.playback.proofs.Stages.{as-long, advance-other, advance-short, advance-on}
 use borrow.Author.Needs.{needs}
+use Rattle.playback.proofs.Stages.{as-long, advance-other, advance-short, advance-on}
 use Rattle.playback.proofs.advance.Statement.{statement}
 use Rattle.playback.proofs.advance.Tie as tie
 

@@ -1,5 +1,5 @@
-use Rattle.playback.proofs.Stages.{hold-short, hold-whole}
 use borrow.Author.Needs.{needs}
+use Rattle.playback.proofs.Stages.{hold-short, hold-whole}
 use Rattle.playback.proofs.hold.Statement.{statement}
 use Rattle.playback.proofs.hold.Tie as tie
 

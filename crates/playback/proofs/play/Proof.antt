@@ -1,6 +1,6 @@
-use Rattle.utf8.proofs.Passed.{form-holds}
-use Rattle.playback.proofs.Answers.{play-refused, play-3, play-6, play-8, play-short, play-10, play-0, play-out, play-reads, play-count, play-agrees, play-inside, play-size, play-room}
 use borrow.Author.Needs.{needs}
+use Rattle.characters.proofs.Passed.{form-holds}
+use Rattle.playback.proofs.Answers.{play-refused, play-3, play-6, play-8, play-short, play-10, play-0, play-out, play-reads, play-count, play-agrees, play-inside, play-size, play-room}
 use Rattle.playback.proofs.play.Statement.{statement}
 use Rattle.playback.proofs.play.Tie as tie
 

@@ -2,7 +2,7 @@ use Prim.Native.Nat.{_-_, _≤_}
 use mathlib.Core.Path.{_≡_, refl}
 use lib.ListN.{length, take}
 use borrow.Author.Needs.{needs}
-use Rattle.playback.specs.Stages.{Stage}
+use Rattle.playback.specs.InnerStages.{Stage}
 use Rattle.playback.proofs.Stages.{stage-start, stage-end, stage-at, stage-fault, stage-base, stage-room, stage-short, stage-next}
 use Rattle.playback.proofs.revise.Statement.{statement}
 use Rattle.playback.proofs.revise.Tie as tie

@@ -1,7 +1,7 @@
 use mathlib.Core.Path.{_≡_}
 use mathlib.Core.Bool.{false, not}
-use Rattle.playback.proofs.Stages.{run-other, run-short, run-room, run-well, run-chars, run-ends}
 use borrow.Author.Needs.{needs}
+use Rattle.playback.proofs.Stages.{run-other, run-short, run-room, run-well, run-chars, run-ends}
 use Rattle.playback.proofs.run.Statement.{statement}
 use Rattle.playback.proofs.run.Tie as tie
 

@@ -1,8 +1,8 @@
-use Rattle.transform.specs.declared.WrittenPair.the-variants.{Refused}
-use Rattle.transform.specs.Pairs.{Transforms}
-use Rattle.transform.proofs.Answering.{transforms-first}
-use Rattle.operation.proofs.Answers.{passed}
 use borrow.Author.Needs.{needs}
+use Rattle.answers.specs.declared.WrittenPair.the-variants.{Refused}
+use Rattle.record.proofs.Checked.{passed}
+use Rattle.transform.specs.InnerPairs.{Transforms}
+use Rattle.transform.proofs.Answering.{transforms-first}
 use Rattle.transform.proofs.transform.Statement.{statement}
 use Rattle.transform.proofs.transform.Tie as tie
 

@@ -1,6 +1,6 @@
-use Rattle.transform.proofs.Answering.{transforms-second}
-use Rattle.operation.proofs.Answers.{passed}
 use borrow.Author.Needs.{needs}
+use Rattle.record.proofs.Checked.{passed}
+use Rattle.transform.proofs.Answering.{transforms-second}
 use Rattle.transform.proofs.transformed_with.Statement.{statement}
 use Rattle.transform.proofs.transformed_with.Tie as tie
 

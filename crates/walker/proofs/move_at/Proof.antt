@@ -1,6 +1,6 @@
-use Rattle.operation.proofs.Answers.{passed}
-use Rattle.walker.proofs.Steps.{refused-end, refused-stays, past-end, past-stays, finds, moves}
 use borrow.Author.Needs.{needs}
+use Rattle.record.proofs.Checked.{passed}
+use Rattle.walker.proofs.Steps.{refused-end, refused-stays, past-end, past-stays, finds, moves}
 use Rattle.walker.proofs.move_at.Statement.{statement}
 use Rattle.walker.proofs.move_at.Tie as tie
 

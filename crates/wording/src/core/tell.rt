@@ -1,11 +1,11 @@
 // Answers in words on standard output.
 use crate::core::words;
+use answers::Refusal;
+use answers::Written;
+use answers::WrittenPair;
 use listing::core::show;
 use log::core::Scan;
 use log::core::Scanned;
-use operation::Refusal;
-use operational_transform::Written;
-use transform::WrittenPair;
 
 fn revisions(n: u64) {
     show::number(n);

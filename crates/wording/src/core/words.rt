@@ -1,6 +1,6 @@
 // Records in words: R, I and D with their counts and texts.
+use answers::Fact;
 use listing::core::show;
-use operation::Fact;
 use walker::Found;
 ghost use Prim.Native.Nat.{_<_};
 

@@ -1,6 +1,6 @@
 use Prim.Native.Nat.{_-_, _≤_}
 use borrow.Author.Needs.{needs}
-use Rattle.log.specs.Steps.{Passing}
+use Rattle.log.specs.InnerSteps.{Passing}
 use Rattle.log.proofs.Scanning.{scan-start, scan-stop, scan-next, scan-end}
 use Rattle.log.proofs.core.go_through.Statement.{statement}
 use Rattle.log.proofs.core.go_through.Tie as tie

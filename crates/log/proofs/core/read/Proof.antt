@@ -1,5 +1,5 @@
-use Rattle.log.proofs.Scanning.{scan-short, scan-many, scan-long}
 use borrow.Author.Needs.{needs}
+use Rattle.log.proofs.Scanning.{scan-short, scan-many, scan-long}
 use Rattle.log.proofs.core.read.Statement.{statement}
 use Rattle.log.proofs.core.read.Tie as tie
 

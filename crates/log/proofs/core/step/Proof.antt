@@ -1,8 +1,8 @@
 use Prim.Native.Nat.{_+_, _≤_}
 use lib.ListN.{length}
-use Rattle.operation.proofs.Answers.{passed}
-use Rattle.log.proofs.Scanning.{step-fault, step-base, step-room, step-on}
 use borrow.Author.Needs.{needs}
+use Rattle.record.proofs.Checked.{passed}
+use Rattle.log.proofs.Scanning.{step-fault, step-base, step-room, step-on}
 use Rattle.log.proofs.core.step.Statement.{statement}
 use Rattle.log.proofs.core.step.Tie as tie
 

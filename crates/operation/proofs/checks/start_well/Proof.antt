@@ -1,13 +1,13 @@
 use Prim.Native.Nat.{_+_, _-_, _≤_}
 use mathlib.Core.Path.{sym, _∙_}
 use lib.ListN.{drop}
-use Rattle.operation.specs.Layout.{textStart}
-use Rattle.operation.specs.Record.{entries}
-use Rattle.operation.specs.Checks.{startWell}
-use Rattle.operation.proofs.Checking.{starting, starting-other, starting-fits, starting-room, starting-ill, starting-insert, Began, began, began-behind}
 use native.Mathlib.Omega.{arith}
 use mathlib.Core.Logic.{⊎-elim}
 use borrow.Author.Needs.{needs}
+use Rattle.record.specs.Layout.{textStart}
+use Rattle.record.specs.Record.{entries}
+use Rattle.operation.specs.InnerTexts.{startWell}
+use Rattle.operation.proofs.Texts.{starting, starting-other, starting-fits, starting-room, starting-ill, starting-insert, Began, began, began-behind}
 use Rattle.operation.proofs.checks.start_well.Statement.{statement}
 use Rattle.operation.proofs.checks.start_well.Tie as tie
 

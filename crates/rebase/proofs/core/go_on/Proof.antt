@@ -1,6 +1,6 @@
 use native.Mathlib.Omega.{arith}
-use Rattle.rebase.proofs.Passing.{edit-inside, record-inside, goes-on}
 use borrow.Author.Needs.{needs}
+use Rattle.rebase.proofs.Passing.{edit-inside, record-inside, goes-on}
 use Rattle.rebase.proofs.core.go_on.Statement.{statement}
 use Rattle.rebase.proofs.core.go_on.Tie as tie
 

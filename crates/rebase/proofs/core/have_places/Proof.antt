@@ -1,5 +1,5 @@
-use Rattle.rebase.proofs.Passing.{places-first, places-second, places-room}
 use borrow.Author.Needs.{needs}
+use Rattle.rebase.proofs.Passing.{places-first, places-second, places-room}
 use Rattle.rebase.proofs.core.have_places.Statement.{statement}
 use Rattle.rebase.proofs.core.have_places.Tie as tie
 

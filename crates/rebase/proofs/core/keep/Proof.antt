@@ -1,5 +1,5 @@
-use Rattle.rebase.proofs.Passing.{keeps-part, keeps-none}
 use borrow.Author.Needs.{needs}
+use Rattle.rebase.proofs.Passing.{keeps-part, keeps-none}
 use Rattle.rebase.proofs.core.keep.Statement.{statement}
 use Rattle.rebase.proofs.core.keep.Tie as tie
 

@@ -3,9 +3,9 @@ use native.Mathlib.Omega.{arith}
 use mathlib.Core.Path.{_≡_}
 use lib.ListN.{length}
 use borrow.Author.Needs.{needs}
-use Rattle.operation.specs.Record.{ops}
-use Rattle.operation.specs.Front.{ahead}
-use Rattle.transform.proofs.Looping.{GoingBoth, both-start, left-under, right-under, both-more, went-less}
+use Rattle.record.specs.Record.{ops}
+use Rattle.record.specs.InnerFront.{ahead}
+use Rattle.steps.proofs.Looping.{GoingBoth, both-start, left-under, right-under, both-more, went-less}
 use Rattle.rebase.proofs.Stages.{marked-run, passed}
 use Rattle.rebase.proofs.Moving.{Moving, moving-start, moving-small, moving-place, moving-end, moving-record, moving-agree, moving-stop, moving-fit, moving-ready, moving-short, moving-next}
 use Rattle.rebase.proofs.core.rebase.Statement.{statement}

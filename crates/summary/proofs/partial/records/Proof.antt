@@ -1,5 +1,5 @@
-use Rattle.summary.proofs.Holding.{some-records}
 use borrow.Author.Needs.{needs}
+use Rattle.summary.proofs.Holding.{some-records}
 use Rattle.summary.proofs.partial.records.Statement.{statement}
 use Rattle.summary.proofs.partial.records.Tie as tie
 

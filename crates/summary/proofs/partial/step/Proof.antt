@@ -1,5 +1,5 @@
-use Rattle.summary.proofs.Holding.{step-room, step-refused, step-written}
 use borrow.Author.Needs.{needs}
+use Rattle.summary.proofs.Holding.{step-room, step-refused, step-written}
 use Rattle.summary.proofs.partial.step.Statement.{statement}
 use Rattle.summary.proofs.partial.step.Tie as tie
 

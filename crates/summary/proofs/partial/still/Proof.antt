@@ -1,5 +1,5 @@
-use Rattle.summary.proofs.Holding.{still-start, still-under, still-small, still-holds}
 use borrow.Author.Needs.{needs}
+use Rattle.summary.proofs.Holding.{still-start, still-under, still-small, still-holds}
 use Rattle.summary.proofs.partial.still.Statement.{statement}
 use Rattle.summary.proofs.partial.still.Tie as tie
 

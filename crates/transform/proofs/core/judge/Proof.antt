@@ -1,5 +1,5 @@
-use Rattle.transform.proofs.Answering.{judge-bytes, judge-first, judge-second, judge-short, judge-shorter}
 use borrow.Author.Needs.{needs}
+use Rattle.transform.proofs.Answering.{judge-bytes, judge-first, judge-second, judge-short, judge-shorter}
 use Rattle.transform.proofs.core.judge.Statement.{statement}
 use Rattle.transform.proofs.core.judge.Tie as tie
 

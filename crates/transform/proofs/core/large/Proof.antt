@@ -1,5 +1,5 @@
-use Rattle.transform.proofs.Answering.{handed-on}
 use borrow.Author.Needs.{needs}
+use Rattle.transform.proofs.Answering.{handed-on}
 use Rattle.transform.proofs.core.large.Statement.{statement}
 use Rattle.transform.proofs.core.large.Tie as tie
 

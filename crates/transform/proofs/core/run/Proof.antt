@@ -3,10 +3,10 @@ use mathlib.Core.Path.{_≡_}
 use native.Mathlib.Omega.{arith}
 use lib.ListN.{length}
 use borrow.Author.Needs.{needs}
-use Rattle.operation.specs.Front.{ahead}
-use Rattle.turns.proofs.Turning.{live-is}
-use Rattle.transform.proofs.Looping.{GoingBoth, both-start, left-under, right-under, both-more, went-less}
-use Rattle.transform.proofs.Marking.{both-marked}
+use Rattle.record.specs.InnerFront.{ahead}
+use Rattle.steps.proofs.Turning.{live-is}
+use Rattle.steps.proofs.Looping.{GoingBoth, both-start, left-under, right-under, both-more, went-less}
+use Rattle.steps.proofs.Marking.{both-marked}
 use Rattle.transform.proofs.core.run.Statement.{statement}
 use Rattle.transform.proofs.core.run.Tie as tie
 

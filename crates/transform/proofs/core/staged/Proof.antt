@@ -1,7 +1,7 @@
 use native.Mathlib.Omega.{arith}
-use Rattle.transform.proofs.Answering.{transforms-refused, transforms-written}
-use Rattle.transform.proofs.Marking.{text-room-left, text-room-right, few-places-left, few-places-right, text-placed}
 use borrow.Author.Needs.{needs}
+use Rattle.steps.proofs.Marking.{text-room-left, text-room-right, few-places-left, few-places-right, text-placed}
+use Rattle.transform.proofs.Answering.{transforms-refused, transforms-written}
 use Rattle.transform.proofs.core.staged.Statement.{statement}
 use Rattle.transform.proofs.core.staged.Tie as tie
 

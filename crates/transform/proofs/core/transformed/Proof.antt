@@ -1,5 +1,5 @@
-use Rattle.transform.proofs.Answering.{transforms-lengths}
 use borrow.Author.Needs.{needs}
+use Rattle.transform.proofs.Answering.{transforms-lengths}
 use Rattle.transform.proofs.core.transformed.Statement.{statement}
 use Rattle.transform.proofs.core.transformed.Tie as tie
 

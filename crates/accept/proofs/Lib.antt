@@ -1,5 +1,0 @@
--- accept
-pub mod Places
-pub mod Answering
-pub mod Appending
-pub mod Delivering

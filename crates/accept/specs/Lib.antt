@@ -1,2 +1,0 @@
--- accept
-pub mod Accepting

@@ -1,0 +1,3 @@
+-- answers
+pub mod Refusals
+pub mod Outputs

@@ -1,0 +1,4 @@
+-- answers
+pub mod Answer
+pub mod Output
+pub mod InnerGiven

@@ -1,0 +1,2 @@
+-- append
+pub mod InnerAccepting

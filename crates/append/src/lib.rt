@@ -1,0 +1,3 @@
+// Records appended to a log.
+
+pub mod core;

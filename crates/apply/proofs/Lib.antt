@@ -1,0 +1,5 @@
+-- apply
+pub mod Overs
+pub mod Passing
+pub mod Playing
+pub mod Answers

@@ -1,0 +1,3 @@
+// ASCII in text.
+
+pub mod core;

@@ -1,0 +1,3 @@
+// Text checked by blocks.
+
+pub mod core;

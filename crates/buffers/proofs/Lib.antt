@@ -1,0 +1,4 @@
+-- buffers
+pub mod Over
+pub mod Tests
+pub mod Moves

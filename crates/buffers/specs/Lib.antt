@@ -1,0 +1,5 @@
+-- buffers
+pub mod Words
+pub mod Buffers
+pub mod InnerOver
+pub mod Lists

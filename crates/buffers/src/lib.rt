@@ -1,0 +1,3 @@
+// Buffers of bytes.
+
+pub mod core;

@@ -1,2 +1,0 @@
--- c_api
-pub mod Numbers

@@ -1,0 +1,2 @@
+-- compose_steps
+pub mod Steps

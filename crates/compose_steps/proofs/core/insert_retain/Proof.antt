@@ -1,0 +1,44 @@
+use native.Mathlib.Omega.{arith}
+use borrow.Author.Needs.{needs}
+use Rattle.emitter.proofs.Adding.{under-more}
+use Rattle.compose_steps.proofs.Steps.{Cuts, both-some, went-inserted}
+use Rattle.compose_steps.proofs.core.insert_retain.Statement.{statement}
+use Rattle.compose_steps.proofs.core.insert_retain.Tie as tie
+
+lesser-requires : tie.Need-lesser-requires
+lesser-requires c κs = search needs
+
+cut-requires : tie.Need-cut-requires
+cut-requires c κs = search needs
+
+text-of-first-requires : tie.Need-text-of-first-requires
+text-of-first-requires c κs =
+    let start = c .before .before .before .before .before .before .before .before .before in
+    let k = c .before .before .lesser .ensures in
+    (start .pre .2, start .pre .4, start .pre .7, both-some _ _ _ _ _ (start .pre .6) (start .pre .4) (start .pre .5) k, omega (arith, k), c .before .cut .ensures, under-more _ _ _ (omega arith) (start .pre .3))
+
+rest-requires : tie.Need-rest-requires
+rest-requires c κs = search (Cuts, needs)
+
+rest-requires-2 : tie.Need-rest-requires-2
+rest-requires-2 c κs = search (Cuts, needs)
+
+same-length : tie.Need-same-length
+same-length c = search needs
+
+returns : tie.Need-returns
+returns c =
+    let start = c .before .before .before .before .before .before .before .before .before .before .before .before .before .before in
+    went-inserted _ _ _ (start .args .s) _ _ _ (start .pre .4) (start .pre .5) _ _ (start .pre .6) _ (c .before .before .before .before .before .before .before .lesser .ensures) (start .pre .7) (start .pre .8) (c .before .before .before .before .text-of-first .ensures) (c .before .rest .ensures) (c .rest2 .ensures)
+
+pub insert-retain-spec : {M : Type 1} → statement M
+insert-retain-spec =
+    tie.close
+    (tie.spec
+    lesser-requires
+    cut-requires
+    text-of-first-requires
+    rest-requires
+    rest-requires-2
+    same-length
+    returns)

@@ -1,0 +1,19 @@
+use borrow.Author.Needs.{needs}
+use Rattle.compose_steps.proofs.Steps.{Cuts, went-first}
+use Rattle.compose_steps.proofs.core.only_first.Statement.{statement}
+use Rattle.compose_steps.proofs.core.only_first.Tie as tie
+
+part-requires : tie.Need-part-requires
+part-requires c κs = search (Cuts, needs)
+
+rest-requires : tie.Need-rest-requires
+rest-requires c κs = search (Cuts, needs)
+
+same-length : tie.Need-same-length
+same-length c = search needs
+
+returns : tie.Need-returns
+returns c = search went-first
+
+pub only-first-spec : {M : Type 1} → statement M
+only-first-spec = tie.close (tie.spec part-requires rest-requires same-length returns)

@@ -1,0 +1,3 @@
+// A step of compose.
+
+pub mod core;

@@ -1,0 +1,3 @@
+// Characters counted.
+
+pub mod core;

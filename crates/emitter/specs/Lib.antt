@@ -1,0 +1,2 @@
+-- emitter
+pub mod InnerEmit

@@ -1,0 +1,414 @@
+// The emitter: a sequence is built and written as a record at the same time.
+//
+// A built sequence is groups of an insert, a delete and a retain, each of which may be missing. The group that is being
+// built is held as three numbers; an insert's bytes go to the text at once, which only ever grows. Every function takes the
+// number n of records of the whole, so that each byte has its place. A byte that has none in the buffer is not written: a
+// run on an empty buffer yields the sizes.
+use answers::Refusal;
+use answers::Written;
+use record::core::Front;
+ghost use mathlib.Core.Path.{_≡_};
+ghost use Prim.Native.Nat.{_+_, _^_, _≤_, _*_, _<_, _-_};
+ghost use lib.ListN.{length, take, drop};
+ghost use mathlib.Core.Bool.{_&&_};
+ghost use lib.Dec.{leb, T};
+ghost use mathlib.Core.List.{[], _∷_};
+ghost use Rattle.characters.specs.Form.{wellFormed};
+ghost use Rattle.characters.specs.Chars.{numChars};
+ghost use Rattle.characters.specs.Text.{chars};
+ghost use Rattle.edits.specs.Op.{delete, insert, cut};
+ghost use Rattle.record.specs.Layout.{countsStart, textStart};
+ghost use Rattle.record.specs.InnerFront.{frontOp, Stands, Cut};
+ghost use Rattle.emitter.specs.InnerEmit.{nothing, one, emitted, entered, flushedAt, spilled, Under, opens, insertedBy, deletedBy, Retains, Adds, Finishes, within, sizeIn, judged, headed, settledRecords, settled};
+
+pub struct Emitter {
+    // the pending group: bytes of the insert, characters of the delete and of the retain
+    pub ins: usize,
+    pub del: usize,
+    pub ret: usize,
+    // records written, text bytes, base and target so far
+    pub records: usize,
+    pub text: usize,
+    pub base: usize,
+    pub target: usize,
+}
+
+pub fn start() -> Emitter
+    ensures { λ r. ⌜ r ≡ nothing ⌝ }
+{
+    Emitter {
+        ins: 0,
+        del: 0,
+        ret: 0,
+        records: 0,
+        text: 0,
+        base: 0,
+        target: 0,
+    }
+}
+
+// One record, unless its count is 0: the number of records afterwards. (Its bytes are written out: with `enter` here the compiler no
+// longer inlines `part`.)
+fn emit(out: &mut [u8], n: usize, records: usize, kind: u8, count: usize) -> usize
+    requires { ⌜ (n ≤ 2 ^ 41) × (records ≤ 2 ^ 41) ⌝ }
+    ensures { λ r. ⌜ (r ≡ records + one count) × (r ≤ records + 1) × (now (out .exit) ≡ emitted n records kind count (now (out .entry))) ⌝ }
+{
+    if count == 0 {
+        return records;
+    }
+    let k = layout::core::kind_place(records);
+    let at = layout::core::count_place(n, records);
+    if at + 1 < out.len() {
+        out[k] = kind;
+        out[at] = (count % 256) as u8;
+        out[at + 1] = (count / 256 % 256) as u8;
+        return records + 1;
+    }
+    buffers::core::put(out, k, kind);
+    buffers::core::put16(out, at, count);
+    records + 1
+}
+
+// Kind and count of record k of n, which have their places in the buffer.
+pub fn enter(out: &mut [u8], n: usize, k: usize, kind: u8, count: usize)
+    requires { ⌜ (n ≤ 2 ^ 41) × (k ≤ 2 ^ 41) × (countsStart n + 2 * k + 1 < length (now out)) ⌝ }
+    ensures { λ _. ⌜ now (out .exit) ≡ entered n k kind count (now (out .entry)) ⌝ }
+{
+    let at = layout::core::count_place(n, k);
+    out[layout::core::kind_place(k)] = kind;
+    out[at] = (count % 256) as u8;
+    out[at + 1] = (count / 256 % 256) as u8;
+}
+
+// Whether a group ends with a retain, and three records have their places.
+fn fits(room: usize, n: usize, records: usize, ret: usize) -> bool
+    requires { ⌜ (n ≤ 2 ^ 40) × (records ≤ 2 ^ 40) ⌝ }
+    ensures { λ r. ⌜ r ≡ (leb 1 ret && (leb (records + 3) n && leb (countsStart n + 2 * records + 6) room)) ⌝ }
+{
+    if ret == 0 {
+        return false;
+    }
+    if n <= records + 2 {
+        return false;
+    }
+    layout::core::count_place(n, records) + 6 <= room
+}
+
+// `flush` for such a group. No count is asked about: a record of count 0 is written, too, and the next one over it.
+fn close(out: &mut [u8], n: usize, records: usize, ins: usize, del: usize, ret: usize) -> usize
+    requires { ⌜ (n ≤ 2 ^ 40) × (records ≤ 2 ^ 40) × (0 < ret) × (records + 2 < n) × (countsStart n + 2 * records + 5 < length (now out)) ⌝ }
+    ensures { λ r. ⌜ (r ≡ records + one ins + one del + one ret) × (r ≤ records + 3) × (now (out .exit) ≡ flushedAt n records ins del ret (now (out .entry))) ⌝ }
+{
+    enter(out, n, records, 2, ins);
+    let x = records + some(ins);
+    enter(out, n, x, 3, del);
+    let y = x + some(del);
+    enter(out, n, y, 1, ret);
+    y + 1
+}
+
+// A group's records, by numbers: a struct would go through memory. The number of records afterwards.
+pub fn flush(out: &mut [u8], n: usize, records: usize, ins: usize, del: usize, ret: usize) -> usize
+    requires { ⌜ (n ≤ 2 ^ 40) × (records ≤ 2 ^ 40) ⌝ }
+    ensures { λ r. ⌜ (r ≡ records + one ins + one del + one ret) × (r ≤ records + 3) × (now (out .exit) ≡ flushedAt n records ins del ret (now (out .entry))) ⌝ }
+{
+    if fits(out.len(), n, records, ret) {
+        return close(out, n, records, ins, del, ret);
+    }
+    let x = emit(out, n, records, 2, ins);
+    let y = emit(out, n, x, 3, del);
+    emit(out, n, y, 1, ret)
+}
+
+// A pending retain closes the group: what is added behind it begins another.
+pub fn spill(out: &mut [u8], n: usize, e: Emitter)
+    requires { ⌜ (n ≤ 2 ^ 40) × Under (2 ^ 40) e ⌝ }
+    ensures { λ _. ⌜ now (out .exit) ≡ spilled n e (now (out .entry)) ⌝ }
+{
+    if 0 < e.ret {
+        flush(out, n, e.records, e.ins, e.del, e.ret);
+    }
+}
+
+// The same, by `close` where it can. (With it in `part`, too, compose would be slower.)
+fn spill_close(out: &mut [u8], n: usize, e: Emitter)
+    requires { ⌜ (n ≤ 2 ^ 40) × Under (2 ^ 40) e ⌝ }
+    ensures { λ _. ⌜ now (out .exit) ≡ spilled n e (now (out .entry)) ⌝ }
+{
+    if fits(out.len(), n, e.records, e.ret) {
+        close(out, n, e.records, e.ins, e.del, e.ret);
+        return;
+    }
+    spill(out, n, e);
+}
+
+fn some(c: usize) -> usize
+    ensures { λ r. ⌜ (r ≡ one c) × (r ≤ 1) ⌝ }
+{
+    if c == 0 { 0 } else { 1 }
+}
+
+fn opened(e: Emitter) -> Emitter
+    requires { ⌜ Under (2 ^ 40) e ⌝ }
+    ensures { λ r. ⌜ (r ≡ opens e) × Under (2 ^ 40 + 3) r ⌝ }
+{
+    if e.ret == 0 {
+        return e;
+    }
+    Emitter {
+        ins: 0,
+        del: 0,
+        ret: 0,
+        records: e.records + some(e.ins) + some(e.del) + some(e.ret),
+        text: e.text,
+        base: e.base,
+        target: e.target,
+    }
+}
+
+// The numbers after an insert of `len` bytes and `num` characters.
+pub fn inserted(e: Emitter, len: usize, num: usize) -> Emitter
+    requires { ⌜ (len ≤ 2 ^ 18) × (num ≤ 2 ^ 18) × Under (2 ^ 40) e ⌝ }
+    ensures { λ r. ⌜ r ≡ insertedBy len num e ⌝ }
+{
+    let g = opened(e);
+    Emitter {
+        ins: g.ins + len,
+        del: g.del,
+        ret: g.ret,
+        records: g.records,
+        text: e.text + len,
+        base: e.base,
+        target: e.target + num,
+    }
+}
+
+// The numbers after a delete of k characters.
+fn deleted(e: Emitter, k: usize) -> Emitter
+    requires { ⌜ (k ≤ 65536) × Under (2 ^ 40) e ⌝ }
+    ensures { λ r. ⌜ r ≡ deletedBy k e ⌝ }
+{
+    let g = opened(e);
+    Emitter {
+        ins: g.ins,
+        del: g.del + k,
+        ret: g.ret,
+        records: g.records,
+        text: e.text,
+        base: e.base + k,
+        target: e.target,
+    }
+}
+
+pub fn retain(e: Emitter, k: usize) -> Emitter
+    requires { ⌜ (k ≤ 65536) × Under (2 ^ 40) e ⌝ }
+    ensures { λ r. ⌜ Retains k e r ⌝ }
+{
+    Emitter {
+        ins: e.ins,
+        del: e.del,
+        ret: e.ret + k,
+        records: e.records,
+        text: e.text,
+        base: e.base + k,
+        target: e.target + k,
+    }
+}
+
+pub fn delete(out: &mut [u8], n: usize, e: Emitter, k: usize) -> Emitter
+    requires { ⌜ (k ≤ 65536) × (n ≤ 2 ^ 40) × Under (2 ^ 40) e ⌝ }
+    ensures { λ r. ⌜ Adds n (delete k ∷ []) e (now (out .entry)) r (now (out .exit)) ⌝ }
+{
+    if k == 0 {
+        return e;
+    }
+    spill(out, n, e);
+    deleted(e, k)
+}
+
+// The text src[from..to], of `num` characters.
+pub fn insert(
+    out: &mut [u8],
+    n: usize,
+    e: Emitter,
+    src: &[u8],
+    from: usize,
+    to: usize,
+    num: usize,
+) -> Emitter
+    requires { ⌜ (n ≤ 2 ^ 40) × (from ≤ to) × (to ≤ length (now src)) × (to - from ≤ 2 ^ 18) × T (wellFormed (take (to - from) (drop from (now src)))) × (num ≡ numChars (take (to - from) (drop from (now src)))) × Under (2 ^ 40) e ⌝ }
+    ensures { λ r. ⌜ Adds n (insert (chars (take (to - from) (drop from (now (src .entry))))) ∷ []) e (now (out .entry)) r (now (out .exit)) ⌝ }
+{
+    let len = to - from;
+    if len == 0 {
+        return e;
+    }
+    spill(out, n, e);
+    buffers::core::copy(out, layout::core::text_start(n) + e.text, src, from, to);
+    inserted(e, len, num)
+}
+
+// The first k characters of the front's operation, whose text ends at `mid`.
+pub fn part(
+    out: &mut [u8],
+    n: usize,
+    e: Emitter,
+    src: &[u8],
+    f: Front,
+    k: usize,
+    mid: usize,
+) -> Emitter
+    requires { ⌜ (n ≤ 2 ^ 40) × Stands (now src) f × (0 < k) × (k ≤ f .left) × Cut (now src) f k mid × Under (2 ^ 40) e ⌝ }
+    ensures { λ r. ⌜ Adds n (cut k (frontOp (now (src .entry)) f) ∷ []) e (now (out .entry)) r (now (out .exit)) ⌝ }
+{
+    let kind = f.kind;
+    if kind == 1 {
+        return retain(e, k);
+    }
+    spill(out, n, e);
+    if kind == 2 {
+        let from = f.from;
+        buffers::core::copy(out, layout::core::text_start(n) + e.text, src, from, mid);
+        return inserted(e, mid - from, k);
+    }
+    deleted(e, k)
+}
+
+// The same where the buffer has no place for text: none is copied.
+pub fn mark(
+    out: &mut [u8],
+    n: usize,
+    e: Emitter,
+    src: &[u8],
+    f: Front,
+    k: usize,
+    mid: usize,
+) -> Emitter
+    requires { ⌜ (n ≤ 2 ^ 40) × (length (now out) ≤ textStart n) × Stands (now src) f × (0 < k) × (k ≤ f .left) × Cut (now src) f k mid × Under (2 ^ 40) e ⌝ }
+    ensures { λ r. ⌜ Adds n (cut k (frontOp (now (src .entry)) f) ∷ []) e (now (out .entry)) r (now (out .exit)) ⌝ }
+{
+    let kind = f.kind;
+    if kind == 1 {
+        return retain(e, k);
+    }
+    spill_close(out, n, e);
+    if kind == 2 {
+        return inserted(e, mid - f.from, k);
+    }
+    deleted(e, k)
+}
+
+// The pending group is written, too.
+pub fn finish(out: &mut [u8], n: usize, e: Emitter) -> Emitter
+    requires { ⌜ (n ≤ 2 ^ 40) × Under (2 ^ 39) e ⌝ }
+    ensures { λ r. ⌜ Finishes n e (now (out .entry)) r (now (out .exit)) ⌝ }
+{
+    let records = flush(out, n, e.records, e.ins, e.del, e.ret);
+    Emitter {
+        ins: 0,
+        del: 0,
+        ret: 0,
+        records,
+        text: e.text,
+        base: e.base,
+        target: e.target,
+    }
+}
+
+// Whether what was emitted keeps the limits.
+pub fn keeps_limits(e: Emitter) -> bool
+    ensures { λ r. ⌜ r ≡ within e ⌝ }
+{
+    if 1024 < e.records {
+        return false;
+    }
+    if 32768 < e.text {
+        return false;
+    }
+    if 32768 < e.base {
+        return false;
+    }
+    e.target <= 32768
+}
+
+// How many bytes the record has.
+pub fn size(e: Emitter) -> usize
+    requires { ⌜ Under (2 ^ 40) e ⌝ }
+    ensures { λ r. ⌜ r ≡ sizeIn e ⌝ }
+{
+    layout::core::text_start(e.records) + e.text
+}
+
+// The answer of a call that would write what was emitted: 9, then 10.
+pub fn judge(e: Emitter, room: usize) -> Written
+    requires { ⌜ Under (2 ^ 40) e ⌝ }
+    ensures { λ r. ⌜ r ≡ judged e room ⌝ }
+{
+    if !keeps_limits(e) {
+        return Written::Refused(Refusal::Limit);
+    }
+    let bytes = size(e);
+    if room < bytes {
+        return Written::Refused(Refusal::Room);
+    }
+    Written::Bytes(bytes)
+}
+
+// The sizes, at the front of the record.
+pub fn header(out: &mut [u8], e: Emitter)
+    requires { ⌜ Under (2 ^ 40) e ⌝ }
+    ensures { λ _. ⌜ now (out .exit) ≡ headed e (now (out .entry)) ⌝ }
+{
+    buffers::core::put16(out, 0, e.records);
+    buffers::core::put16(out, 2, e.text);
+    buffers::core::put16(out, 4, e.base);
+    buffers::core::put16(out, 6, e.target);
+}
+
+// A record may be written before its number of records is known: to a stage that has places for `slots` of them. Whether all of it
+// has a place in a stage of `room` bytes.
+pub fn has_place(e: Emitter, slots: usize, room: usize) -> bool
+    requires { ⌜ (slots ≤ 2 ^ 40) × Under (2 ^ 40) e ⌝ }
+    ensures { λ r. ⌜ r ≡ (leb (e .records) slots && leb (textStart slots + e .text) room) ⌝ }
+{
+    if slots < e.records {
+        return false;
+    }
+    layout::core::text_start(slots) + e.text <= room
+}
+
+// From a record with places for `slots` records the first k counts and kinds go to their places in one of n.
+pub fn settle_records(out: &mut [u8], n: usize, stage: &[u8], slots: usize, k: usize)
+    requires { ⌜ (n ≤ 2 ^ 40) × (slots ≤ 2 ^ 40) × (k ≤ slots) × (textStart slots ≤ length (now stage)) ⌝ }
+    ensures { λ _. ⌜ now (out .exit) ≡ settledRecords slots n k (now (stage .entry)) (now (out .entry)) ⌝ }
+{
+    let kinds = layout::core::kind_place(0);
+    let from = layout::core::count_place(slots, 0);
+    buffers::core::copy_short(
+        out,
+        layout::core::count_place(n, 0),
+        stage,
+        from,
+        from + 2 * k,
+    );
+    buffers::core::copy_short(out, kinds, stage, kinds, kinds + k);
+}
+
+// The text, too. (Written out: what calls this calls nothing below it.)
+pub fn settle(out: &mut [u8], n: usize, stage: &[u8], slots: usize, k: usize, text: usize)
+    requires { ⌜ (n ≤ 2 ^ 40) × (slots ≤ 2 ^ 40) × (k ≤ slots) × (textStart slots + text ≤ length (now stage)) ⌝ }
+    ensures { λ _. ⌜ now (out .exit) ≡ settled slots n k text (now (stage .entry)) (now (out .entry)) ⌝ }
+{
+    let kinds = layout::core::kind_place(0);
+    let counts = layout::core::count_place(slots, 0);
+    let from = layout::core::text_start(slots);
+    buffers::core::copy_short(out, layout::core::text_start(n), stage, from, from + text);
+    buffers::core::copy_short(
+        out,
+        layout::core::count_place(n, 0),
+        stage,
+        counts,
+        counts + 2 * k,
+    );
+    buffers::core::copy_short(out, kinds, stage, kinds, kinds + k);
+}

@@ -1,0 +1,3 @@
+// The emitter.
+
+pub mod core;

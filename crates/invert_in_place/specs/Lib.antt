@@ -1,0 +1,2 @@
+-- invert_in_place
+pub mod InnerInverting

@@ -1,0 +1,172 @@
+// Where nothing can be refused each operation is inverted where it stands.
+use answers::Written;
+ghost use mathlib.Core.Path.{_≡_};
+ghost use Prim.Native.Nat.{_≤_, _^_, _<_, _+_};
+ghost use lib.Dec.{T};
+ghost use lib.ListN.{length, drop};
+ghost use Rattle.characters.specs.Form.{wellFormed};
+ghost use Rattle.characters.specs.Chars.{numChars};
+ghost use Rattle.characters.specs.InnerPlaces.{Passes};
+ghost use Rattle.characters.specs.Text.{chars as charsOf};
+ghost use Rattle.edits.specs.Invert.{invert as invertOf};
+ghost use Rattle.answers.specs.InnerGiven.{Gives};
+ghost use Rattle.record.specs.Layout.{textStart, recordsOf, kindAt, countAt, baseOf};
+ghost use Rattle.record.specs.Record.{recordFault, ops};
+ghost use Rattle.operational_transform.specs.Calls.{deliver};
+ghost use Rattle.invert_in_place.specs.InnerInverting.{Restores, restored, deleteBehind, Reached, Undoes};
+
+// The place k characters behind `at`, or the end where they run out. The text has `chars` characters: where that is its length in
+// bytes each is one byte.
+pub fn behind(text: &[u8], chars: usize, at: usize, k: usize) -> usize
+    requires { ⌜ (chars ≡ numChars (now text)) × (at ≤ length (now text)) × T (wellFormed (drop at (now text))) ⌝ }
+    ensures { λ to. ⌜ Passes (now (text .entry)) at k to ⌝ }
+{
+    if chars == text.len() {
+        return at + buffers::core::lesser(k, text.len() - at);
+    }
+    utf8::core::skip(text, at, k)
+}
+
+// How far the record and the text were gone through: the next record, the places of the next insert's text and of the next
+// character, and the place of the next byte of text in the output.
+struct State {
+    k: usize,
+    from: usize,
+    at: usize,
+    put: usize,
+}
+
+// Record k inserts again what a delete took: `count` characters from `at` on. The place behind them.
+fn restore(
+    text: &[u8],
+    chars: usize,
+    out: &mut [u8],
+    n: usize,
+    k: usize,
+    at: usize,
+    put: usize,
+    count: usize,
+) -> usize
+    requires { ⌜ (chars ≡ numChars (now text)) × (at ≤ length (now text)) × T (wellFormed (drop at (now text))) × (n ≤ 1024) × (k < n) × (textStart n ≤ length (now out)) × (put ≤ 2 ^ 50) ⌝ }
+    ensures { λ to. ⌜ Restores n (now (text .entry)) k at put count (now (out .entry)) to (now (out .exit)) ⌝ }
+{
+    let to = behind(text, chars, at, count);
+    emitter::core::enter(out, n, k, 2, to - at);
+    buffers::core::copy(out, put, text, at, to);
+    to
+}
+
+// A delete of `count` characters that no insert stands before.
+fn undo_delete(text: &[u8], chars: usize, out: &mut [u8], n: usize, s: State, count: usize) -> State
+    requires { ⌜ (chars ≡ numChars (now text)) × (s .at ≤ length (now text)) × T (wellFormed (drop (s .at) (now text))) × (length (now text) ≤ 32768) × (n ≤ 1024) × (s .k < n) × (textStart n ≤ length (now out)) × (s .put ≤ textStart n + s .at) ⌝ }
+    ensures { λ u. ⌜ (u ≡ restored s (u .at)) × Restores n (now (text .entry)) (s .k) (s .at) (s .put) count (now (out .entry)) (u .at) (now (out .exit)) ⌝ }
+{
+    let to = restore(text, chars, out, n, s.k, s.at, s.put, count);
+    State {
+        k: s.k + 1,
+        from: s.from,
+        at: to,
+        put: s.put + (to - s.at),
+    }
+}
+
+// Whether a delete stands behind record k of n.
+fn delete_follows(rec: &[u8], n: usize, k: usize) -> bool
+    requires { ⌜ (recordFault (now rec) ≡ 0) × (n ≡ recordsOf (now rec)) × (k < n) ⌝ }
+    ensures { λ r. ⌜ r ≡ deleteBehind (now (rec .entry)) n k ⌝ }
+{
+    if k + 1 < n {
+        return reader::core::kind(rec, k + 1) == 3;
+    }
+    false
+}
+
+// An insert of `count` bytes becomes a delete of its characters. What undoes a delete behind it stands before that.
+fn undo_insert(
+    rec: &[u8],
+    n: usize,
+    text: &[u8],
+    chars: usize,
+    out: &mut [u8],
+    s: State,
+    count: usize,
+) -> State
+    requires { ⌜ (recordFault (now rec) ≡ 0) × (n ≡ recordsOf (now rec)) × (chars ≡ numChars (now text)) × (length (now text) ≤ 32768) × (textStart n ≤ length (now out)) × Reached n (now rec) (now text) s × (s .k < n) × (kindAt (now rec) (s .k) ≡ 2) × (count ≡ countAt (now rec) (s .k)) × (count < 65536) ⌝ }
+    ensures { λ u. ⌜ Undoes n (now (rec .entry)) (now (text .entry)) s (now (out .entry)) u (now (out .exit)) ⌝ }
+{
+    let k = s.k;
+    let num = counting::core::count_in(rec, s.from, s.from + count);
+    if delete_follows(rec, n, k) {
+        let next = k + 1;
+        let more = reader::core::count(rec, n, next);
+        emitter::core::enter(out, n, next, 3, num);
+        let to = restore(text, chars, out, n, k, s.at, s.put, more);
+        return State {
+            k: k + 2,
+            from: s.from + count,
+            at: to,
+            put: s.put + (to - s.at),
+        };
+    }
+    emitter::core::enter(out, n, k, 3, num);
+    State {
+        k: k + 1,
+        from: s.from + count,
+        at: s.at,
+        put: s.put,
+    }
+}
+
+// The next operation, or an insert and the delete behind it. Behind a last retain no character is asked for.
+fn undo(rec: &[u8], n: usize, text: &[u8], chars: usize, out: &mut [u8], s: State) -> State
+    requires { ⌜ (recordFault (now rec) ≡ 0) × (n ≡ recordsOf (now rec)) × (chars ≡ numChars (now text)) × (length (now text) ≤ 32768) × (textStart n ≤ length (now out)) × Reached n (now rec) (now text) s × (s .k < n) ⌝ }
+    ensures { λ u. ⌜ Undoes n (now (rec .entry)) (now (text .entry)) s (now (out .entry)) u (now (out .exit)) ⌝ }
+{
+    let kind = reader::core::kind(rec, s.k);
+    let count = reader::core::count(rec, n, s.k);
+    if kind == 1 {
+        emitter::core::enter(out, n, s.k, 1, count);
+        if s.k + 1 == n {
+            return State {
+                k: s.k + 1,
+                from: s.from,
+                at: s.at,
+                put: s.put,
+            };
+        }
+        let to = behind(text, chars, s.at, count);
+        return State {
+            k: s.k + 1,
+            from: s.from,
+            at: to,
+            put: s.put,
+        };
+    }
+    if kind == 3 {
+        return undo_delete(text, chars, out, n, s, count);
+    }
+    undo_insert(rec, n, text, chars, out, s, count)
+}
+
+// Where nothing can be refused each record is written to its place at once.
+pub fn straight(rec: &[u8], records: usize, text: &[u8], chars: usize, out: &mut [u8]) -> Written
+    requires { ⌜ (recordFault (now rec) ≡ 0) × (records ≡ recordsOf (now rec)) × (records ≤ 1024) × T (wellFormed (now text)) × (chars ≡ numChars (now text)) × (chars ≡ baseOf (now rec)) × (length (now text) ≤ 32768) × (textStart records + length (now text) ≤ length (now out)) ⌝ }
+    ensures { λ r. ⌜ Gives (deliver 0 (invertOf (ops (now (rec .entry))) (charsOf (now (text .entry)))) (now (out .entry))) r (now (out .exit)) ⌝ }
+{
+    let start = layout::core::text_start(records);
+    let mut s = State {
+        k: 0,
+        from: start,
+        at: 0,
+        put: start,
+    };
+    while s.k < records {
+        s = undo(rec, records, text, chars, out, s);
+    }
+    buffers::core::put16(out, 0, records);
+    buffers::core::put16(out, 2, s.put - start);
+    // base and target change places
+    buffers::core::put16(out, 4, reader::core::target(rec));
+    buffers::core::put16(out, 6, reader::core::base(rec));
+    Written::Bytes(s.put)
+}

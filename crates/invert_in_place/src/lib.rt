@@ -1,0 +1,3 @@
+// The way of `invert` in place.
+
+pub mod core;

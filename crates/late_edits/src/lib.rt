@@ -1,0 +1,3 @@
+// Late edits.
+
+pub mod core;

@@ -1,0 +1,70 @@
+// Where everything stands in a record: the four sizes, the kinds, the counts, the inserted text.
+ghost use mathlib.Core.Path.{_≡_};
+ghost use Prim.Native.Nat.{_≤_, _<_, _+_, _^_, _*_};
+ghost use lib.ListN.{length};
+ghost use Rattle.record.specs.Layout.{recordsOf, textBytesOf, baseOf, targetOf, kindsStart, countsStart, textStart, kindAt, countAt};
+
+pub fn records(rec: &[u8]) -> usize
+    requires { ⌜ 8 ≤ length (now rec) ⌝ }
+    ensures { λ r. ⌜ (r ≡ recordsOf (now (rec .entry))) × (r < 65536) ⌝ }
+{
+    buffers::core::word(rec, 0)
+}
+
+pub fn text_bytes(rec: &[u8]) -> usize
+    requires { ⌜ 8 ≤ length (now rec) ⌝ }
+    ensures { λ r. ⌜ (r ≡ textBytesOf (now (rec .entry))) × (r < 65536) ⌝ }
+{
+    buffers::core::word(rec, 2)
+}
+
+pub fn base(rec: &[u8]) -> usize
+    requires { ⌜ 8 ≤ length (now rec) ⌝ }
+    ensures { λ r. ⌜ (r ≡ baseOf (now (rec .entry))) × (r < 65536) ⌝ }
+{
+    buffers::core::word(rec, 4)
+}
+
+pub fn target(rec: &[u8]) -> usize
+    requires { ⌜ 8 ≤ length (now rec) ⌝ }
+    ensures { λ r. ⌜ (r ≡ targetOf (now (rec .entry))) × (r < 65536) ⌝ }
+{
+    buffers::core::word(rec, 6)
+}
+
+// The places of n records: of the kind and of the count of record k, and where the text begins.
+pub fn kind_place(k: usize) -> usize
+    requires { ⌜ k ≤ 2 ^ 62 ⌝ }
+    ensures { λ r. ⌜ r ≡ kindsStart + k ⌝ }
+{
+    8 + k
+}
+
+pub fn count_place(n: usize, k: usize) -> usize
+    requires { ⌜ (n ≤ 2 ^ 62) × (k ≤ 2 ^ 62) ⌝ }
+    ensures { λ r. ⌜ r ≡ countsStart n + 2 * k ⌝ }
+{
+    8 + n + 2 * k
+}
+
+pub fn text_start(n: usize) -> usize
+    requires { ⌜ n ≤ 2 ^ 62 ⌝ }
+    ensures { λ r. ⌜ r ≡ textStart n ⌝ }
+{
+    8 + 3 * n
+}
+
+pub fn kind(rec: &[u8], k: usize) -> u8
+    requires { ⌜ (textStart (recordsOf (now rec)) ≤ length (now rec)) × (k < recordsOf (now rec)) ⌝ }
+    ensures { λ r. ⌜ r ≡ kindAt (now (rec .entry)) k ⌝ }
+{
+    rec[kind_place(k)]
+}
+
+// The count of record k of n.
+pub fn count(rec: &[u8], n: usize, k: usize) -> usize
+    requires { ⌜ (n ≡ recordsOf (now rec)) × (textStart (recordsOf (now rec)) ≤ length (now rec)) × (k < recordsOf (now rec)) ⌝ }
+    ensures { λ r. ⌜ (r ≡ countAt (now (rec .entry)) k) × (r < 65536) ⌝ }
+{
+    buffers::core::word(rec, count_place(n, k))
+}

@@ -1,0 +1,3 @@
+// The layout of a record.
+
+pub mod core;

@@ -1,0 +1,2 @@
+-- packing
+pub mod Numbers

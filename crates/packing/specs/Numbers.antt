@@ -1,0 +1,44 @@
+-- A call's answer as one number of 64 bits, for callers in C.
+use Prim.Native.Nat.{ℕ, _+_, _*_, _^_, _-_, _/_, _%_, zero, suc}
+use mathlib.Core.List.{[], _∷_}
+use mathlib.Core.Bool.{cond, Bool, true, false, _&&_}
+use lib.Dec.{leb}
+use Rattle.answers.specs.Answer.{Answer, gives, refused}
+use Rattle.walker.specs.declared.Found.{Found}
+use Rattle.walker.specs.declared.Found.the-variants.{Op, End}
+
+-- One result stands as it is. Of two, the first is the low 32 bits and the second the high 32. Bit 63 is set where the call is
+-- refused, and the low byte is then the refusal's number.
+abbrev pub packed : Answer → ℕ
+packed (gives []) = 0
+packed (gives (m ∷ [])) = m
+packed (gives (m ∷ n ∷ ns)) = m + 2 ^ 32 * n
+packed (refused n) = 2 ^ 63 + n
+
+-- How a caller reads it: the answer of a call that gives one result, and of one that gives two.
+unfoldable pub readOne : ℕ → Answer
+readOne r = cond (leb (2 ^ 63) r) (refused (r - 2 ^ 63)) (gives (r ∷ []))
+
+unfoldable pub readTwo : ℕ → Answer
+readTwo r = cond (leb (2 ^ 63) r) (refused (r - 2 ^ 63)) (gives (r % 2 ^ 32 ∷ r / 2 ^ 32 ∷ []))
+
+-- two results, each at most the size of 256 records of 35,848 bytes; or a refusal
+abbrev pub most : ℕ
+most = 9177088
+
+abbrev pub small : Answer → Bool
+small (gives []) = false
+small (gives (m ∷ [])) = false
+small (gives (m ∷ n ∷ [])) = leb m most && leb n most
+small (gives (m ∷ n ∷ k ∷ ns)) = false
+small (refused n) = true
+
+-- what a step finds: the kind and 256 times the count; 0 at the end
+abbrev pub stepNumber : Found → ℕ
+stepNumber (Op kind count) = kind + 256 * count
+stepNumber End = 0
+
+-- a part of a record, as two results: where it begins and how many bytes it has; 0 where it has none
+abbrev pub part : ℕ → ℕ → ℕ
+part from zero = 0
+part from (suc n) = from + 2 ^ 32 * suc n

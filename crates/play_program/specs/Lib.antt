@@ -1,0 +1,2 @@
+-- play_program
+pub mod Program

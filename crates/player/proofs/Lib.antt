@@ -1,2 +1,0 @@
--- player
-pub mod Programs

@@ -1,5 +1,0 @@
--- playing
-pub mod Overs
-pub mod Passing
-pub mod Playing
-pub mod Answers

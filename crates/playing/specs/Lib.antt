@@ -1,2 +1,0 @@
--- playing
-pub mod Steps

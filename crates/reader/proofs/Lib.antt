@@ -1,0 +1,2 @@
+-- reader
+pub mod Fronts

@@ -1,0 +1,24 @@
+use borrow.Author.Needs.{needs}
+use Rattle.reader.proofs.Fronts.{fault-header, fault-size, fault-small, fault-whole}
+use Rattle.reader.proofs.core.size.Statement.{statement}
+use Rattle.reader.proofs.core.size.Tie as tie
+
+records-requires : tie.Need-records-requires
+records-requires c κs = search fault-header
+
+text-start-requires : tie.Need-text-start-requires
+text-start-requires c κs = search needs
+
+text-bytes-requires : tie.Need-text-bytes-requires
+text-bytes-requires c κs = search fault-header
+
+add-result : tie.Need-add-result
+add-result c = search needs
+
+returns : tie.Need-returns
+returns c = (search fault-size, search fault-small, search fault-whole)
+
+pub size-spec : {M : Type 1} → statement M
+size-spec =
+    tie.close
+    (tie.spec records-requires text-start-requires text-bytes-requires add-result returns)

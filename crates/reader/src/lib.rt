@@ -1,0 +1,3 @@
+// A record that was checked, read.
+
+pub mod core;

@@ -1,0 +1,3 @@
+// A step of rebasing.
+
+pub mod core;

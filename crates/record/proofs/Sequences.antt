@@ -1,0 +1,109 @@
+-- Sequences in characters and in bytes, and which of them a record can hold.
+use mathlib.Core.Path.{_≡_, refl, ap, ap₂, sym, _∙_}
+use mathlib.Core.List.{[], _∷_, map, List}
+use lib.Dec.{T, leb→le, le→leb}
+use mathlib.Core.Bool.{_&&_}
+use Prim.Native.Nat.{_<_, ℕ, _+_, _≤_}
+use native.Mathlib.Omega.{arith}
+use lib.ListN.{length}
+use mathlib.Core.Logic.{_↔_}
+use Rattle.buffers.specs.Lists.{allOf}
+use Rattle.buffers.proofs.Tests.{both, le-and}
+use Rattle.characters.specs.Form.{wellFormed}
+use Rattle.characters.specs.Text.{bytes, Char, chars}
+use Rattle.characters.proofs.Texts.{chars-bytes, bytes-well, bytes-chars, bytes-length, chars-length}
+use Rattle.edits.specs.Op.{retain, insert, delete, Op, size, base, total, target}
+use Rattle.edits.specs.Sequence.{Seq}
+use Rattle.edits.specs.Built.{kind, chained, follows, Built}
+use Rattle.record.specs.Record.{inBytes, inChars, wellInserted, ByteSeq, givesChars, fits, text}
+
+pub inChars-inBytes : (s : Seq) → map inChars (map inBytes s) ≡ s
+unfolding inChars inBytes
+inChars-inBytes [] = refl
+inChars-inBytes (retain n ∷ s) = ap (λ r. retain n ∷ r) (inChars-inBytes s)
+inChars-inBytes (insert x ∷ s) = ap₂ (λ y r. insert y ∷ r) (chars-bytes x) (inChars-inBytes s)
+inChars-inBytes (delete n ∷ s) = ap (λ r. delete n ∷ r) (inChars-inBytes s)
+
+pub inBytes-well : (s : Seq) → T (allOf wellInserted (map inBytes s))
+unfolding inBytes
+inBytes-well [] = tt
+inBytes-well (retain n ∷ s) = inBytes-well s
+inBytes-well (insert x ∷ s) = both (wellFormed (bytes x)) (allOf wellInserted (map inBytes s)) .1 (bytes-well x, inBytes-well s)
+inBytes-well (delete n ∷ s) = inBytes-well s
+
+pub inBytes-inChars : (q : ByteSeq) → T (allOf wellInserted q) → map inBytes (map inChars q) ≡ q
+unfolding inChars inBytes
+inBytes-inChars [] h = refl
+inBytes-inChars (retain n ∷ q) h = ap (λ r. retain n ∷ r) (inBytes-inChars q h)
+inBytes-inChars (insert x ∷ q) h =
+    let (w, k) = both (wellFormed x) (allOf wellInserted q) .0 h in ap₂ (λ y r. insert y ∷ r) (bytes-chars x w) (inBytes-inChars q k)
+inBytes-inChars (delete n ∷ q) h = ap (λ r. delete n ∷ r) (inBytes-inChars q h)
+
+-- the kinds stay
+pub inBytes-kind : (o : Op Char) → kind (inBytes o) ≡ kind o
+unfolding inBytes
+inBytes-kind (retain n) = refl
+inBytes-kind (insert x) = refl
+inBytes-kind (delete n) = refl
+
+pub inBytes-chained : (s : Seq) → chained (map inBytes s) ≡ chained s
+inBytes-chained [] = refl
+inBytes-chained (o ∷ []) = refl
+inBytes-chained (o ∷ p ∷ s) = ap₂ _&&_ (ap₂ follows (inBytes-kind o) (inBytes-kind p)) (inBytes-chained (p ∷ s))
+
+pub inBytes-size : (o : Op Char) → 0 < size o → 0 < size (inBytes o)
+unfolding inBytes
+inBytes-size (retain n) h = h
+inBytes-size (insert x) h = omega (arith, bytes-length x)
+inBytes-size (delete n) h = h
+
+pub inChars-size : (o : Op ℕ) → T (wellInserted o) → 0 < size o → 0 < size (inChars o)
+unfolding inChars bytes
+inChars-size (retain n) w h = h
+inChars-size (insert x) w h = go (chars x) (ap length (bytes-chars x w))
+  where
+    go : (cs : List Char) → length (bytes cs) ≡ length x → 0 < length cs
+    go [] e = absurd (omega arith)
+    go (c ∷ cs) e = omega arith
+inChars-size (delete n) w h = h
+
+-- base and target are those of the bytes
+pub inBytes-base : (s : Seq) → base (map inBytes s) ≡ base s
+unfolding inBytes
+inBytes-base [] = refl
+inBytes-base (retain n ∷ s) = ap (λ k. n + k) (inBytes-base s)
+inBytes-base (insert x ∷ s) = ap (λ k. 0 + k) (inBytes-base s)
+inBytes-base (delete n ∷ s) = ap (λ k. n + k) (inBytes-base s)
+
+pub inBytes-target : (s : Seq) → total givesChars (map inBytes s) ≡ target s
+unfolding inBytes
+inBytes-target [] = refl
+inBytes-target (retain n ∷ s) = ap (λ k. n + k) (inBytes-target s)
+inBytes-target (insert x ∷ s) = ap₂ _+_ (sym (chars-length (bytes x) (bytes-well x)) ∙ ap length (chars-bytes x)) (inBytes-target s)
+inBytes-target (delete n ∷ s) = ap (λ k. 0 + k) (inBytes-target s)
+
+-- ---- limits
+
+-- a sequence that a record can hold
+pub record Good (s : Seq) : Type 0 where
+  pub is-built : Built s
+  pub in-limits : T (fits s)
+
+pub record Limits (s : Seq) : Type 0 where
+  pub records : length s ≤ 1024
+  pub text-bytes : length (text (map inBytes s)) ≤ 32768
+  pub bases : base s ≤ 32768
+  pub targets : target s ≤ 32768
+
+pub fits-limits : (s : Seq) → T (fits s) ↔ Limits s
+unfolding fits
+fits-limits s = (
+  λ h.
+      let (a, h₁) = le-and (length s) 1024 _ .0 h in
+      let (b, h₂) = le-and (length (text (map inBytes s))) 32768 _ .0 h₁ in
+      let (c, d) = le-and (base s) 32768 _ .0 h₂ in
+      record { records = a; text-bytes = b; bases = c; targets = leb→le (target s) 32768 d },
+  λ l.
+      le-and (length s) 1024 _ .1
+      (l .records, le-and (length (text (map inBytes s))) 32768 _ .1 (l .text-bytes, le-and (base s) 32768 _ .1 (l .bases, le→leb (target s) 32768 (l .targets)))),
+)

@@ -1,0 +1,4 @@
+-- steps
+pub mod InnerBoth
+pub mod InnerSides
+pub mod InnerSteps

@@ -1,0 +1,524 @@
+-- What the passes over the kinds and the counts go by: from operation k on, what the whole comes to.
+use Prim.Native.Nat.{ℕ, zero, suc, _+_, _≤_, _<_, _-_, _*_}
+use native.Mathlib.Nat.{add-zero, zero-add}
+use native.Mathlib.Omega.{arith}
+use mathlib.Core.Path.{_≡_, refl, sym, ap, _∙_, ap₂}
+use mathlib.Core.Bool.{Bool, true, false, not, _&&_, and-false, cond}
+use lib.Dec.{leb, eqb, T}
+use borrow.Author.Tests.{eq-eqb, ne-eqb, le-leb, eqb-true, eqb-false}
+use native.Mathlib.Numerals.{add-one}
+use mathlib.Core.List.{List, [], _∷_}
+use mathlib.Core.Logic.{_⊎_, inl, inr}
+use lib.ListN.{take, drop}
+use lib.Seq.{take-add, take-take}
+use Rattle.buffers.specs.Lists.{allOf}
+use Rattle.buffers.proofs.Tests.{both, known}
+use Rattle.characters.specs.Form.{within}
+use Rattle.characters.specs.Chars.{numChars}
+use Rattle.characters.proofs.Leads.{inside, under, over}
+use Rattle.characters.proofs.Chars.{num-append}
+use Rattle.edits.specs.Built.{kind, follows, chained}
+use Rattle.edits.specs.Op.{Op, retain, insert, delete, takes, total, base}
+use Rattle.record.specs.Record.{soundEntry, Entry, entryAt, code, operation, entriesFrom, operations, insertBytes, entries, textOf, byteOps, ByteSeq, givesChars}
+use Rattle.record.specs.Layout.{kindAt, countAt, recordsOf, textBytesOf, textStart}
+use Rattle.record.proofs.Records.{sound-kind}
+use Rattle.tally.specs.declared.core.Tally.{Tally}
+use Rattle.tally.specs.declared.core.Parts.{Parts}
+use Rattle.tally.specs.InnerTally.{entry, picked, odd, empty, tallied, partedBy, mayFollow, sumFrom, Tallied, apartAt, ofKind, sumOf, Whole, Parted, keeps, sumsOf, entriesOf}
+use Rattle.tally.specs.declared.core.Entries.the-variants.{Unsound, Of}
+use Rattle.tally.specs.declared.core.Sums.{Sums}
+
+-- ---- one entry
+
+module _ (k n : ℕ) where
+  pub sound-low : k ≡ 0 → false ≡ soundEntry (entry k n)
+  sound-low z = rw (under 1 3 k (omega arith))
+
+  pub sound-high : 3 < k → false ≡ soundEntry (entry k n)
+  sound-high z = rw (over 1 3 k z)
+
+  pub sound-count : (k ≡ 0 → ⊥) → k ≤ 3 → leb 1 n ≡ soundEntry (entry k n)
+  sound-count z h = rw (inside 1 3 k (omega arith) h)
+
+  pub count-one : (t : Tally) (b a : Bool) (o i j m : ℕ) → b ≡ soundEntry (entry k n) → o ≡ picked (not b) 1 → i ≡ picked (eqb k 2) n → j ≡ picked (eqb k 1) n → m ≡ picked a 1
+      → record { odd = t .odd + o; inserts = t .inserts + i; all = t .all + n; kept = t .kept + j; apart = t .apart + m } ≡ tallied t (entry k n) a
+  unfolding tallied
+  count-one t b a o i j m p q u v w = rw (q, u, v, w, p)
+
+  odd-known : (k ≡ 0 → ⊥) → k ≤ 3 → picked (eqb n 0) 1 ≡ odd (entry k n)
+  odd-known z h = ap (λ b. picked b 1) (go n) ∙ ap (λ b. picked (not b) 1) (sound-count z h)
+    where
+      go : (n : ℕ) → eqb n 0 ≡ not (leb 1 n)
+      go zero = refl
+      go (suc n) = rw (ne-eqb (suc n) 0 (λ z. absurd (omega (arith, z))), le-leb 1 (suc n) (omega arith))
+
+  -- by its kind
+  module _ (t : Tally) (last o m : ℕ) (b : Bool) where
+    pub enter-retain : k ≡ 1 → o ≡ picked (eqb n 0) 1 → b ≡ mayFollow last 1 → m ≡ picked (not b) 1
+        → record { odd = t .odd + o; inserts = t .inserts; all = t .all + n; kept = t .kept + n; apart = t .apart + m } ≡ tallied t (entry k n) (not (mayFollow last k))
+    enter-retain e p q s =
+        (λ i. record { odd = t .odd + o; inserts = sym (add-zero (t .inserts)) i; all = t .all + n; kept = t .kept + n; apart = t .apart + m })
+        ∙ count-one t (soundEntry (entry k n)) (not (mayFollow last k)) o 0 n m refl (p ∙ odd-known (λ z. absurd (omega arith)) (omega arith)) (rw (ne-eqb k 2 (λ z. absurd (omega arith)))) (rw (eq-eqb k 1 e)) (s ∙ ap (λ x. picked (not x) 1) (q ∙ ap (mayFollow last) (sym e)))
+
+    pub enter-insert : k ≡ 2 → o ≡ picked (eqb n 0) 1 → b ≡ mayFollow last 2 → m ≡ picked (not b) 1
+        → record { odd = t .odd + o; inserts = t .inserts + n; all = t .all + n; kept = t .kept; apart = t .apart + m } ≡ tallied t (entry k n) (not (mayFollow last k))
+    enter-insert e p q s =
+        (λ i. record { odd = t .odd + o; inserts = t .inserts + n; all = t .all + n; kept = sym (add-zero (t .kept)) i; apart = t .apart + m })
+        ∙ count-one t (soundEntry (entry k n)) (not (mayFollow last k)) o n 0 m refl (p ∙ odd-known (λ z. absurd (omega arith)) (omega arith)) (rw (eq-eqb k 2 e)) (rw (ne-eqb k 1 (λ z. absurd (omega arith)))) (s ∙ ap (λ x. picked (not x) 1) (q ∙ ap (mayFollow last) (sym e)))
+
+    -- what adds to neither
+    enter-neither : (k ≡ 1 → ⊥) → (k ≡ 2 → ⊥) → o ≡ odd (entry k n) → b ≡ mayFollow last k → m ≡ picked (not b) 1
+        → record { odd = t .odd + o; inserts = t .inserts; all = t .all + n; kept = t .kept; apart = t .apart + m } ≡ tallied t (entry k n) (not (mayFollow last k))
+    enter-neither x y p q s =
+        (λ i. record { odd = t .odd + o; inserts = sym (add-zero (t .inserts)) i; all = t .all + n; kept = sym (add-zero (t .kept)) i; apart = t .apart + m })
+        ∙ count-one t (soundEntry (entry k n)) (not (mayFollow last k)) o 0 0 m refl p (rw (ne-eqb k 2 y)) (rw (ne-eqb k 1 x)) (s ∙ ap (λ x. picked (not x) 1) q)
+
+    pub enter-delete : k ≡ 3 → o ≡ picked (eqb n 0) 1 → b ≡ mayFollow last 3 → m ≡ picked (not b) 1
+        → record { odd = t .odd + o; inserts = t .inserts; all = t .all + n; kept = t .kept; apart = t .apart + m } ≡ tallied t (entry k n) (not (mayFollow last k))
+    enter-delete e p q s =
+        enter-neither (λ z. absurd (omega arith)) (λ z. absurd (omega arith)) (p ∙ odd-known (λ z. absurd (omega arith)) (omega arith)) (q ∙ ap (mayFollow last) (sym e)) s
+
+  pub enter-other : (t : Tally) (last m : ℕ) (b : Bool) → (k ≡ 1 → ⊥) → (k ≡ 2 → ⊥) → (k ≡ 3 → ⊥) → b ≡ mayFollow last k → m ≡ picked (not b) 1
+      → record { odd = t .odd + 1; inserts = t .inserts; all = t .all + n; kept = t .kept; apart = t .apart + m } ≡ tallied t (entry k n) (not (mayFollow last k))
+  enter-other t last m b x y w q s = enter-neither t last 1 m b x y (sym (ap (λ b. picked (not b) 1) (unknown (eqb k 0) refl))) q s
+    where
+      unknown : (c : Bool) → eqb k 0 ≡ c → soundEntry (entry k n) ≡ false
+      unknown true e = sym (sound-low (eqb-true k 0 e))
+      unknown false e = sym (sound-high (omega (arith, eqb-false k 0 e)))
+
+  pub part-one : (p : Parts) (o i j m : ℕ) → o ≡ picked (eqb n 0) 1 → i ≡ picked (eqb k 2) n → j ≡ picked (eqb k 1) n → m ≡ picked (eqb k 3) n
+      → record { empty = p .empty + o; inserts = p .inserts + i; kept = p .kept + j; deleted = p .deleted + m } ≡ partedBy p (entry k n)
+  unfolding partedBy
+  part-one p o i j m q u v w = rw (q, u, v, w)
+
+picked-le : (b : Bool) (n : ℕ) → picked b n ≤ n
+picked-le true n = omega arith
+picked-le false n = omega arith
+
+-- a sum is 0 where both parts are
+none-both : (x y : ℕ) → eqb (x + y) 0 ≡ (eqb x 0 && eqb y 0)
+none-both zero y = ap (λ z. eqb z 0) (zero-add y)
+none-both (suc x) y = ne-eqb (suc x + y) 0 (λ z. absurd (omega arith)) ∙ sym (ap (λ b. b && eqb y 0) (ne-eqb (suc x) 0 (λ z. absurd (omega arith))))
+
+-- ---- all entries
+
+sum-last : (f : ℕ → ℕ) (i n : ℕ) → sumFrom f i (suc n) ≡ sumFrom f i n + f (i + n)
+sum-last f i zero = omega (arith, ap f (add-zero i))
+sum-last f i (suc n) = let e : suc i + n ≡ i + suc n = omega arith in omega (arith, sum-last f (suc i) n, ap f e)
+
+-- one place more
+sum-more : (f : ℕ → ℕ) (k : ℕ) → sumFrom f 0 (k + 1) ≡ sumFrom f 0 k + f k
+sum-more f k = ap (sumFrom f 0) (add-one k) ∙ sum-last f 0 k ∙ ap (λ j. sumFrom f 0 k + f j) (zero-add k)
+
+-- some places more
+sum-join : (f : ℕ → ℕ) (i n m : ℕ) → sumFrom f i (n + m) ≡ sumFrom f i n + sumFrom f (i + n) m
+sum-join f i n zero = ap (sumFrom f i) (add-zero n) ∙ sym (add-zero (sumFrom f i n))
+sum-join f i n (suc m) =
+    let e : n + suc m ≡ suc (n + m) = omega arith in
+    let h : i + (n + m) ≡ i + n + m = omega arith in
+    ap (sumFrom f i) e ∙ omega (arith, sum-last f i (n + m), sum-last f (i + n) m, sum-join f i n m, ap f h)
+
+-- the places before k and at k have no more than all
+sum-under : (f : ℕ → ℕ) (k n : ℕ) → k < n → sumFrom f 0 k + f k ≤ sumFrom f 0 n
+sum-under f k n h =
+    let e : n ≡ k + 1 + (n - (k + 1)) = omega arith in
+    omega (arith, ap (sumFrom f 0) e, sum-join f 0 (k + 1) (n - (k + 1)), sum-more f k)
+
+pub tally-none : (r : List ℕ) → Tallied r 0 (record { odd = 0; inserts = 0; all = 0; kept = 0; apart = 0 })
+tally-none r =
+    record {
+      odds = refl;
+      inserted = refl;
+      counts = refl;
+      retained = refl;
+      neighbours = λ z. refl;
+      few = omega arith;
+      less = omega arith;
+      fewer = omega arith;
+      small = omega arith;
+      close = omega arith;
+    }
+
+-- the neighbours before k and at k, as the code finds them
+pub apart-more : (r : List ℕ) (from k last kind p a : ℕ) (b : Bool) → 1 ≤ from → from ≤ k → last ≡ kindAt r (k - 1) → kind ≡ kindAt r k → b ≡ mayFollow last kind → p ≡ picked (not b) 1 → a ≡ sumFrom (apartAt r) (from - 1) (k - from)
+    → a + p ≡ sumFrom (apartAt r) (from - 1) (k + 1 - from)
+apart-more r from k last kind p a b l m e f g h i =
+    let x : k ≡ suc (k - 1) = omega arith in
+    let y : suc (k - from) ≡ k + 1 - from = omega arith in
+    let z : k - 1 ≡ from - 1 + (k - from) = omega arith in
+    ap₂ _+_ i (h ∙ ap (λ x. picked (not x) 1) (g ∙ ap₂ mayFollow e (f ∙ ap (kindAt r) x)) ∙ ap (apartAt r) z)
+    ∙ sym (sum-last (apartAt r) (from - 1) (k - from))
+    ∙ ap (sumFrom (apartAt r) (from - 1)) y
+
+pub apart-none : (r : List ℕ) (from : ℕ) → 0 ≡ sumFrom (apartAt r) (from - 1) (from - from)
+apart-none r from = let x : 0 ≡ from - from = omega arith in ap (sumFrom (apartAt r) (from - 1)) x
+
+-- those before k, and those from k on before m
+pub apart-join : (r : List ℕ) (k m a b : ℕ) → 1 ≤ k → k - 1 ≤ m - 1 → a ≡ sumFrom (apartAt r) 0 (k - 1) → b ≡ sumFrom (apartAt r) (k - 1) (m - k) → a + b ≡ sumFrom (apartAt r) 0 (m - 1)
+apart-join r k m a b l h e f =
+    let x : k - 1 + (m - k) ≡ m - 1 = omega arith in
+    ap₂ _+_ e (f ∙ ap (λ i. sumFrom (apartAt r) i (m - k)) (sym (zero-add (k - 1))))
+    ∙ sym (sum-join (apartAt r) 0 (k - 1) (m - k))
+    ∙ ap (sumFrom (apartAt r) 0) x
+
+-- the counts of each kind are no more than all
+parts-le : (k n : ℕ) → picked (eqb k 2) n + picked (eqb k 1) n + picked (eqb k 3) n ≤ n
+parts-le k n = go (eqb k 2) (eqb k 1) (eqb k 3) refl refl refl
+  where
+    go : (a b c : Bool) → eqb k 2 ≡ a → eqb k 1 ≡ b → eqb k 3 ≡ c → picked a n + picked b n + picked c n ≤ n
+    go true true c p q s = absurd (omega (arith, eqb-true k 2 p, eqb-true k 1 q))
+    go true false true p q s = absurd (omega (arith, eqb-true k 2 p, eqb-true k 3 s))
+    go true false false p q s = omega arith
+    go false true true p q s = absurd (omega (arith, eqb-true k 1 q, eqb-true k 3 s))
+    go false true false p q s = omega arith
+    go false false true p q s = omega arith
+    go false false false p q s = omega arith
+
+-- the record at k, as the code finds it
+module _ (r : List ℕ) (k kind count : ℕ) (q : kind ≡ kindAt r k) (c : count ≡ countAt r k) where
+  more : (f : Entry → ℕ) {x : ℕ} → x ≡ sumOf f r k → x + f (entry kind count) ≡ sumOf f r (k + 1)
+  more f e = ap₂ _+_ e (ap₂ (λ x y. f (entry x y)) q c) ∙ sym (sum-more (λ j. f (entryAt r j)) k)
+
+  more-none : (f : Entry → ℕ) (x : ℕ) → eqb x 0 ≡ eqb (sumOf f r k) 0 → eqb (x + f (entry kind count)) 0 ≡ eqb (sumOf f r (k + 1)) 0
+  more-none f x e =
+      none-both x (f (entry kind count))
+      ∙ ap (λ b. b && eqb (f (entry kind count)) 0) e
+      ∙ sym (none-both (sumOf f r k) (f (entry kind count)))
+      ∙ ap (λ x. eqb x 0) (more f refl)
+
+  tally-step : (t u : Tally) (b : Bool) → Tallied r k t → count < 65536 → u ≡ tallied t (entry kind count) b → (t .odd + odd (entry kind count) ≡ 0 → t .apart + picked b 1 ≡ sumFrom (apartAt r) 0 (k + 1 - 1)) → Tallied r (k + 1) u
+  unfolding tallied
+  tally-step t u b g h v w =
+      let o = picked-le (not (soundEntry (entry kind count))) 1 in
+      let i = picked-le (eqb kind 2) count in
+      let j = picked-le (eqb kind 1) count in
+      let m = picked-le b 1 in
+      rw v (
+      record {
+        odds = more-none odd (t .odd) (g .odds);
+        inserted = more (ofKind 2) (g .inserted);
+        counts = more (λ e. e .count) (g .counts);
+        retained = more (ofKind 1) (g .retained);
+        neighbours = w;
+        few = omega (arith, g .few);
+        less = omega (arith, g .less);
+        fewer = omega (arith, g .fewer);
+        small = omega (arith, g .small);
+        close = omega (arith, g .close);
+      }
+      )
+
+  pub tally-more : (t u : Tally) (last : ℕ) (b : Bool) → Tallied r k t → count < 65536 → 1 ≤ k → last ≡ kindAt r (k - 1) → b ≡ mayFollow last kind → u ≡ tallied t (entry kind count) (not b) → Tallied r (k + 1) u
+  tally-more t u last b g h l e f v = tally-step t u (not b) g h v (λ z. apart-more r 1 k last kind (picked (not b) 1) (t .apart) b (omega arith) l e q f refl (g .neighbours (omega (arith, z))))
+
+  pub part-more : (p u : Parts) → Parted r k p → u ≡ partedBy p (entry kind count) → Parted r (k + 1) u
+  unfolding partedBy
+  part-more p u g v =
+      let o = picked-le (eqb count 0) 1 in
+      let i = parts-le kind count in
+      let j : sumOf (λ e. e .count) r k + count ≡ sumOf (λ e. e .count) r (k + 1) = more (λ e. e .count) refl in
+      rw v (
+      record {
+        empties = more empty (g .empties);
+        inserted = more (ofKind 2) (g .inserted);
+        retained = more (ofKind 1) (g .retained);
+        dropped = more (ofKind 3) (g .dropped);
+        few = omega (arith, g .few);
+        less = omega (arith, g .less);
+      }
+      )
+
+  -- each part has room for the entry
+  pub part-room : (p : Parts) (n all : ℕ) → k < n → all < 65536 → Whole r n all → Parted r k p → p .inserts + p .kept + p .deleted + count < 65536
+  part-room p n all h l w g = omega (arith, g .less, w .counts l, sum-under (λ j. countAt r j) k n h, c)
+
+-- no record, and the first one
+module _ (r : List ℕ) where
+  pub tally-empty : (n : ℕ) → n ≡ 0 → Tallied r n (record { odd = 0; inserts = 0; all = 0; kept = 0; apart = 0 })
+  tally-empty n e = rw e (tally-none r)
+
+  pub tally-first : (kind count : ℕ) (u : Tally) → kind ≡ kindAt r 0 → count ≡ countAt r 0 → count < 65536 → u ≡ tallied (record { odd = 0; inserts = 0; all = 0; kept = 0; apart = 0 }) (entry kind count) false → Tallied r 1 u
+  tally-first kind count u q c h v = tally-step r 0 kind count q c (record { odd = 0; inserts = 0; all = 0; kept = 0; apart = 0 }) u false (tally-none r) h v (λ z. refl)
+
+-- the kind before record k, and 0 before the first
+abbrev pub lastKind : List ℕ → ℕ → ℕ
+lastKind r zero = 0
+lastKind r (suc k) = kindAt r k
+
+pub last-more : (r : List ℕ) (k kind : ℕ) → kind ≡ kindAt r k → kind ≡ lastKind r (k + 1)
+last-more r k kind q = q ∙ ap (lastKind r) (sym (add-one k))
+
+-- whatever can be may follow 0
+first-follows : (last kind count : ℕ) → last ≡ 0 → odd (entry kind count) ≡ 0 → mayFollow last kind ≡ true
+unfolding mayFollow
+first-follows last kind count e z =
+    let f : kind ≡ 0 → odd (entry kind count) ≡ 1 = λ y. ap (λ b. picked (not b) 1) (sym (sound-low kind count y)) in
+    rw (e, ne-eqb 0 kind (λ y. absurd (omega (arith, z, f (sym y)))))
+
+pub tally-next : (r : List ℕ) (k kind count : ℕ) → kind ≡ kindAt r k → count ≡ countAt r k → (t u : Tally) (last : ℕ) → Tallied r k t → count < 65536 → last ≡ lastKind r k → u ≡ tallied t (entry kind count) (not (mayFollow last kind)) → Tallied r (k + 1) u
+tally-next r zero kind count q c t u last g h e v =
+    tally-step r 0 kind count q c t u (not (mayFollow last kind)) g h v (λ z. omega (arith, z, g .neighbours (omega (arith, z)), ap (λ b. picked (not b) 1) (first-follows last kind count e (omega (arith, z)))))
+tally-next r (suc k) kind count q c t u last g h e v =
+    let x : k ≡ suc k - 1 = omega arith in
+    tally-more r (suc k) kind count q c t u last (mayFollow last kind) g h (omega arith) (e ∙ ap (kindAt r) x) refl v
+
+-- all counts
+pub whole-few : (r : List ℕ) (n : ℕ) → Whole r n 65536
+whole-few r n = record { counts = λ h. absurd (omega arith) }
+
+pub whole-more : (r : List ℕ) (k count a : ℕ) → count ≡ countAt r k → a ≡ sumOf (λ e. e .count) r k → a + count ≡ sumOf (λ e. e .count) r (k + 1)
+whole-more r k count a c e = more r k (kindAt r k) count refl c (λ e. e .count) e
+
+pub whole-found : (r : List ℕ) (n k a : ℕ) → k ≤ n → n ≤ k → a ≡ sumOf (λ e. e .count) r k → Whole r n a
+whole-found r n k a h l e = let z : k ≡ n = omega arith in record { counts = λ u. e ∙ ap (sumOf (λ e. e .count) r) z }
+
+pub part-none : (r : List ℕ) → Parted r 0 (record { empty = 0; inserts = 0; kept = 0; deleted = 0 })
+part-none r = record { empties = refl; inserted = refl; retained = refl; dropped = refl; few = omega arith; less = omega arith }
+
+-- ---- what can't be, by the parts
+
+-- the count of an entry of no kind
+stray : Entry → ℕ
+stray e = e .count - (ofKind 2 e + ofKind 1 e + ofKind 3 e)
+
+odd-none-is : (k n : ℕ) (b : Bool) → b ≡ soundEntry (entry k n) → b ≡ eqb (odd (entry k n)) 0
+odd-none-is k n true e = rw (← e)
+odd-none-is k n false e = rw (← e)
+
+kind-sound : (k n : ℕ) → 1 ≤ k → k ≤ 3 → 1 ≤ n → true ≡ soundEntry (entry k n)
+kind-sound k n a b c = sym (le-leb 1 n c) ∙ sound-count k n (λ z. absurd (omega arith)) b
+
+-- an entry can be where its count isn't 0 and is of a kind
+stray-none : (k n : ℕ) → eqb (empty (entry k n) + stray (entry k n)) 0 ≡ eqb (odd (entry k n)) 0
+unfolding stray
+stray-none k n = go (eqb n 0) (eqb k 2) (eqb k 1) (eqb k 3) refl refl refl refl
+  where
+    other : (k ≡ 2 → ⊥) → (k ≡ 1 → ⊥) → (k ≡ 3 → ⊥) → (z : Bool) → eqb k 0 ≡ z → false ≡ soundEntry (entry k n)
+    other p q s true h = sound-low k n (eqb-true k 0 h)
+    other p q s false h = sound-high k n (omega (arith, eqb-false k 0 h))
+
+    go : (z a b c : Bool) → eqb n 0 ≡ z → eqb k 2 ≡ a → eqb k 1 ≡ b → eqb k 3 ≡ c → eqb (picked z 1 + (n - (picked a n + picked b n + picked c n))) 0 ≡ eqb (odd (entry k n)) 0
+    go true a b c y p q s =
+        ne-eqb (1 + (n - (picked a n + picked b n + picked c n))) 0 (λ z. absurd (omega arith))
+        ∙ odd-none-is k n false (sym (ap (λ m. within 1 3 k && leb 1 m) (eqb-true n 0 y) ∙ and-false (within 1 3 k)))
+    go false true b c y p q s =
+        eq-eqb (0 + (n - (n + picked b n + picked c n))) 0 (omega arith)
+        ∙ odd-none-is k n true (kind-sound k n (omega (arith, eqb-true k 2 p)) (omega (arith, eqb-true k 2 p)) (omega (arith, eqb-false n 0 y)))
+    go false false true c y p q s =
+        eq-eqb (0 + (n - (0 + n + picked c n))) 0 (omega arith)
+        ∙ odd-none-is k n true (kind-sound k n (omega (arith, eqb-true k 1 q)) (omega (arith, eqb-true k 1 q)) (omega (arith, eqb-false n 0 y)))
+    go false false false true y p q s =
+        eq-eqb (0 + (n - (0 + 0 + n))) 0 (omega arith)
+        ∙ odd-none-is k n true (kind-sound k n (omega (arith, eqb-true k 3 s)) (omega (arith, eqb-true k 3 s)) (omega (arith, eqb-false n 0 y)))
+    go false false false false y p q s =
+        ne-eqb (0 + (n - (0 + 0 + 0))) 0 (λ z. absurd (omega (arith, eqb-false n 0 y)))
+        ∙ odd-none-is k n false (other (eqb-false k 2 p) (eqb-false k 1 q) (eqb-false k 3 s) (eqb k 0) refl)
+
+module _ (r : List ℕ) where
+  parts-sum : (i n : ℕ)
+      → sumFrom (countAt r) i n ≡ sumFrom (λ j. ofKind 2 (entryAt r j)) i n + sumFrom (λ j. ofKind 1 (entryAt r j)) i n + sumFrom (λ j. ofKind 3 (entryAt r j)) i n + sumFrom (λ j. stray (entryAt r j)) i n
+  unfolding stray
+  parts-sum i zero = refl
+  parts-sum i (suc n) = omega (arith, parts-sum (suc i) n, parts-le (kindAt r i) (countAt r i))
+
+  strays-none : (i n : ℕ) → eqb (sumFrom (λ j. empty (entryAt r j)) i n + sumFrom (λ j. stray (entryAt r j)) i n) 0 ≡ eqb (sumFrom (λ j. odd (entryAt r j)) i n) 0
+  strays-none i zero = refl
+  strays-none i (suc n) =
+      let e = empty (entryAt r i) in
+      let x = stray (entryAt r i) in
+      let es = sumFrom (λ j. empty (entryAt r j)) (suc i) n in
+      let xs = sumFrom (λ j. stray (entryAt r j)) (suc i) n in
+      let w : e + es + (x + xs) ≡ e + x + (es + xs) = omega arith in
+      ap (λ y. eqb y 0) w
+      ∙ none-both (e + x) (es + xs)
+      ∙ ap₂ _&&_ (stray-none (kindAt r i) (countAt r i)) (strays-none (suc i) n)
+      ∙ sym (none-both (odd (entryAt r i)) (sumFrom (λ j. odd (entryAt r j)) (suc i) n))
+
+  module _ (n all : ℕ) (p : Parts) (l : all < 65536) (w : Whole r n all) (g : Parted r n p) where
+    pub parts-under : p .inserts + p .kept + p .deleted ≤ all
+    parts-under = omega (arith, g .less, w .counts l)
+
+    whole-small : all ≤ 65536 * n
+    whole-small = go n (w .counts l)
+      where
+        go : (m : ℕ) → all ≡ sumOf (λ e. e .count) r m → all ≤ 65536 * m
+        go zero e = omega arith
+        go (suc m) e = omega (arith, l)
+
+    pub tally-parts : (a : ℕ) → a ≡ sumFrom (apartAt r) 0 (n - 1) → a ≤ n
+        → Tallied r n (record { odd = p .empty + (all - p .inserts - p .kept - p .deleted); inserts = p .inserts; all = all; kept = p .kept; apart = a })
+    tally-parts a e h =
+        let u = parts-under in
+        let v = whole-small in
+        let x : all - p .inserts - p .kept - p .deleted ≡ sumOf stray r n = omega (arith, w .counts l, g .inserted, g .retained, g .dropped, parts-sum 0 n) in
+        record {
+          odds = ap₂ (λ x y. eqb (x + y) 0) (g .empties) x ∙ strays-none 0 n;
+          inserted = g .inserted;
+          counts = w .counts l;
+          retained = g .retained;
+          neighbours = λ z. e;
+          few = omega (arith, g .few);
+          less = omega arith;
+          fewer = omega arith;
+          small = v;
+          close = h;
+        }
+
+-- ---- what the sums are of
+
+-- nothing is counted where every test holds
+holds-all : (b : Bool) (x : ℕ) → eqb (picked (not b) 1 + x) 0 ≡ (b && eqb x 0)
+holds-all true x = ap (λ y. eqb y 0) (zero-add x)
+holds-all false x = ne-eqb (1 + x) 0 (λ z. absurd (omega arith))
+
+may-follow : (o p : Op ℕ) → mayFollow (code o) (code p) ≡ follows (kind o) (kind p)
+unfolding mayFollow
+may-follow (retain n) (retain m) = refl
+may-follow (retain n) (insert y) = refl
+may-follow (retain n) (delete m) = refl
+may-follow (insert x) (retain m) = refl
+may-follow (insert x) (insert y) = refl
+may-follow (insert x) (delete m) = refl
+may-follow (delete n) (retain m) = refl
+may-follow (delete n) (insert y) = refl
+may-follow (delete n) (delete m) = refl
+
+code-of : (k n : ℕ) (t : List ℕ) → (k ≡ 1) ⊎ ((k ≡ 2) ⊎ (k ≡ 3)) → code (operation k n t) ≡ k
+code-of k n t (inl p) = rw p
+code-of k n t (inr (inl p)) = rw p
+code-of k n t (inr (inr p)) = rw p
+
+kinds-follow : (k l n m : ℕ) (t u : List ℕ) → T (soundEntry (entry k n)) → T (soundEntry (entry l m)) → mayFollow k l ≡ follows (kind (operation k n t)) (kind (operation l m u))
+kinds-follow k l n m t u a b =
+    let p = code-of k n t (sound-kind k (both (within 1 3 k) _ .0 a .0)) in
+    let q = code-of l m u (sound-kind l (both (within 1 3 l) _ .0 b .0)) in
+    ap₂ mayFollow (sym p) (sym q) ∙ may-follow (operation k n t) (operation l m u)
+
+module _ (r : List ℕ) where
+  odd-none : (i n : ℕ) → eqb (sumFrom (λ k. odd (entryAt r k)) i n) 0 ≡ allOf soundEntry (entriesFrom r i n)
+  odd-none i zero = refl
+  odd-none i (suc n) = holds-all (soundEntry (entryAt r i)) _ ∙ ap (λ b. soundEntry (entryAt r i) && b) (odd-none (suc i) n)
+
+  chained-none : (i n : ℕ) (t : List ℕ) → T (allOf soundEntry (entriesFrom r i (suc n))) → eqb (sumFrom (apartAt r) i n) 0 ≡ chained (operations (entriesFrom r i (suc n)) t)
+  chained-none i zero t h = refl
+  chained-none i (suc n) t h =
+      let (a, h₁) = both (soundEntry (entryAt r i)) (allOf soundEntry (entriesFrom r (suc i) (suc n))) .0 h in
+      let (b, h₂) = both (soundEntry (entryAt r (suc i))) (allOf soundEntry (entriesFrom r (suc (suc i)) n)) .0 h₁ in
+      let u = cond (eqb (kindAt r i) 2) (drop (countAt r i) t) t in
+      holds-all (mayFollow (kindAt r i) (kindAt r (suc i))) _
+      ∙ ap₂ _&&_ (kinds-follow (kindAt r i) (kindAt r (suc i)) (countAt r i) (countAt r (suc i)) t u a b) (chained-none (suc i) n u h₁)
+
+  inserts-sum : (i n : ℕ) → sumFrom (λ k. ofKind 2 (entryAt r k)) i n ≡ insertBytes (entriesFrom r i n)
+  inserts-sum i zero = refl
+  inserts-sum i (suc n) = go (eqb (kindAt r i) 2) (countAt r i) (inserts-sum (suc i) n)
+    where
+      go : (b : Bool) (c : ℕ) {x y : ℕ} → x ≡ y → picked b c + x ≡ cond b (c + y) y
+      go true c h = omega arith
+      go false c h = omega arith
+
+  -- whatever the text
+  kept-sum : (i n : ℕ) (t : List ℕ) → sumFrom (λ k. ofKind 1 (entryAt r k)) i n ≡ total keeps (operations (entriesFrom r i n) t)
+  kept-sum i zero t = refl
+  kept-sum i (suc n) t = go (eqb (kindAt r i) 1) (eqb (kindAt r i) 2) (countAt r i) (kept-sum (suc i) n _)
+    where
+      go : (a b : Bool) (c : ℕ) {x y : ℕ} → x ≡ y → picked a c + x ≡ keeps (cond a (retain c) (cond b (insert (take c t)) (delete c))) + y
+      go true b c h = omega arith
+      go false true c h = omega arith
+      go false false c h = omega arith
+
+  base-sum : (i n : ℕ) (t : List ℕ) → sumFrom (countAt r) i n ≡ insertBytes (entriesFrom r i n) + base (operations (entriesFrom r i n) t)
+  base-sum i zero t = refl
+  base-sum i (suc n) t =
+      let u = cond (eqb (kindAt r i) 2) (drop (countAt r i) t) t in
+      go (eqb (kindAt r i) 1) (eqb (kindAt r i) 2) refl refl (countAt r i) (insertBytes (entriesFrom r (suc i) n)) (base (operations (entriesFrom r (suc i) n) u)) (base-sum (suc i) n u)
+    where
+      go : (a b : Bool) → eqb (kindAt r i) 1 ≡ a → eqb (kindAt r i) 2 ≡ b → (c y z : ℕ) {x : ℕ} → x ≡ y + z → c + x ≡ cond b (c + y) y + (takes (cond a (retain c) (cond b (insert (take c t)) (delete c))) + z)
+      go true true p q c y z h = absurd (omega (arith, eqb-true (kindAt r i) 1 p, eqb-true (kindAt r i) 2 q))
+      go true false p q c y z h = omega arith
+      go false true p q c y z h = omega arith
+      go false false p q c y z h = omega arith
+
+none-apart : (r : List ℕ) (n : ℕ) → n ≡ recordsOf r → T (allOf soundEntry (entries r)) → eqb (sumFrom (apartAt r) 0 (n - 1)) 0 ≡ chained (byteOps r)
+unfolding byteOps entries
+none-apart r n e s = go n e s
+  where
+    go : (m : ℕ) → m ≡ recordsOf r → T (allOf soundEntry (entriesFrom r 0 (recordsOf r))) → eqb (sumFrom (apartAt r) 0 (m - 1)) 0 ≡ chained (operations (entriesFrom r 0 (recordsOf r)) (textOf r))
+    go zero p h = rw (← p)
+    go (suc m) p h =
+        let q : suc m - 1 ≡ m = omega arith in
+        ap (λ j. eqb (sumFrom (apartAt r) 0 j) 0) q
+        ∙ chained-none r 0 m (textOf r) (rw (← p) at h)
+        ∙ ap (λ j. chained (operations (entriesFrom r 0 j) (textOf r))) p
+
+-- where all neighbours may stand so, any two may
+pub linked-follow : (r : List ℕ) (n k : ℕ) → n ≡ recordsOf r → T (allOf soundEntry (entries r)) → chained (byteOps r) ≡ true → k + 1 < n → mayFollow (kindAt r k) (kindAt r (suc k)) ≡ true
+linked-follow r n k e s p h =
+    go (mayFollow (kindAt r k) (kindAt r (suc k))) refl (sum-under (apartAt r) k (n - 1) (omega arith)) (eqb-true (sumFrom (apartAt r) 0 (n - 1)) 0 (none-apart r n e s ∙ p))
+  where
+    go : (b : Bool) → mayFollow (kindAt r k) (kindAt r (suc k)) ≡ b → sumFrom (apartAt r) 0 k + picked (not b) 1 ≤ sumFrom (apartAt r) 0 (n - 1) → sumFrom (apartAt r) 0 (n - 1) ≡ 0 → b ≡ true
+    go true q l z = refl
+    go false q l z = absurd (omega arith)
+
+-- the passes, as the code finds them
+module _ (r : List ℕ) (n : ℕ) (t : Tally) (e : n ≡ recordsOf r) (g : Tallied r n t) where
+  none-odd : eqb (t .odd) 0 ≡ allOf soundEntry (entries r)
+  unfolding entries
+  none-odd = g .odds ∙ odd-none r 0 n ∙ ap (λ m. allOf soundEntry (entriesFrom r 0 m)) e
+
+  pub sums-unsound : (t .odd ≡ 0 → ⊥) → Unsound ≡ entriesOf r
+  unfolding entriesOf
+  sums-unsound z = rw (sym none-odd ∙ ne-eqb (t .odd) 0 z)
+
+  module _ (z : t .odd ≡ 0) where
+    all-sound : allOf soundEntry (entries r) ≡ true
+    all-sound = sym none-odd ∙ eq-eqb (t .odd) 0 z
+
+    pub sums-found : Of (record { inserts = t .inserts; linked = eqb (t .apart) 0; base = t .all - t .inserts; kept = t .kept }) ≡ entriesOf r
+    unfolding entriesOf sumsOf entries byteOps
+    sums-found =
+        let x : t .inserts ≡ insertBytes (entries r) = g .inserted ∙ inserts-sum r 0 n ∙ ap (λ m. insertBytes (entriesFrom r 0 m)) e in
+        let y : t .all ≡ insertBytes (entries r) + base (byteOps r) = g .counts ∙ base-sum r 0 n (textOf r) ∙ ap (λ m. insertBytes (entriesFrom r 0 m) + base (operations (entriesFrom r 0 m) (textOf r))) e in
+        let w : t .all - t .inserts ≡ base (byteOps r) = omega arith in
+        let v : t .kept ≡ total keeps (byteOps r) = g .retained ∙ kept-sum r 0 n (textOf r) ∙ ap (λ m. total keeps (operations (entriesFrom r 0 m) (textOf r))) e in
+        rw (all-sound) (λ i. Of (record { inserts = x i; linked = (ap (λ j. eqb j 0) (g .neighbours z) ∙ none-apart r n e (known all-sound)) i; base = w i; kept = v i }))
+
+pub chars-part : (n m : ℕ) (t : List ℕ) → numChars (take (n + m) t) ≡ numChars (take n t) + numChars (take m (drop n t))
+chars-part n m t = ap numChars (take-add n m t) ∙ num-append (take n t) (take m (drop n t))
+
+keeps-less : (s : ByteSeq) → total keeps s ≤ base s
+keeps-less [] = omega arith
+keeps-less (retain n ∷ s) = omega (arith, keeps-less s)
+keeps-less (insert t ∷ s) = omega (arith, keeps-less s)
+keeps-less (delete n ∷ s) = omega (arith, keeps-less s)
+
+-- kept and inserted characters are those of the text after the edit
+kept-target : (es : List Entry) (t : List ℕ) → total keeps (operations es t) + numChars (take (insertBytes es) t) ≡ total givesChars (operations es t)
+kept-target [] t = refl
+kept-target (e ∷ es) t = go (eqb (e .kind) 1) (eqb (e .kind) 2) refl refl (λ u. kept-target es u)
+  where
+    go : (a b : Bool) → eqb (e .kind) 1 ≡ a → eqb (e .kind) 2 ≡ b → ((u : List ℕ) → total keeps (operations es u) + numChars (take (insertBytes es) u) ≡ total givesChars (operations es u))
+        → (keeps (cond a (retain (e .count)) (cond b (insert (take (e .count) t)) (delete (e .count)))) + total keeps (operations es (cond b (drop (e .count) t) t))) + numChars (take (cond b (e .count + insertBytes es) (insertBytes es)) t)
+        ≡ givesChars (cond a (retain (e .count)) (cond b (insert (take (e .count) t)) (delete (e .count)))) + total givesChars (operations es (cond b (drop (e .count) t) t))
+    go true true p q ih = absurd (omega (arith, eqb-true (e .kind) 1 p, eqb-true (e .kind) 2 q))
+    go true false p q ih = omega (arith, ih t)
+    go false true p q ih = omega (arith, ih (drop (e .count) t), chars-part (e .count) (insertBytes es) t)
+    go false false p q ih = omega (arith, ih t)
+
+pub target-found : (r : List ℕ) → insertBytes (entries r) ≡ textBytesOf r → total keeps (byteOps r) + numChars (textOf r) ≡ total givesChars (byteOps r)
+unfolding textOf byteOps
+target-found r e =
+    let t = take (textBytesOf r) (drop (textStart (recordsOf r)) r) in
+    let z : take (insertBytes (entries r)) t ≡ t = ap (λ n. take n t) e ∙ take-take (textBytesOf r) (textBytesOf r) (drop (textStart (recordsOf r)) r) (omega arith) in
+    ap (λ l. total keeps (operations (entries r) t) + numChars l) (sym z) ∙ kept-target (entries r) t
+
+-- the whole record's
+pub record Found (r : List ℕ) (q : Sums) : Type 0 where
+  pub inserts : q .inserts ≡ insertBytes (entries r)
+  pub linked : q .linked ≡ chained (byteOps r)
+  pub base-is : q .base ≡ base (byteOps r)
+  pub target-is : insertBytes (entries r) ≡ textBytesOf r → q .kept + numChars (textOf r) ≡ total givesChars (byteOps r)
+  pub less : q .kept ≤ q .base
+
+pub found : (r : List ℕ) → Found r (sumsOf r)
+unfolding sumsOf
+found r = record { inserts = refl; linked = refl; base-is = refl; target-is = target-found r; less = keeps-less (byteOps r) }

@@ -1,0 +1,74 @@
+use native.Mathlib.Omega.{arith}
+use borrow.Author.Needs.{needs}
+use Rattle.tally.proofs.Tallying.{parts-under, tally-parts}
+use Rattle.tally.proofs.core.count_up.Statement.{statement}
+use Rattle.tally.proofs.core.count_up.Tie as tie
+
+few-requires : tie.Need-few-requires
+few-requires c κs = search needs
+
+returns : tie.Need-returns
+returns c = search needs
+
+all-counts-requires : tie.Need-all-counts-requires
+all-counts-requires c κs = search needs
+
+any-requires : tie.Need-any-requires
+any-requires c κs = search needs
+
+returns-2 : tie.Need-returns-2
+returns-2 c = search needs
+
+part-requires : tie.Need-part-requires
+part-requires c κs = search needs
+
+cast-inserts : tie.Need-cast-inserts
+cast-inserts c = search needs
+
+cast-kept : tie.Need-cast-kept
+cast-kept c = search needs
+
+sub-others : tie.Need-sub-others
+sub-others c = let h = parts-under _ _ _ _ (search needs) (c .before .before .before .before .all-counts .ensures) (c .before .before .part .ensures) in omega arith
+
+sub-others-2 : tie.Need-sub-others-2
+sub-others-2 c = let h = parts-under _ _ _ _ (search needs) (c .before .before .before .before .all-counts .ensures) (c .before .before .part .ensures) in omega arith
+
+cast-others : tie.Need-cast-others
+cast-others c = search needs
+
+sub-others-3 : tie.Need-sub-others-3
+sub-others-3 c = let h = parts-under _ _ _ _ (search needs) (c .before .before .before .before .before .all-counts .ensures) (c .before .before .before .part .ensures) in omega arith
+
+cast-t9 : tie.Need-cast-t9
+cast-t9 c = search needs
+
+add-t11 : tie.Need-add-t11
+add-t11 c = search needs
+
+apart-requires : tie.Need-apart-requires
+apart-requires c κs = search needs
+
+returns-3 : tie.Need-returns-3
+returns-3 c = tally-parts _ _ _ _ (search needs) (c .before .before .before .before .before .before .before .all-counts .ensures) (c .before .before .before .before .before .part .ensures) _ (c .apart .ensures .0) (c .apart .ensures .1)
+
+pub count-up-spec : {M : Type 1} → statement M
+count-up-spec =
+    tie.close
+    (tie.spec
+    few-requires
+    returns
+    all-counts-requires
+    any-requires
+    returns-2
+    part-requires
+    cast-inserts
+    cast-kept
+    sub-others
+    sub-others-2
+    cast-others
+    sub-others-3
+    cast-t9
+    add-t11
+    apart-requires
+    returns-3)

@@ -1,0 +1,106 @@
+-- What the passes over the kinds and the counts promise each other. Only inner contracts cite this.
+use Prim.Native.Nat.{ℕ, zero, suc, _+_, _-_, _*_, _≤_, _<_}
+use mathlib.Core.Bool.{Bool, cond, not, true, false}
+use lib.Dec.{eqb}
+use mathlib.Core.List.{List}
+use mathlib.Core.Path.{_≡_}
+use Rattle.buffers.specs.Lists.{allOf}
+use Rattle.edits.specs.Op.{Op, retain, insert, delete, total, base}
+use Rattle.edits.specs.Built.{chained}
+use Rattle.record.specs.Record.{Entry, soundEntry, entryAt, entries, byteOps, insertBytes}
+use Rattle.record.specs.Layout.{kindAt}
+use Rattle.tally.specs.declared.core.Tally.{Tally}
+use Rattle.tally.specs.declared.core.Parts.{Parts}
+use Rattle.tally.specs.declared.core.Sums.{Sums}
+use Rattle.tally.specs.declared.core.Entries.{Entries}
+use Rattle.tally.specs.declared.core.Entries.the-variants.{Unsound, Of}
+
+abbrev pub entry : ℕ → ℕ → Entry
+entry k n = record { kind = k; count = n }
+
+-- ---- the sums of the entries
+
+-- f at i, and at the places behind it: n in all
+abbrev pub sumFrom : (ℕ → ℕ) → ℕ → ℕ → ℕ
+sumFrom f i zero = 0
+sumFrom f i (suc n) = f i + sumFrom f (suc i) n
+
+abbrev pub picked : Bool → ℕ → ℕ
+picked b n = cond b n 0
+
+-- what one entry adds
+abbrev pub odd : Entry → ℕ
+odd e = picked (not (soundEntry e)) 1
+
+abbrev pub ofKind : ℕ → Entry → ℕ
+ofKind k e = picked (eqb (e .kind) k) (e .count)
+
+abbrev pub sumOf : (Entry → ℕ) → List ℕ → ℕ → ℕ
+sumOf f r = sumFrom (λ k. f (entryAt r k)) 0
+
+abbrev pub empty : Entry → ℕ
+empty e = picked (eqb (e .count) 0) 1
+
+-- the neighbours' rule on kinds as they are written
+unfoldable pub mayFollow : ℕ → ℕ → Bool
+mayFollow last kind = cond (eqb last kind) false (cond (eqb last 3) (not (eqb kind 2)) true)
+
+abbrev pub apartAt : List ℕ → ℕ → ℕ
+apartAt r k = picked (not (mayFollow (kindAt r k) (kindAt r (suc k)))) 1
+
+unfoldable pub tallied : Tally → Entry → Bool → Tally
+tallied t e apart =
+    record {
+      odd = t .odd + odd e;
+      inserts = t .inserts + ofKind 2 e;
+      all = t .all + e .count;
+      kept = t .kept + ofKind 1 e;
+      apart = t .apart + picked apart 1;
+    }
+
+-- the first n entries; their neighbours, where none is odd
+pub record Tallied (r : List ℕ) (n : ℕ) (t : Tally) : Type 0 where
+  pub odds : eqb (t .odd) 0 ≡ eqb (sumOf odd r n) 0
+  pub inserted : t .inserts ≡ sumOf (ofKind 2) r n
+  pub counts : t .all ≡ sumOf (λ e. e .count) r n
+  pub retained : t .kept ≡ sumOf (ofKind 1) r n
+  pub neighbours : t .odd ≡ 0 → t .apart ≡ sumFrom (apartAt r) 0 (n - 1)
+  pub few : t .odd ≤ 65537 * n
+  pub less : t .inserts ≤ t .all
+  pub fewer : t .kept ≤ t .all
+  pub small : t .all ≤ 65536 * n
+  pub close : t .apart ≤ n
+
+-- the counts of the first n entries, where they are under 65,536 together
+pub record Whole (r : List ℕ) (n all : ℕ) : Type 0 where
+  pub counts : all < 65536 → all ≡ sumOf (λ e. e .count) r n
+
+unfoldable pub partedBy : Parts → Entry → Parts
+partedBy p e =
+    record {
+      empty = p .empty + empty e;
+      inserts = p .inserts + ofKind 2 e;
+      kept = p .kept + ofKind 1 e;
+      deleted = p .deleted + ofKind 3 e;
+    }
+
+pub record Parted (r : List ℕ) (n : ℕ) (p : Parts) : Type 0 where
+  pub empties : p .empty ≡ sumOf empty r n
+  pub inserted : p .inserts ≡ sumOf (ofKind 2) r n
+  pub retained : p .kept ≡ sumOf (ofKind 1) r n
+  pub dropped : p .deleted ≡ sumOf (ofKind 3) r n
+  pub few : p .empty ≤ n
+  pub less : p .inserts + p .kept + p .deleted ≤ sumOf (λ e. e .count) r n
+
+abbrev pub keeps : Op ℕ → ℕ
+keeps (retain n) = n
+keeps (insert t) = 0
+keeps (delete n) = 0
+
+unfoldable pub sumsOf : List ℕ → Sums
+unfolding entries byteOps
+sumsOf r = record { inserts = insertBytes (entries r); linked = chained (byteOps r); base = base (byteOps r); kept = total keeps (byteOps r) }
+
+unfoldable pub entriesOf : List ℕ → Entries
+unfolding entries sumsOf
+entriesOf r = cond (allOf soundEntry (entries r)) (Of (sumsOf r)) Unsound

@@ -1,0 +1,2 @@
+-- tally
+pub mod InnerTally

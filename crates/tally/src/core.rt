@@ -1,0 +1,319 @@
+// The passes of the check over the kinds and the counts of a record.
+ghost use mathlib.Core.Path.{_≡_};
+ghost use Prim.Native.Nat.{_≤_, _^_, _<_, _+_, _-_};
+ghost use lib.ListN.{length};
+ghost use mathlib.Core.Bool.{not};
+ghost use Rattle.record.specs.Record.{soundEntry};
+ghost use Rattle.record.specs.Layout.{recordsOf, textStart};
+ghost use Rattle.tally.specs.InnerTally.{picked, entry, mayFollow, tallied, Tallied, Whole, partedBy, Parted, sumFrom, apartAt, entriesOf};
+
+// What the kinds and the counts come to: the bytes inserted, whether all neighbours may stand so, the characters of
+// the text before the edit, and those of them that stay.
+pub struct Sums {
+    pub inserts: usize,
+    pub linked: bool,
+    pub base: usize,
+    pub kept: usize,
+}
+
+// A kind or a count that can't be, or the sums.
+pub enum Entries {
+    Unsound,
+    Of(Sums),
+}
+
+// n where it counts, else 0.
+pub fn pick(counts: bool, n: u32) -> u32
+    ensures { λ r. ⌜ (r ≡ picked counts n) × (r ≤ n) ⌝ }
+{
+    if counts { n } else { 0 }
+}
+
+fn pick_u16(counts: bool, n: u16) -> u16
+    ensures { λ r. ⌜ (r ≡ picked counts n) × (r ≤ n) ⌝ }
+{
+    if counts { n } else { 0 }
+}
+
+fn pick_u8(counts: bool, n: u8) -> u8
+    ensures { λ r. ⌜ (r ≡ picked counts n) × (r ≤ n) ⌝ }
+{
+    if counts { n } else { 0 }
+}
+
+fn is_sound(kind: u8, count: u32) -> bool
+    ensures { λ r. ⌜ r ≡ soundEntry (entry kind count) ⌝ }
+{
+    if kind == 0 {
+        return false;
+    }
+    if 3 < kind {
+        return false;
+    }
+    0 < count
+}
+
+fn may_follow(last: u8, kind: u8) -> bool
+    ensures { λ r. ⌜ r ≡ mayFollow last kind ⌝ }
+{
+    if last == kind {
+        return false;
+    }
+    if last == 3 {
+        return kind != 2;
+    }
+    true
+}
+
+// What can't be (0 where all can), the bytes inserted, all counts, those of retains, and how many neighbours may not
+// stand so.
+struct Tally {
+    odd: u32,
+    inserts: u32,
+    all: u32,
+    kept: u32,
+    apart: u32,
+}
+
+// One entry more.
+fn counted(t: Tally, kind: u8, count: usize, apart: bool) -> Tally
+    requires { ⌜ (t .odd ≤ 2 ^ 31) × (t .all ≤ 2 ^ 31) × (t .inserts ≤ t .all) × (t .kept ≤ t .all) × (t .apart ≤ 2 ^ 31) × (count < 65536) ⌝ }
+    ensures { λ r. ⌜ r ≡ tallied t (entry kind count) apart ⌝ }
+{
+    let c = count as u32;
+    Tally {
+        odd: t.odd + pick(!is_sound(kind, c), 1),
+        inserts: t.inserts + pick(kind == 2, c),
+        all: t.all + c,
+        kept: t.kept + pick(kind == 1, c),
+        apart: t.apart + pick(apart, 1),
+    }
+}
+
+// Any entries, in one pass: in 32 bits, that are enough for all sums.
+fn any(rec: &[u8], n: usize) -> Tally
+    requires { ⌜ (n ≡ recordsOf (now rec)) × (n ≤ 1024) × (textStart n ≤ length (now rec)) ⌝ }
+    ensures { λ r. ⌜ Tallied (now (rec .entry)) n r ⌝ }
+{
+    let mut t = Tally {
+        odd: 0,
+        inserts: 0,
+        all: 0,
+        kept: 0,
+        apart: 0,
+    };
+    if n == 0 {
+        return t;
+    }
+    let first = layout::core::kind(rec, 0);
+    let one = layout::core::count(rec, n, 0);
+    t = counted(t, first, one, false);
+    let mut k = 1;
+    while k < n {
+        let last = layout::core::kind(rec, k - 1);
+        let kind = layout::core::kind(rec, k);
+        let count = layout::core::count(rec, n, k);
+        t = counted(t, kind, count, !may_follow(last, kind));
+        k += 1;
+    }
+    t
+}
+
+// One entry more, by its kind.
+fn entered(t: Tally, last: u8, kind: u8, count: u32) -> Tally
+    requires { ⌜ (t .odd ≤ 2 ^ 31) × (t .all ≤ 2 ^ 31) × (t .inserts ≤ t .all) × (t .kept ≤ t .all) × (t .apart ≤ 2 ^ 31) × (count < 65536) ⌝ }
+    ensures { λ r. ⌜ r ≡ tallied t (entry kind count) (not (mayFollow last kind)) ⌝ }
+{
+    let odd = t.odd + pick(count == 0, 1);
+    let all = t.all + count;
+    if kind == 1 {
+        return Tally {
+            odd,
+            inserts: t.inserts,
+            all,
+            kept: t.kept + count,
+            apart: t.apart + pick(!may_follow(last, 1), 1),
+        };
+    }
+    if kind == 2 {
+        return Tally {
+            odd,
+            inserts: t.inserts + count,
+            all,
+            kept: t.kept,
+            apart: t.apart + pick(!may_follow(last, 2), 1),
+        };
+    }
+    if kind == 3 {
+        return Tally {
+            odd,
+            inserts: t.inserts,
+            all,
+            kept: t.kept,
+            apart: t.apart + pick(!may_follow(last, 3), 1),
+        };
+    }
+    Tally {
+        odd: t.odd + 1,
+        inserts: t.inserts,
+        all,
+        kept: t.kept,
+        apart: t.apart + pick(!may_follow(last, kind), 1),
+    }
+}
+
+// A few entries, one after another: with branches that is the fewest instructions for those of a keystroke. Kind 0 stands
+// before the first: only what can't be may not follow it.
+fn few(rec: &[u8], n: usize) -> Tally
+    requires { ⌜ (n ≡ recordsOf (now rec)) × (n ≤ 1024) × (textStart n ≤ length (now rec)) ⌝ }
+    ensures { λ r. ⌜ Tallied (now (rec .entry)) n r ⌝ }
+{
+    let mut t = Tally {
+        odd: 0,
+        inserts: 0,
+        all: 0,
+        kept: 0,
+        apart: 0,
+    };
+    let mut last: u8 = 0;
+    let mut k = 0;
+    while k < n {
+        let kind = layout::core::kind(rec, k);
+        let count = layout::core::count(rec, n, k) as u32;
+        t = entered(t, last, kind, count);
+        last = kind;
+        k += 1;
+    }
+    t
+}
+
+// All counts, or 65,536 where the entries are so few that one pass in 32 bits was measured to be faster.
+fn all_counts(rec: &[u8], n: usize) -> u32
+    requires { ⌜ (n ≡ recordsOf (now rec)) × (n ≤ 1024) × (textStart n ≤ length (now rec)) ⌝ }
+    ensures { λ r. ⌜ Whole (now (rec .entry)) n r ⌝ }
+{
+    if n < 32 {
+        return 65536;
+    }
+    let mut all: u32 = 0;
+    let mut k = 0;
+    while k < n {
+        all += layout::core::count(rec, n, k) as u32;
+        k += 1;
+    }
+    all
+}
+
+// How many counts are 0, and the counts of each kind.
+struct Parts {
+    empty: u16,
+    inserts: u16,
+    kept: u16,
+    deleted: u16,
+}
+
+// One entry more.
+fn parted(p: Parts, kind: u8, count: usize) -> Parts
+    requires { ⌜ (p .empty ≤ 1024) × (p .inserts + p .kept + p .deleted + count < 65536) ⌝ }
+    ensures { λ r. ⌜ r ≡ partedBy p (entry kind count) ⌝ }
+{
+    let c = count as u16;
+    Parts {
+        empty: p.empty + pick_u16(c == 0, 1),
+        inserts: p.inserts + pick_u16(kind == 2, c),
+        kept: p.kept + pick_u16(kind == 1, c),
+        deleted: p.deleted + pick_u16(kind == 3, c),
+    }
+}
+
+// Where all counts together are under 65,536, 16 bits are enough for each part of them.
+fn part(rec: &[u8], n: usize, all: u32) -> Parts
+    requires { ⌜ (n ≡ recordsOf (now rec)) × (n ≤ 1024) × (textStart n ≤ length (now rec)) × (all < 65536) × Whole (now rec) n all ⌝ }
+    ensures { λ r. ⌜ Parted (now (rec .entry)) n r ⌝ }
+{
+    let mut p = Parts {
+        empty: 0,
+        inserts: 0,
+        kept: 0,
+        deleted: 0,
+    };
+    let mut k = 0;
+    while k < n {
+        let kind = layout::core::kind(rec, k);
+        let count = layout::core::count(rec, n, k);
+        p = parted(p, kind, count);
+        k += 1;
+    }
+    p
+}
+
+// How many neighbours may not stand so, of the entries from..to and each one before.
+fn apart_in(rec: &[u8], from: usize, to: usize) -> u8
+    requires { ⌜ (1 ≤ from) × (to ≤ recordsOf (now rec)) × (to ≤ from + 224) × (textStart (recordsOf (now rec)) ≤ length (now rec)) ⌝ }
+    ensures { λ r. ⌜ (r ≡ sumFrom (apartAt (now (rec .entry))) (from - 1) (to - from)) × (r ≤ to - from) ⌝ }
+{
+    let mut apart: u8 = 0;
+    let mut k = from;
+    while k < to {
+        let last = layout::core::kind(rec, k - 1);
+        let kind = layout::core::kind(rec, k);
+        apart += pick_u8(!may_follow(last, kind), 1);
+        k += 1;
+    }
+    apart
+}
+
+// The same of all entries. 8 bits are enough for 224 of them: 7 times the 32 that are done at once.
+fn apart(rec: &[u8], n: usize) -> u32
+    requires { ⌜ (n ≡ recordsOf (now rec)) × (n ≤ 1024) × (textStart n ≤ length (now rec)) ⌝ }
+    ensures { λ r. ⌜ (r ≡ sumFrom (apartAt (now (rec .entry))) 0 (n - 1)) × (r ≤ n) ⌝ }
+{
+    let mut apart: u32 = 0;
+    let mut from = 1;
+    while from + 224 < n {
+        apart += apart_in(rec, from, from + 224) as u32;
+        from += 224;
+    }
+    apart + apart_in(rec, from, n) as u32
+}
+
+// What can't be has a count of 0, or one that is of no kind.
+fn count_up(rec: &[u8], n: usize) -> Tally
+    requires { ⌜ (n ≡ recordsOf (now rec)) × (n ≤ 1024) × (textStart n ≤ length (now rec)) ⌝ }
+    ensures { λ r. ⌜ Tallied (now (rec .entry)) n r ⌝ }
+{
+    if n < 8 {
+        return few(rec, n);
+    }
+    let all = all_counts(rec, n);
+    if 65535 < all {
+        return any(rec, n);
+    }
+    let p = part(rec, n, all);
+    let inserts = p.inserts as u32;
+    let kept = p.kept as u32;
+    let others = all - inserts - kept - p.deleted as u32;
+    Tally {
+        odd: p.empty as u32 + others,
+        inserts: inserts,
+        all: all,
+        kept: kept,
+        apart: apart(rec, n),
+    }
+}
+
+pub fn sum_up(rec: &[u8], n: usize) -> Entries
+    requires { ⌜ (n ≡ recordsOf (now rec)) × (n ≤ 1024) × (textStart n ≤ length (now rec)) ⌝ }
+    ensures { λ r. ⌜ r ≡ entriesOf (now (rec .entry)) ⌝ }
+{
+    let t = count_up(rec, n);
+    if t.odd != 0 {
+        return Entries::Unsound;
+    }
+    Entries::Of(Sums {
+        inserts: t.inserts as usize,
+        linked: t.apart == 0,
+        base: (t.all - t.inserts) as usize,
+        kept: t.kept as usize,
+    })
+}

@@ -1,0 +1,289 @@
+// One step of transform over the front operations of two records that were checked: what either becomes past the other.
+use characters::Ordering;
+use steps::core::Both;
+use steps::core::Pair;
+use steps::core::Turn;
+ghost use mathlib.Core.Path.{_≡_};
+ghost use Prim.Native.Nat.{_^_, _≤_, _<_};
+ghost use lib.ListN.{length};
+ghost use mathlib.Core.Bool.{false, true};
+ghost use lib.Dec.{eqb};
+ghost use Rattle.characters.specs.Order.{order};
+ghost use Rattle.edits.specs.Transform.{transformTurn};
+ghost use Rattle.record.specs.Layout.{recordsOf, textStart};
+ghost use Rattle.record.specs.InnerFront.{Stands, Cut};
+ghost use Rattle.emitter.specs.InnerEmit.{Under};
+ghost use Rattle.steps.specs.InnerBoth.{FirstBoth, SecondBoth, Meets, TogetherBoth, WentBoth};
+ghost use Rattle.steps.specs.InnerSteps.{Chooses, liveIs};
+
+// The first's operation goes by itself: the other side retains what it gives.
+fn first(a: &[u8], na: usize, out: &mut [u8], m: usize, s: Both) -> Both
+    requires { ⌜ (na ≡ recordsOf (now a)) × (m ≤ 2 ^ 40) × Under (2 ^ 38) (s .e) × Under (2 ^ 38) (s .f) × Stands (now a) (s .x) × (0 < s .x .kind) × (length (now out) ≤ textStart m) ⌝ }
+    ensures { λ r. ⌜ FirstBoth m (now (a .entry)) s (now (out .entry)) r (now (out .exit)) ⌝ }
+{
+    let x = s.x;
+    let y = s.y;
+    let d = s.e;
+    let h = s.f;
+    let k = x.left;
+    let to = x.to;
+    let e = emitter::core::mark(out, m, d, a, x, k, to);
+    let f = emitter::core::retain(h, steps::core::gives(x));
+    let g = reader::core::rest(a, na, x, k, to);
+    Both { x: g, y, e, f }
+}
+
+// The second's.
+fn second(b: &[u8], nb: usize, out: &mut [u8], n: usize, s: Both) -> Both
+    requires { ⌜ (nb ≡ recordsOf (now b)) × (n ≤ 2 ^ 40) × Under (2 ^ 38) (s .e) × Under (2 ^ 38) (s .f) × Stands (now b) (s .y) × (0 < s .y .kind) × (length (now out) ≤ textStart n) ⌝ }
+    ensures { λ r. ⌜ SecondBoth n (now (b .entry)) s (now (out .entry)) r (now (out .exit)) ⌝ }
+{
+    let x = s.x;
+    let y = s.y;
+    let d = s.e;
+    let h = s.f;
+    let k = y.left;
+    let to = y.to;
+    let e = emitter::core::retain(d, steps::core::gives(y));
+    let f = emitter::core::mark(out, n, h, b, y, k, to);
+    let g = reader::core::rest(b, nb, y, k, to);
+    Both { x, y: g, e, f }
+}
+
+// The same for an insert where the other has none, and for the lesser of two inserts. Each is a copy of its own: a function with one
+// caller is taken into the loop, where the kind is known and the state stays in registers.
+fn insert_first(a: &[u8], na: usize, out: &mut [u8], m: usize, s: Both) -> Both
+    requires { ⌜ (na ≡ recordsOf (now a)) × (m ≤ 2 ^ 40) × Under (2 ^ 38) (s .e) × Under (2 ^ 38) (s .f) × Stands (now a) (s .x) × (0 < s .x .kind) × (length (now out) ≤ textStart m) ⌝ }
+    ensures { λ r. ⌜ FirstBoth m (now (a .entry)) s (now (out .entry)) r (now (out .exit)) ⌝ }
+{
+    let x = s.x;
+    let y = s.y;
+    let d = s.e;
+    let h = s.f;
+    let k = x.left;
+    let to = x.to;
+    let e = emitter::core::mark(out, m, d, a, x, k, to);
+    let f = emitter::core::retain(h, steps::core::gives(x));
+    let g = reader::core::rest(a, na, x, k, to);
+    Both { x: g, y, e, f }
+}
+
+fn lesser_first(a: &[u8], na: usize, out: &mut [u8], m: usize, s: Both) -> Both
+    requires { ⌜ (na ≡ recordsOf (now a)) × (m ≤ 2 ^ 40) × Under (2 ^ 38) (s .e) × Under (2 ^ 38) (s .f) × Stands (now a) (s .x) × (0 < s .x .kind) × (length (now out) ≤ textStart m) ⌝ }
+    ensures { λ r. ⌜ FirstBoth m (now (a .entry)) s (now (out .entry)) r (now (out .exit)) ⌝ }
+{
+    let x = s.x;
+    let y = s.y;
+    let d = s.e;
+    let h = s.f;
+    let k = x.left;
+    let to = x.to;
+    let e = emitter::core::mark(out, m, d, a, x, k, to);
+    let f = emitter::core::retain(h, steps::core::gives(x));
+    let g = reader::core::rest(a, na, x, k, to);
+    Both { x: g, y, e, f }
+}
+
+fn insert_second(b: &[u8], nb: usize, out: &mut [u8], n: usize, s: Both) -> Both
+    requires { ⌜ (nb ≡ recordsOf (now b)) × (n ≤ 2 ^ 40) × Under (2 ^ 38) (s .e) × Under (2 ^ 38) (s .f) × Stands (now b) (s .y) × (0 < s .y .kind) × (length (now out) ≤ textStart n) ⌝ }
+    ensures { λ r. ⌜ SecondBoth n (now (b .entry)) s (now (out .entry)) r (now (out .exit)) ⌝ }
+{
+    let x = s.x;
+    let y = s.y;
+    let d = s.e;
+    let h = s.f;
+    let k = y.left;
+    let to = y.to;
+    let e = emitter::core::retain(d, steps::core::gives(y));
+    let f = emitter::core::mark(out, n, h, b, y, k, to);
+    let g = reader::core::rest(b, nb, y, k, to);
+    Both { x, y: g, e, f }
+}
+
+fn lesser_second(b: &[u8], nb: usize, out: &mut [u8], n: usize, s: Both) -> Both
+    requires { ⌜ (nb ≡ recordsOf (now b)) × (n ≤ 2 ^ 40) × Under (2 ^ 38) (s .e) × Under (2 ^ 38) (s .f) × Stands (now b) (s .y) × (0 < s .y .kind) × (length (now out) ≤ textStart n) ⌝ }
+    ensures { λ r. ⌜ SecondBoth n (now (b .entry)) s (now (out .entry)) r (now (out .exit)) ⌝ }
+{
+    let x = s.x;
+    let y = s.y;
+    let d = s.e;
+    let h = s.f;
+    let k = y.left;
+    let to = y.to;
+    let e = emitter::core::retain(d, steps::core::gives(y));
+    let f = emitter::core::mark(out, n, h, b, y, k, to);
+    let g = reader::core::rest(b, nb, y, k, to);
+    Both { x, y: g, e, f }
+}
+
+// What stays of k characters of both, which insert nothing: what either deletes, the other has no more.
+fn meet(
+    a: &[u8],
+    b: &[u8],
+    out_a: &mut [u8],
+    m: usize,
+    out_b: &mut [u8],
+    n: usize,
+    s: Both,
+    k: usize,
+) -> Pair
+    requires { ⌜ (m ≤ 2 ^ 40) × (n ≤ 2 ^ 40) × Under (2 ^ 38) (s .e) × Under (2 ^ 38) (s .f) × Stands (now a) (s .x) × Stands (now b) (s .y) × (0 < k) × (k ≤ s .x .left) × (k ≤ s .y .left) × Cut (now a) (s .x) k (s .x .to) × Cut (now b) (s .y) k (s .y .to) × Chooses (transformTurn order) (now a) (now b) (s .x) (s .y) Turn.Together × (eqb (s .y .kind) 2 ≡ false) × (length (now «out_a») ≤ textStart m) × (length (now «out_b») ≤ textStart n) ⌝ }
+    ensures { λ r. ⌜ Meets m n (now (a .entry)) (now (b .entry)) s k (now («out_a» .entry)) (now («out_b» .entry)) r (now («out_a» .exit)) (now («out_b» .exit)) ⌝ }
+{
+    let x = s.x;
+    let y = s.y;
+    let e = s.e;
+    let f = s.f;
+    let i = x.to;
+    let j = y.to;
+    if y.kind == 1 {
+        let d = emitter::core::mark(out_a, m, e, a, x, k, i);
+        if x.kind == 1 {
+            let h = emitter::core::mark(out_b, n, f, b, y, k, j);
+            return Pair { e: d, f: h };
+        }
+        return Pair { e: d, f };
+    }
+    if x.kind == 1 {
+        let h = emitter::core::mark(out_b, n, f, b, y, k, j);
+        return Pair { e, f: h };
+    }
+    Pair { e, f }
+}
+
+// As many characters of both, where neither inserts.
+fn together(
+    a: &[u8],
+    na: usize,
+    b: &[u8],
+    nb: usize,
+    out_a: &mut [u8],
+    m: usize,
+    out_b: &mut [u8],
+    n: usize,
+    s: Both,
+) -> Both
+    requires { ⌜ (na ≡ recordsOf (now a)) × (nb ≡ recordsOf (now b)) × (m ≤ 2 ^ 40) × (n ≤ 2 ^ 40) × Under (2 ^ 38) (s .e) × Under (2 ^ 38) (s .f) × Stands (now a) (s .x) × Stands (now b) (s .y) × Chooses (transformTurn order) (now a) (now b) (s .x) (s .y) Turn.Together × (eqb (s .y .kind) 2 ≡ false) × (length (now «out_a») ≤ textStart m) × (length (now «out_b») ≤ textStart n) ⌝ }
+    ensures { λ r. ⌜ TogetherBoth m n (now (a .entry)) (now (b .entry)) s (now («out_a» .entry)) (now («out_b» .entry)) r (now («out_a» .exit)) (now («out_b» .exit)) ⌝ }
+{
+    let x = s.x;
+    let y = s.y;
+    let k = buffers::core::lesser(x.left, y.left);
+    let p = meet(a, b, out_a, m, out_b, n, s, k);
+    let e = p.e;
+    let f = p.f;
+    let g = reader::core::rest(a, na, x, k, x.to);
+    let h = reader::core::rest(b, nb, y, k, y.to);
+    Both { x: g, y: h, e, f }
+}
+
+// Equal inserts are both kept.
+fn keep(
+    a: &[u8],
+    b: &[u8],
+    out_a: &mut [u8],
+    m: usize,
+    out_b: &mut [u8],
+    n: usize,
+    s: Both,
+    k: usize,
+) -> Pair
+    requires { ⌜ (m ≤ 2 ^ 40) × (n ≤ 2 ^ 40) × Under (2 ^ 38) (s .e) × Under (2 ^ 38) (s .f) × Stands (now a) (s .x) × Stands (now b) (s .y) × (0 < k) × (k ≤ s .x .left) × (k ≤ s .y .left) × Cut (now a) (s .x) k (s .x .to) × Cut (now b) (s .y) k (s .y .to) × Chooses (transformTurn order) (now a) (now b) (s .x) (s .y) Turn.Together × (s .y .kind ≡ 2) × (length (now «out_a») ≤ textStart m) × (length (now «out_b») ≤ textStart n) ⌝ }
+    ensures { λ r. ⌜ Meets m n (now (a .entry)) (now (b .entry)) s k (now («out_a» .entry)) (now («out_b» .entry)) r (now («out_a» .exit)) (now («out_b» .exit)) ⌝ }
+{
+    let x = s.x;
+    let y = s.y;
+    let e = s.e;
+    let f = s.f;
+    let i = x.to;
+    let j = y.to;
+    let d = emitter::core::mark(out_a, m, e, b, y, k, j);
+    let h = emitter::core::mark(out_b, n, f, a, x, k, i);
+    let d = emitter::core::retain(d, k);
+    let h = emitter::core::retain(h, k);
+    Pair { e: d, f: h }
+}
+
+fn equal_inserts(
+    a: &[u8],
+    na: usize,
+    b: &[u8],
+    nb: usize,
+    out_a: &mut [u8],
+    m: usize,
+    out_b: &mut [u8],
+    n: usize,
+    s: Both,
+) -> Both
+    requires { ⌜ (na ≡ recordsOf (now a)) × (nb ≡ recordsOf (now b)) × (m ≤ 2 ^ 40) × (n ≤ 2 ^ 40) × Under (2 ^ 38) (s .e) × Under (2 ^ 38) (s .f) × Stands (now a) (s .x) × Stands (now b) (s .y) × Chooses (transformTurn order) (now a) (now b) (s .x) (s .y) Turn.Together × (s .x .kind ≡ 2) × (s .y .kind ≡ 2) × (length (now «out_a») ≤ textStart m) × (length (now «out_b») ≤ textStart n) ⌝ }
+    ensures { λ r. ⌜ TogetherBoth m n (now (a .entry)) (now (b .entry)) s (now («out_a» .entry)) (now («out_b» .entry)) r (now («out_a» .exit)) (now («out_b» .exit)) ⌝ }
+{
+    let x = s.x;
+    let y = s.y;
+    let k = x.left;
+    let p = keep(a, b, out_a, m, out_b, n, s, k);
+    let e = p.e;
+    let f = p.f;
+    let g = reader::core::rest(a, na, x, k, x.to);
+    let h = reader::core::rest(b, nb, y, k, y.to);
+    Both { x: g, y: h, e, f }
+}
+
+// Two inserts that meet.
+fn inserts(
+    a: &[u8],
+    na: usize,
+    b: &[u8],
+    nb: usize,
+    out_a: &mut [u8],
+    m: usize,
+    out_b: &mut [u8],
+    n: usize,
+    s: Both,
+) -> Both
+    requires { ⌜ (na ≡ recordsOf (now a)) × (nb ≡ recordsOf (now b)) × (m ≤ 2 ^ 40) × (n ≤ 2 ^ 40) × Under (2 ^ 38) (s .e) × Under (2 ^ 38) (s .f) × Stands (now a) (s .x) × Stands (now b) (s .y) × (s .x .kind ≡ 2) × (s .y .kind ≡ 2) × (length (now «out_a») ≤ textStart m) × (length (now «out_b») ≤ textStart n) ⌝ }
+    ensures { λ r. ⌜ WentBoth m n (now (a .entry)) (now (b .entry)) s (now («out_a» .entry)) (now («out_b» .entry)) r (now («out_a» .exit)) (now («out_b» .exit)) ⌝ }
+{
+    let x = s.x;
+    let y = s.y;
+    match steps::core::rank(a, b, x, y) {
+        Ordering::Less => lesser_first(a, na, out_a, m, s),
+        Ordering::Equal => equal_inserts(a, na, b, nb, out_a, m, out_b, n, s),
+        Ordering::Greater => lesser_second(b, nb, out_b, n, s),
+    }
+}
+
+// One step.
+pub fn turn(
+    a: &[u8],
+    na: usize,
+    b: &[u8],
+    nb: usize,
+    out_a: &mut [u8],
+    m: usize,
+    out_b: &mut [u8],
+    n: usize,
+    s: Both,
+) -> Both
+    requires { ⌜ (na ≡ recordsOf (now a)) × (nb ≡ recordsOf (now b)) × (m ≤ 2 ^ 40) × (n ≤ 2 ^ 40) × Under (2 ^ 38) (s .e) × Under (2 ^ 38) (s .f) × Stands (now a) (s .x) × Stands (now b) (s .y) × (liveIs (s .x) (s .y) ≡ true) × (length (now «out_a») ≤ textStart m) × (length (now «out_b») ≤ textStart n) ⌝ }
+    ensures { λ r. ⌜ WentBoth m n (now (a .entry)) (now (b .entry)) s (now («out_a» .entry)) (now («out_b» .entry)) r (now («out_a» .exit)) (now («out_b» .exit)) ⌝ }
+{
+    let x = s.x;
+    let y = s.y;
+    if x.kind == 2 {
+        if y.kind == 2 {
+            return inserts(a, na, b, nb, out_a, m, out_b, n, s);
+        }
+        return insert_first(a, na, out_a, m, s);
+    }
+    if y.kind == 2 {
+        return insert_second(b, nb, out_b, n, s);
+    }
+    if x.kind == 0 {
+        return second(b, nb, out_b, n, s);
+    }
+    if y.kind == 0 {
+        return first(a, na, out_a, m, s);
+    }
+    together(a, na, b, nb, out_a, m, out_b, n, s)
+}

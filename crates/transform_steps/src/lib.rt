@@ -1,0 +1,3 @@
+// A step of transform.
+
+pub mod core;
