@@ -2,6 +2,8 @@
 use answers::Fact;
 use answers::Refusal;
 use answers::WrittenPair;
+use late_edits::core::MEDIUM_EDIT;
+use log::core::MAX_REVISIONS;
 use log::core::Scan;
 use log::core::Scanned;
 ghost use mathlib.Core.Path.{_≡_};
@@ -13,6 +15,11 @@ ghost use Rattle.log.specs.InnerScan.{Found};
 ghost use Rattle.session.specs.Session.{acceptCall};
 ghost use Rattle.append.specs.InnerAccepting.{Admitted, Accepts};
 
+// An edit of so many bytes at most is short, and so are so many bytes of revisions.
+const SHORT_EDIT: usize = 128;
+
+const FEW_REVISIONS: usize = 384;
+
 // Past n revisions that came meanwhile. A short edit past few bytes of revisions nearly always does with short buffers, which cost little
 // to clear.
 fn late(edit: &[u8], r: u64, log: &mut [u8], s: Scan, n: usize, out: &mut [u8]) -> WrittenPair
@@ -20,13 +27,13 @@ fn late(edit: &[u8], r: u64, log: &mut [u8], s: Scan, n: usize, out: &mut [u8]) 
     ensures { λ x. ⌜ Accepts (now (edit .entry)) r (now (log .entry)) (now (out .entry)) x (now (log .exit)) (now (out .exit)) ⌝ }
 {
     let size = reader::core::size(edit);
-    if 1024 < size {
+    if MEDIUM_EDIT < size {
         return late_edits::core::large(edit, r, log, s, n, out);
     }
-    if 128 < size {
+    if SHORT_EDIT < size {
         return late_edits::core::medium(edit, r, log, s, n, out);
     }
-    if s.at + 384 < s.size {
+    if s.at + FEW_REVISIONS < s.size {
         return late_edits::core::medium(edit, r, log, s, n, out);
     }
     late_edits::core::small(edit, r, log, s, n, out)
@@ -45,7 +52,7 @@ fn admit(edit: &[u8], r: u64, log: &mut [u8], s: Scan, out: &mut [u8]) -> Writte
     if base != s.len {
         return WrittenPair::Refused(Refusal::IncompatibleLengths);
     }
-    if 256 <= s.count {
+    if MAX_REVISIONS <= s.count {
         return WrittenPair::Refused(Refusal::Limit);
     }
     if r == count {

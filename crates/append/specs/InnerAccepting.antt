@@ -11,7 +11,7 @@ use Rattle.answers.specs.declared.WrittenPair.the-variants as written
 use Rattle.record.specs.Layout.{baseOf}
 use Rattle.record.specs.Record.{recordFault, ops}
 use Rattle.log.specs.declared.core.Scan.{Scan}
-use Rattle.log.specs.Log.{countOf, lengthAt, revisions, encodeAll}
+use Rattle.log.specs.Log.{countOf, lengthAt, revisions, encodeAll, maxRevisions}
 use Rattle.log.specs.InnerScan.{Found}
 use Rattle.session.specs.Rows.{rebase}
 use Rattle.session.specs.Session.{acceptCall}
@@ -25,7 +25,7 @@ pub record Admitted (edit : List ℕ) (r : ℕ) (log : List ℕ) (s : Scan) : Ty
   pub found : Found log r s
   pub rev : r ≤ countOf log
   pub meets : baseOf edit ≡ lengthAt r log
-  pub few : countOf log < 256
+  pub few : countOf log < maxRevisions
 
 -- the log has room for `size` bytes more, and the output for so many
 pub record Rooms (log : List ℕ) (used size : ℕ) (out : List ℕ) (bytes : ℕ) (v : Bool) : Type 0 where

@@ -7,7 +7,7 @@ ghost use lib.ListN.{length, take};
 ghost use mathlib.Core.Path.{_≡_};
 ghost use Rattle.record.specs.Record.{ops, recordFault};
 ghost use Rattle.record.specs.Layout.{sizeOf};
-ghost use Rattle.log.specs.Log.{countOf, sizeOfLog};
+ghost use Rattle.log.specs.Log.{countOf, sizeOfLog, maxRevisions};
 ghost use Rattle.session.specs.Session.{append as appended};
 ghost use Rattle.rebase.specs.InnerRunning.{Holds};
 ghost use Rattle.append.specs.InnerAccepting.{Rooms, Admitted, Accepts, MovedPast, Stored, Tries};
@@ -25,7 +25,7 @@ pub fn has_room(log: &[u8], used: usize, size: usize, out: &[u8], bytes: usize) 
 
 // A record of `size` bytes behind the log's contents, and one revision more.
 pub fn append(log: &mut [u8], s: Scan, rec: &[u8], size: usize)
-    requires { ⌜ (s .count ≡ countOf (now log)) × (s .count ≤ 256) × (s .size ≡ sizeOfLog (now log)) × (s .size ≤ 2 ^ 50) × (size ≤ length (now rec)) × (s .size + size ≤ length (now log)) ⌝ }
+    requires { ⌜ (s .count ≡ countOf (now log)) × (s .count ≤ maxRevisions) × (s .size ≡ sizeOfLog (now log)) × (s .size ≤ 2 ^ 50) × (size ≤ length (now rec)) × (s .size + size ≤ length (now log)) ⌝ }
     ensures { λ _. ⌜ now (log .exit) ≡ appended (now (log .entry)) (take size (now (rec .entry))) ⌝ }
 {
     buffers::core::copy(log, s.size, rec, 0, size);

@@ -1,5 +1,7 @@
 // A record is gone through operation by operation, the text along with it. What has no place in the output is not written: a
 // run on an empty output yields the size.
+use record::core::INSERT;
+use record::core::RETAIN;
 ghost use mathlib.Core.Path.{_≡_};
 ghost use Prim.Native.Nat.{_≤_, _<_};
 ghost use lib.Dec.{T};
@@ -54,7 +56,7 @@ fn step(out: &mut [u8], rec: &[u8], n: usize, text: &[u8], chars: usize, s: Stat
     let len = s.len;
     let kind = reader::core::kind(rec, k);
     let count = reader::core::count(rec, n, k);
-    if kind == 2 {
+    if kind == INSERT {
         let to = from + count;
         buffers::core::copy_short(out, len, rec, from, to);
         return State {
@@ -65,7 +67,7 @@ fn step(out: &mut [u8], rec: &[u8], n: usize, text: &[u8], chars: usize, s: Stat
         };
     }
     let end = end_of(text, chars, at, count, n - k);
-    if kind == 1 {
+    if kind == RETAIN {
         buffers::core::copy_short(out, len, text, at, end);
         return State {
             k: k + 1,

@@ -11,6 +11,9 @@ fn wide(b: u8) -> u64
     b as u64
 }
 
+// The top bit of each byte of a word: set where the byte is not ASCII.
+const TOP_BITS: u64 = 0x8080_8080_8080_8080;
+
 // The eight bytes at `at` as one number, the first lowest. Written out, this is one load.
 pub fn word(text: &[u8], at: usize) -> u64
     requires { ⌜ at + 8 ≤ length (now text) ⌝ }
@@ -31,7 +34,7 @@ pub fn eight(text: &[u8], at: usize) -> bool
     requires { ⌜ at + 8 ≤ length (now text) ⌝ }
     ensures { λ r. ⌜ r ≡ allOf isAscii (take 8 (drop at (now (text .entry)))) ⌝ }
 {
-    word(text, at) & 0x8080_8080_8080_8080 == 0
+    word(text, at) & TOP_BITS == 0
 }
 
 // The words of the bytes at `at`, one laid over another.
@@ -47,7 +50,7 @@ pub fn plain(text: &[u8], at: usize) -> bool
     requires { ⌜ at + 16 ≤ length (now text) ⌝ }
     ensures { λ r. ⌜ r ≡ allOf isAscii (take 16 (drop at (now (text .entry)))) ⌝ }
 {
-    sixteen(text, at) & 0x8080_8080_8080_8080 == 0
+    sixteen(text, at) & TOP_BITS == 0
 }
 
 fn thirty_two(text: &[u8], at: usize) -> u64
@@ -61,7 +64,7 @@ fn sixty_four(text: &[u8], at: usize) -> bool
     requires { ⌜ at + 64 ≤ length (now text) ⌝ }
     ensures { λ r. ⌜ r ≡ allOf isAscii (take 64 (drop at (now (text .entry)))) ⌝ }
 {
-    (thirty_two(text, at) | thirty_two(text, at + 32)) & 0x8080_8080_8080_8080 == 0
+    (thirty_two(text, at) | thirty_two(text, at + 32)) & TOP_BITS == 0
 }
 
 // Whether the sixty-four bytes at `at` are there and ASCII.

@@ -7,6 +7,10 @@ use answers::Refusal;
 use answers::Written;
 use characters::Form;
 use emitter::core::Emitter;
+use record::core::DELETE;
+use record::core::INSERT;
+use record::core::MAX_SIZE;
+use record::core::RETAIN;
 ghost use mathlib.Core.Path.{_≡_};
 ghost use Prim.Native.Nat.{_≤_, _<_, _+_, _^_};
 ghost use mathlib.Core.List.{[]};
@@ -20,11 +24,14 @@ ghost use Rattle.edits.specs.Op.{retain, delete, insert};
 ghost use Rattle.edits.specs.Build.{extend};
 ghost use Rattle.answers.specs.InnerGiven.{Gives};
 ghost use Rattle.answers.specs.Answer.{writtenOf};
-ghost use Rattle.record.specs.Layout.{recordsOf, textStart};
+ghost use Rattle.record.specs.Layout.{recordsOf, textStart, maxOps, maxSize};
 ghost use Rattle.record.specs.Record.{recordFault, ops};
 ghost use Rattle.operational_transform.specs.Calls.{deliver, retainCall, deleteCall, insertCall};
 ghost use Rattle.emitter.specs.InnerEmit.{one, Under, settled, flushed, headed};
 ghost use Rattle.builders.specs.InnerExtending.{lastCount, closedOf, Grown};
+
+// The limit of a count, for counts of 64 bits.
+const LIMIT: u64 = MAX_SIZE as u64;
 
 // The count of the record before record k, where it is of this kind; else 0.
 fn ending(rec: &[u8], records: usize, k: usize, kind: u8) -> usize
@@ -72,10 +79,10 @@ fn closed(f: Emitter) -> Emitter
 
 // The sequence with k characters more retained: the retain at its end is pending.
 fn retain_more(rec: &[u8], records: usize, k: usize) -> Emitter
-    requires { ⌜ (recordFault (now rec) ≡ 0) × (records ≡ recordsOf (now rec)) × (records ≤ 1024) × (k ≤ 32768) ⌝ }
+    requires { ⌜ (recordFault (now rec) ≡ 0) × (records ≡ recordsOf (now rec)) × (records ≤ maxOps) × (k ≤ maxSize) ⌝ }
     ensures { λ r. ⌜ Grown (now (rec .entry)) (retain k) [] r × (r .ins ≡ 0) × (r .del ≡ 0) ⌝ }
 {
-    let ret = ending(rec, records, records, 1);
+    let ret = ending(rec, records, records, RETAIN);
     Emitter {
         ins: 0,
         del: 0,
@@ -89,10 +96,10 @@ fn retain_more(rec: &[u8], records: usize, k: usize) -> Emitter
 
 // With k characters more deleted: the delete at its end is pending.
 fn delete_more(rec: &[u8], records: usize, k: usize) -> Emitter
-    requires { ⌜ (recordFault (now rec) ≡ 0) × (records ≡ recordsOf (now rec)) × (records ≤ 1024) × (k ≤ 32768) ⌝ }
+    requires { ⌜ (recordFault (now rec) ≡ 0) × (records ≡ recordsOf (now rec)) × (records ≤ maxOps) × (k ≤ maxSize) ⌝ }
     ensures { λ r. ⌜ Grown (now (rec .entry)) (delete k) [] r × (r .ins ≡ 0) × (r .ret ≡ 0) ⌝ }
 {
-    let del = ending(rec, records, records, 3);
+    let del = ending(rec, records, records, DELETE);
     Emitter {
         ins: 0,
         del: del + k,
@@ -106,12 +113,12 @@ fn delete_more(rec: &[u8], records: usize, k: usize) -> Emitter
 
 // With the text inserted: a delete at the end and the insert before it are pending. (`text` is what the contract speaks of.)
 fn insert_more(rec: &[u8], records: usize, text: &[u8], num: usize) -> Emitter
-    requires { ⌜ (recordFault (now rec) ≡ 0) × (records ≡ recordsOf (now rec)) × (records ≤ 1024) × T (wellFormed (now text)) × (num ≡ numChars (now text)) × (length (now text) ≤ 32768) ⌝ }
+    requires { ⌜ (recordFault (now rec) ≡ 0) × (records ≡ recordsOf (now rec)) × (records ≤ maxOps) × T (wellFormed (now text)) × (num ≡ numChars (now text)) × (length (now text) ≤ maxSize) ⌝ }
     ensures { λ r. ⌜ Grown (now (rec .entry)) (insert (chars (now (text .entry)))) (now (text .entry)) r × (r .ret ≡ 0) ⌝ }
 {
-    let del = ending(rec, records, records, 3);
+    let del = ending(rec, records, records, DELETE);
     let y = before(records, del);
-    let ins = ending(rec, records, y, 2);
+    let ins = ending(rec, records, y, INSERT);
     Emitter {
         ins: ins + text.len(),
         del,
@@ -152,7 +159,7 @@ fn finish(out: &mut [u8], f: Emitter, g: Emitter)
 
 // Of a record that was checked, and a count within the limits.
 fn retained(rec: &[u8], k: usize, out: &mut [u8]) -> Written
-    requires { ⌜ (recordFault (now rec) ≡ 0) × (k ≤ 32768) ⌝ }
+    requires { ⌜ (recordFault (now rec) ≡ 0) × (k ≤ maxSize) ⌝ }
     ensures { λ r. ⌜ Gives (deliver 0 (extend (ops (now (rec .entry))) (retain k)) (now (out .entry))) r (now (out .exit)) ⌝ }
 {
     let records = reader::core::records(rec);
@@ -170,7 +177,7 @@ fn retained(rec: &[u8], k: usize, out: &mut [u8]) -> Written
 }
 
 fn deleted(rec: &[u8], k: usize, out: &mut [u8]) -> Written
-    requires { ⌜ (recordFault (now rec) ≡ 0) × (k ≤ 32768) ⌝ }
+    requires { ⌜ (recordFault (now rec) ≡ 0) × (k ≤ maxSize) ⌝ }
     ensures { λ r. ⌜ Gives (deliver 0 (extend (ops (now (rec .entry))) (delete k)) (now (out .entry))) r (now (out .exit)) ⌝ }
 {
     let records = reader::core::records(rec);
@@ -188,7 +195,7 @@ fn deleted(rec: &[u8], k: usize, out: &mut [u8]) -> Written
 }
 
 fn inserted(rec: &[u8], text: &[u8], num: usize, out: &mut [u8]) -> Written
-    requires { ⌜ (recordFault (now rec) ≡ 0) × T (wellFormed (now text)) × (num ≡ numChars (now text)) × (length (now text) ≤ 32768) ⌝ }
+    requires { ⌜ (recordFault (now rec) ≡ 0) × T (wellFormed (now text)) × (num ≡ numChars (now text)) × (length (now text) ≤ maxSize) ⌝ }
     ensures { λ r. ⌜ Gives (deliver 0 (extend (ops (now (rec .entry))) (insert (chars (now (text .entry))))) (now (out .entry))) r (now (out .exit)) ⌝ }
 {
     let records = reader::core::records(rec);
@@ -213,7 +220,7 @@ pub fn retain(rec: &[u8], n: u64, out: &mut [u8]) -> Written
     match operation::check(rec) {
         Fact::Refused(y) => Written::Refused(y),
         Fact::Is(_) => {
-            if 32768 < n {
+            if LIMIT < n {
                 return Written::Refused(Refusal::Limit);
             }
             retained(rec, n as usize, out)
@@ -228,7 +235,7 @@ pub fn delete(rec: &[u8], n: u64, out: &mut [u8]) -> Written
     match operation::check(rec) {
         Fact::Refused(y) => Written::Refused(y),
         Fact::Is(_) => {
-            if 32768 < n {
+            if LIMIT < n {
                 return Written::Refused(Refusal::Limit);
             }
             deleted(rec, n as usize, out)
@@ -246,7 +253,7 @@ pub fn insert(rec: &[u8], text: &[u8], out: &mut [u8]) -> Written
             let Form::Chars(num) = utf8::core::typed_form(text) else {
                 return Written::Refused(Refusal::Utf8);
             };
-            if 32768 < text.len() {
+            if MAX_SIZE < text.len() {
                 return Written::Refused(Refusal::Limit);
             }
             inserted(rec, text, num, out)

@@ -2,11 +2,12 @@
 use answers::Refusal;
 use answers::Written;
 use emitter::core::Emitter;
+use record::core::MAX_OPS;
 ghost use mathlib.Core.Path.{_≡_};
 ghost use Prim.Native.Nat.{_^_, _≤_};
 ghost use Rattle.edits.specs.Compose.{compose as composeOf};
 ghost use Rattle.answers.specs.InnerGiven.{Gives};
-ghost use Rattle.record.specs.Layout.{recordsOf, baseOf, targetOf};
+ghost use Rattle.record.specs.Layout.{recordsOf, baseOf, targetOf, maxOps};
 ghost use Rattle.record.specs.Record.{ops, recordFault};
 ghost use Rattle.operational_transform.specs.Calls.{composeCall};
 ghost use Rattle.emitter.specs.InnerEmit.{Done, Writes, Under, Staged};
@@ -14,6 +15,13 @@ ghost use Rattle.compose.specs.InnerSized.{between};
 
 // A step is one piece of code for each pair of kinds: once they are known, nothing asks for them again. Each piece has one caller,
 // so that the state stays in registers.
+
+// The stages in bytes.
+const SMALL_STAGE: usize = 128;
+
+const MEDIUM_STAGE: usize = 1024;
+
+const LARGE_STAGE: usize = 8192;
 
 // How many records and bytes of text a result has. Its base is the first's and its target the second's: no sum of them is kept.
 pub struct Sizes {
@@ -23,7 +31,7 @@ pub struct Sizes {
 
 // All of compose, for a result of n records.
 fn run(a: &[u8], na: usize, b: &[u8], nb: usize, out: &mut [u8], n: usize) -> Sizes
-    requires { ⌜ (na ≡ recordsOf (now a)) × (na ≤ 1024) × (nb ≡ recordsOf (now b)) × (nb ≤ 1024) × (n ≤ 2 ^ 40) × (recordFault (now a) ≡ 0) × (recordFault (now b) ≡ 0) × (targetOf (now a) ≡ baseOf (now b)) ⌝ }
+    requires { ⌜ (na ≡ recordsOf (now a)) × (na ≤ maxOps) × (nb ≡ recordsOf (now b)) × (nb ≤ maxOps) × (n ≤ 2 ^ 40) × (recordFault (now a) ≡ 0) × (recordFault (now b) ≡ 0) × (targetOf (now a) ≡ baseOf (now b)) ⌝ }
     ensures { λ r. ⌜ Done n (composeOf (ops (now (a .entry))) (ops (now (b .entry)))) (now (out .entry)) (between (now (a .entry)) (now (b .entry)) r) (now (out .exit)) ⌝ }
 {
     let mut s = steps::core::begin(a, na, b, nb);
@@ -56,7 +64,7 @@ fn sized(a: &[u8], b: &[u8], z: Sizes) -> Emitter
 
 // The record of a result of n records.
 fn write(a: &[u8], na: usize, b: &[u8], nb: usize, out: &mut [u8], n: usize)
-    requires { ⌜ (na ≡ recordsOf (now a)) × (na ≤ 1024) × (nb ≡ recordsOf (now b)) × (nb ≤ 1024) × (n ≤ 2 ^ 40) × (recordFault (now a) ≡ 0) × (recordFault (now b) ≡ 0) × (targetOf (now a) ≡ baseOf (now b)) ⌝ }
+    requires { ⌜ (na ≡ recordsOf (now a)) × (na ≤ maxOps) × (nb ≡ recordsOf (now b)) × (nb ≤ maxOps) × (n ≤ 2 ^ 40) × (recordFault (now a) ≡ 0) × (recordFault (now b) ≡ 0) × (targetOf (now a) ≡ baseOf (now b)) ⌝ }
     ensures { λ _. ⌜ Writes n (composeOf (ops (now (a .entry))) (ops (now (b .entry)))) (now (out .entry)) (now (out .exit)) ⌝ }
 {
     let z = run(a, na, b, nb, out, n);
@@ -75,7 +83,7 @@ fn place(
     e: Emitter,
     out: &mut [u8],
 )
-    requires { ⌜ (na ≡ recordsOf (now a)) × (na ≤ 1024) × (nb ≡ recordsOf (now b)) × (nb ≤ 1024) × (recordFault (now a) ≡ 0) × (recordFault (now b) ≡ 0) × (slots ≤ 2048) × (targetOf (now a) ≡ baseOf (now b)) × Under (2 ^ 40) e × Staged slots (composeOf (ops (now a)) (ops (now b))) e (now stage) ⌝ }
+    requires { ⌜ (na ≡ recordsOf (now a)) × (na ≤ maxOps) × (nb ≡ recordsOf (now b)) × (nb ≤ maxOps) × (recordFault (now a) ≡ 0) × (recordFault (now b) ≡ 0) × (slots ≤ 2048) × (targetOf (now a) ≡ baseOf (now b)) × Under (2 ^ 40) e × Staged slots (composeOf (ops (now a)) (ops (now b))) e (now stage) ⌝ }
     ensures { λ _. ⌜ Writes (e .records) (composeOf (ops (now (a .entry))) (ops (now (b .entry)))) (now (out .entry)) (now (out .exit)) ⌝ }
 {
     if !emitter::core::has_place(e, slots, stage.len()) {
@@ -96,7 +104,7 @@ fn staged(
     slots: usize,
     out: &mut [u8],
 ) -> Written
-    requires { ⌜ (na ≡ recordsOf (now a)) × (na ≤ 1024) × (nb ≡ recordsOf (now b)) × (nb ≤ 1024) × (recordFault (now a) ≡ 0) × (recordFault (now b) ≡ 0) × (slots ≤ 2048) × (targetOf (now a) ≡ baseOf (now b)) ⌝ }
+    requires { ⌜ (na ≡ recordsOf (now a)) × (na ≤ maxOps) × (nb ≡ recordsOf (now b)) × (nb ≤ maxOps) × (recordFault (now a) ≡ 0) × (recordFault (now b) ≡ 0) × (slots ≤ 2048) × (targetOf (now a) ≡ baseOf (now b)) ⌝ }
     ensures { λ r. ⌜ Gives (composeCall (now (a .entry)) (now (b .entry)) (now (out .entry))) r (now (out .exit)) ⌝ }
 {
     // made anew, since a slice that is handed on as it came is copied, and the copy waits for its bytes
@@ -114,10 +122,10 @@ fn staged(
 // With stages of several lengths: what is cleared is paid for. (The answer is taken apart because one that is handed on whole is
 // copied, and the copy waits for the bytes.)
 fn small(a: &[u8], na: usize, b: &[u8], nb: usize, out: &mut [u8]) -> Written
-    requires { ⌜ (na ≡ recordsOf (now a)) × (na ≤ 1024) × (nb ≡ recordsOf (now b)) × (nb ≤ 1024) × (recordFault (now a) ≡ 0) × (recordFault (now b) ≡ 0) × (targetOf (now a) ≡ baseOf (now b)) ⌝ }
+    requires { ⌜ (na ≡ recordsOf (now a)) × (na ≤ maxOps) × (nb ≡ recordsOf (now b)) × (nb ≤ maxOps) × (recordFault (now a) ≡ 0) × (recordFault (now b) ≡ 0) × (targetOf (now a) ≡ baseOf (now b)) ⌝ }
     ensures { λ r. ⌜ Gives (composeCall (now (a .entry)) (now (b .entry)) (now (out .entry))) r (now (out .exit)) ⌝ }
 {
-    let mut stage = [0u8; 128];
+    let mut stage = [0u8; SMALL_STAGE];
     match staged(a, na, b, nb, &mut stage, na + nb, out) {
         Written::Bytes(k) => Written::Bytes(k),
         Written::Refused(x) => Written::Refused(x),
@@ -125,10 +133,10 @@ fn small(a: &[u8], na: usize, b: &[u8], nb: usize, out: &mut [u8]) -> Written
 }
 
 fn medium(a: &[u8], na: usize, b: &[u8], nb: usize, out: &mut [u8]) -> Written
-    requires { ⌜ (na ≡ recordsOf (now a)) × (na ≤ 1024) × (nb ≡ recordsOf (now b)) × (nb ≤ 1024) × (recordFault (now a) ≡ 0) × (recordFault (now b) ≡ 0) × (targetOf (now a) ≡ baseOf (now b)) ⌝ }
+    requires { ⌜ (na ≡ recordsOf (now a)) × (na ≤ maxOps) × (nb ≡ recordsOf (now b)) × (nb ≤ maxOps) × (recordFault (now a) ≡ 0) × (recordFault (now b) ≡ 0) × (targetOf (now a) ≡ baseOf (now b)) ⌝ }
     ensures { λ r. ⌜ Gives (composeCall (now (a .entry)) (now (b .entry)) (now (out .entry))) r (now (out .exit)) ⌝ }
 {
-    let mut stage = [0u8; 1024];
+    let mut stage = [0u8; MEDIUM_STAGE];
     match staged(a, na, b, nb, &mut stage, na + nb, out) {
         Written::Bytes(k) => Written::Bytes(k),
         Written::Refused(x) => Written::Refused(x),
@@ -136,10 +144,10 @@ fn medium(a: &[u8], na: usize, b: &[u8], nb: usize, out: &mut [u8]) -> Written
 }
 
 fn large(a: &[u8], na: usize, b: &[u8], nb: usize, slots: usize, out: &mut [u8]) -> Written
-    requires { ⌜ (na ≡ recordsOf (now a)) × (na ≤ 1024) × (nb ≡ recordsOf (now b)) × (nb ≤ 1024) × (recordFault (now a) ≡ 0) × (recordFault (now b) ≡ 0) × (slots ≤ 2048) × (targetOf (now a) ≡ baseOf (now b)) ⌝ }
+    requires { ⌜ (na ≡ recordsOf (now a)) × (na ≤ maxOps) × (nb ≡ recordsOf (now b)) × (nb ≤ maxOps) × (recordFault (now a) ≡ 0) × (recordFault (now b) ≡ 0) × (slots ≤ 2048) × (targetOf (now a) ≡ baseOf (now b)) ⌝ }
     ensures { λ r. ⌜ Gives (composeCall (now (a .entry)) (now (b .entry)) (now (out .entry))) r (now (out .exit)) ⌝ }
 {
-    let mut stage = [0u8; 8192];
+    let mut stage = [0u8; LARGE_STAGE];
     staged(a, na, b, nb, &mut stage, slots, out)
 }
 
@@ -156,16 +164,16 @@ pub fn composed(a: &[u8], b: &[u8], out: &mut [u8]) -> Written
     let na = reader::core::records(a);
     let nb = reader::core::records(b);
     // a result of more than 1,024 is refused
-    if 1024 < na + nb {
-        return large(a, na, b, nb, 1024, out);
+    if MAX_OPS < na + nb {
+        return large(a, na, b, nb, MAX_OPS, out);
     }
     let most = layout::core::text_start(na + nb)
         + reader::core::text_bytes(a)
         + reader::core::text_bytes(b);
-    if 1024 < most {
+    if MEDIUM_STAGE < most {
         return large(a, na, b, nb, na + nb, out);
     }
-    if 128 < most {
+    if SMALL_STAGE < most {
         return medium(a, na, b, nb, out);
     }
     small(a, na, b, nb, out)

@@ -1,5 +1,9 @@
 // One step of compose over the front operations of two records that were checked.
 use emitter::core::Emitter;
+use record::core::AT_DELETE;
+use record::core::AT_END;
+use record::core::AT_INSERT;
+use record::core::AT_RETAIN;
 use record::core::Front;
 use steps::core::State;
 ghost use mathlib.Core.Path.{_≡_};
@@ -182,8 +186,8 @@ fn together(a: &[u8], na: usize, b: &[u8], nb: usize, out: &mut [u8], n: usize, 
 {
     let x = s.x;
     let y = s.y;
-    if x.kind == 2 {
-        if y.kind == 1 {
+    if x.kind == AT_INSERT {
+        if y.kind == AT_RETAIN {
             return insert_retain(a, na, b, nb, out, n, s);
         }
         return insert_delete(a, na, b, nb, out, n, s);
@@ -198,16 +202,16 @@ pub fn turn(a: &[u8], na: usize, b: &[u8], nb: usize, out: &mut [u8], n: usize, 
 {
     let x = s.x;
     let y = s.y;
-    if x.kind == 3 {
+    if x.kind == AT_DELETE {
         return delete_first(a, na, b, out, n, s);
     }
-    if y.kind == 2 {
+    if y.kind == AT_INSERT {
         return insert_second(a, b, nb, out, n, s);
     }
-    if x.kind == 0 {
+    if x.kind == AT_END {
         return only_second(a, b, nb, out, n, s);
     }
-    if y.kind == 0 {
+    if y.kind == AT_END {
         return only_first(a, na, b, out, n, s);
     }
     together(a, na, b, nb, out, n, s)

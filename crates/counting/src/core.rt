@@ -57,13 +57,16 @@ pub fn count_in(text: &[u8], at: usize, to: usize) -> usize
     count(&text[at..to])
 }
 
+// The lowest bit of each byte of a word.
+const LOW_BITS: u64 = 0x0101_0101_0101_0101;
+
 // Each byte that is no continuation, marked by the lowest bit of its place in the word.
 fn marks(text: &[u8], at: usize) -> u64
     requires { ⌜ at + 8 ≤ length (now text) ⌝ }
     ensures { λ r. ⌜ (r ≡ marksOf (take 8 (drop at (now (text .entry))))) × (r ≤ 0x0101_0101_0101_0101) ⌝ }
 {
     let w = ascii::core::word(text, at);
-    ((!w >> 7) | (w >> 6)) & 0x0101_0101_0101_0101
+    ((!w >> 7) | (w >> 6)) & LOW_BITS
 }
 
 // The marks of the last bytes, fewer than eight of them: those of the text's last word, shifted down.

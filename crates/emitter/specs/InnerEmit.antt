@@ -15,7 +15,7 @@ use Rattle.answers.specs.declared.Written.{Written}
 use Rattle.answers.specs.declared.Written.the-variants as written
 use Rattle.answers.specs.declared.WrittenPair.{WrittenPair}
 use Rattle.answers.specs.declared.WrittenPair.the-variants as pair
-use Rattle.record.specs.Layout.{kindsStart, countsStart, textStart}
+use Rattle.record.specs.Layout.{kindsStart, countsStart, textStart, maxOps, maxSize, deleteKind, insertKind, retainKind}
 use Rattle.record.specs.Record.{text, inBytes, code, inserted}
 use Rattle.emitter.specs.declared.core.Emitter.{Emitter}
 
@@ -39,7 +39,7 @@ flushedRecords e = e .records + one (e .ins) + one (e .del) + one (e .ret)
 
 unfoldable pub flushedAt : ℕ → ℕ → ℕ → ℕ → ℕ → List ℕ → List ℕ
 unfolding emitted
-flushedAt n records ins del ret o = emitted n (records + one ins + one del) 1 ret (emitted n (records + one ins) 3 del (emitted n records 2 ins o))
+flushedAt n records ins del ret o = emitted n (records + one ins + one del) retainKind ret (emitted n (records + one ins) deleteKind del (emitted n records insertKind ins o))
 
 abbrev pub flushed : ℕ → Emitter → List ℕ → List ℕ
 flushed n e o = flushedAt n (e .records) (e .ins) (e .del) (e .ret) o
@@ -181,7 +181,7 @@ settled slots n k t stage o = settledRecords slots n k stage (over (textStart n)
 -- ---- the answer of a call that would write a record of these sizes: 9, then 10
 
 abbrev pub within : Emitter → Bool
-within e = leb (e .records) 1024 && (leb (e .text) 32768 && (leb (e .base) 32768 && leb (e .target) 32768))
+within e = leb (e .records) maxOps && (leb (e .text) maxSize && (leb (e .base) maxSize && leb (e .target) maxSize))
 
 abbrev pub sizeIn : Emitter → ℕ
 sizeIn e = textStart (e .records) + e .text

@@ -6,7 +6,14 @@
 // run on an empty buffer yields the sizes.
 use answers::Refusal;
 use answers::Written;
+use record::core::AT_INSERT;
+use record::core::AT_RETAIN;
+use record::core::DELETE;
 use record::core::Front;
+use record::core::INSERT;
+use record::core::MAX_OPS;
+use record::core::MAX_SIZE;
+use record::core::RETAIN;
 ghost use mathlib.Core.Path.{_≡_};
 ghost use Prim.Native.Nat.{_+_, _^_, _≤_, _*_, _<_, _-_};
 ghost use lib.ListN.{length, take, drop};
@@ -99,11 +106,11 @@ fn close(out: &mut [u8], n: usize, records: usize, ins: usize, del: usize, ret: 
     requires { ⌜ (n ≤ 2 ^ 40) × (records ≤ 2 ^ 40) × (0 < ret) × (records + 2 < n) × (countsStart n + 2 * records + 5 < length (now out)) ⌝ }
     ensures { λ r. ⌜ (r ≡ records + one ins + one del + one ret) × (r ≤ records + 3) × (now (out .exit) ≡ flushedAt n records ins del ret (now (out .entry))) ⌝ }
 {
-    enter(out, n, records, 2, ins);
+    enter(out, n, records, INSERT, ins);
     let x = records + some(ins);
-    enter(out, n, x, 3, del);
+    enter(out, n, x, DELETE, del);
     let y = x + some(del);
-    enter(out, n, y, 1, ret);
+    enter(out, n, y, RETAIN, ret);
     y + 1
 }
 
@@ -115,9 +122,9 @@ pub fn flush(out: &mut [u8], n: usize, records: usize, ins: usize, del: usize, r
     if fits(out.len(), n, records, ret) {
         return close(out, n, records, ins, del, ret);
     }
-    let x = emit(out, n, records, 2, ins);
-    let y = emit(out, n, x, 3, del);
-    emit(out, n, y, 1, ret)
+    let x = emit(out, n, records, INSERT, ins);
+    let y = emit(out, n, x, DELETE, del);
+    emit(out, n, y, RETAIN, ret)
 }
 
 // A pending retain closes the group: what is added behind it begins another.
@@ -262,11 +269,11 @@ pub fn part(
     ensures { λ r. ⌜ Adds n (cut k (frontOp (now (src .entry)) f) ∷ []) e (now (out .entry)) r (now (out .exit)) ⌝ }
 {
     let kind = f.kind;
-    if kind == 1 {
+    if kind == AT_RETAIN {
         return retain(e, k);
     }
     spill(out, n, e);
-    if kind == 2 {
+    if kind == AT_INSERT {
         let from = f.from;
         buffers::core::copy(out, layout::core::text_start(n) + e.text, src, from, mid);
         return inserted(e, mid - from, k);
@@ -288,11 +295,11 @@ pub fn mark(
     ensures { λ r. ⌜ Adds n (cut k (frontOp (now (src .entry)) f) ∷ []) e (now (out .entry)) r (now (out .exit)) ⌝ }
 {
     let kind = f.kind;
-    if kind == 1 {
+    if kind == AT_RETAIN {
         return retain(e, k);
     }
     spill_close(out, n, e);
-    if kind == 2 {
+    if kind == AT_INSERT {
         return inserted(e, mid - f.from, k);
     }
     deleted(e, k)
@@ -319,16 +326,16 @@ pub fn finish(out: &mut [u8], n: usize, e: Emitter) -> Emitter
 pub fn keeps_limits(e: Emitter) -> bool
     ensures { λ r. ⌜ r ≡ within e ⌝ }
 {
-    if 1024 < e.records {
+    if MAX_OPS < e.records {
         return false;
     }
-    if 32768 < e.text {
+    if MAX_SIZE < e.text {
         return false;
     }
-    if 32768 < e.base {
+    if MAX_SIZE < e.base {
         return false;
     }
-    e.target <= 32768
+    e.target <= MAX_SIZE
 }
 
 // How many bytes the record has.

@@ -4,7 +4,11 @@ use answers::Refusal;
 use answers::Written;
 use characters::Form;
 use emitter::core::Emitter;
+use record::core::AT_END;
+use record::core::AT_INSERT;
+use record::core::AT_RETAIN;
 use record::core::Front;
+use record::core::MAX_SIZE;
 ghost use mathlib.Core.Path.{_≡_};
 ghost use Prim.Native.Nat.{_≤_, _-_, _^_, _<_, _+_};
 ghost use lib.Dec.{T, leb, eqb};
@@ -18,7 +22,7 @@ ghost use Rattle.characters.specs.Text.{chars as charsOf};
 ghost use Rattle.edits.specs.Invert.{invert as invertOf};
 ghost use Rattle.answers.specs.InnerGiven.{Gives};
 ghost use Rattle.answers.specs.Answer.{writtenOf};
-ghost use Rattle.record.specs.Layout.{recordsOf, baseOf, textStart};
+ghost use Rattle.record.specs.Layout.{recordsOf, baseOf, textStart, maxOps, maxSize};
 ghost use Rattle.record.specs.Record.{ops, recordFault};
 ghost use Rattle.operational_transform.specs.Calls.{deliver, invertCall};
 ghost use Rattle.emitter.specs.InnerEmit.{Under, Adds, Done, Writes};
@@ -29,7 +33,7 @@ fn past(text: &[u8], chars: usize, at: usize, f: Front) -> usize
     requires { ⌜ (chars ≡ numChars (now text)) × (at ≤ length (now text)) × T (wellFormed (drop at (now text))) ⌝ }
     ensures { λ to. ⌜ Passes (now (text .entry)) at (taken f) to ⌝ }
 {
-    if f.kind == 2 {
+    if f.kind == AT_INSERT {
         return at;
     }
     invert_in_place::core::behind(text, chars, at, f.left)
@@ -60,10 +64,10 @@ fn give(
     ensures { λ r. ⌜ Adds n (undone f (charsOf (drop at (now (text .entry)))) ∷ []) e (now (out .entry)) r (now (out .exit)) ⌝ }
 {
     let kind = f.kind;
-    if kind == 1 {
+    if kind == AT_RETAIN {
         return emitter::core::retain(e, f.left);
     }
-    if kind == 2 {
+    if kind == AT_INSERT {
         return emitter::core::delete(out, n, e, f.left);
     }
     let num = passed(text, at, f.left, to);
@@ -74,7 +78,7 @@ fn give(
 fn is_last_retain(f: Front, records: usize) -> bool
     ensures { λ r. ⌜ r ≡ lastRetain f records ⌝ }
 {
-    if f.kind == 1 {
+    if f.kind == AT_RETAIN {
         return records <= f.next;
     }
     false
@@ -82,13 +86,13 @@ fn is_last_retain(f: Front, records: usize) -> bool
 
 // All of invert, for a result of n records.
 fn run(rec: &[u8], records: usize, text: &[u8], chars: usize, out: &mut [u8], n: usize) -> Emitter
-    requires { ⌜ (recordFault (now rec) ≡ 0) × (records ≡ recordsOf (now rec)) × (records ≤ 1024) × T (wellFormed (now text)) × (chars ≡ numChars (now text)) × (n ≤ 2 ^ 40) ⌝ }
+    requires { ⌜ (recordFault (now rec) ≡ 0) × (records ≡ recordsOf (now rec)) × (records ≤ maxOps) × T (wellFormed (now text)) × (chars ≡ numChars (now text)) × (n ≤ 2 ^ 40) ⌝ }
     ensures { λ r. ⌜ Done n (invertOf (ops (now (rec .entry))) (charsOf (now (text .entry)))) (now (out .entry)) r (now (out .exit)) ⌝ }
 {
     let mut e = emitter::core::start();
     let mut f = reader::core::first(rec, records);
     let mut at = 0;
-    while f.kind != 0 {
+    while f.kind != AT_END {
         if is_last_retain(f, records) {
             let d = emitter::core::retain(e, f.left);
             return emitter::core::finish(out, n, d);
@@ -103,7 +107,7 @@ fn run(rec: &[u8], records: usize, text: &[u8], chars: usize, out: &mut [u8], n:
 
 // The record of a result of n records.
 fn write(rec: &[u8], records: usize, text: &[u8], chars: usize, out: &mut [u8], n: usize)
-    requires { ⌜ (recordFault (now rec) ≡ 0) × (records ≡ recordsOf (now rec)) × (records ≤ 1024) × T (wellFormed (now text)) × (chars ≡ numChars (now text)) × (n ≤ 2 ^ 40) ⌝ }
+    requires { ⌜ (recordFault (now rec) ≡ 0) × (records ≡ recordsOf (now rec)) × (records ≤ maxOps) × T (wellFormed (now text)) × (chars ≡ numChars (now text)) × (n ≤ 2 ^ 40) ⌝ }
     ensures { λ _. ⌜ Writes n (invertOf (ops (now (rec .entry))) (charsOf (now (text .entry)))) (now (out .entry)) (now (out .exit)) ⌝ }
 {
     let e = run(rec, records, text, chars, out, n);
@@ -113,13 +117,13 @@ fn write(rec: &[u8], records: usize, text: &[u8], chars: usize, out: &mut [u8], 
 // Whether nothing can be refused: on a text of base characters the inverse has as many records as the record, and no more text
 // than the text.
 fn evident(rec: &[u8], records: usize, text: &[u8], chars: usize, room: usize) -> bool
-    requires { ⌜ (recordFault (now rec) ≡ 0) × (records ≤ 1024) ⌝ }
-    ensures { λ r. ⌜ r ≡ (eqb chars (baseOf (now (rec .entry))) && (leb (length (now (text .entry))) 32768 && leb (textStart records + length (now (text .entry))) room)) ⌝ }
+    requires { ⌜ (recordFault (now rec) ≡ 0) × (records ≤ maxOps) ⌝ }
+    ensures { λ r. ⌜ r ≡ (eqb chars (baseOf (now (rec .entry))) && (leb (length (now (text .entry))) maxSize && leb (textStart records + length (now (text .entry))) room)) ⌝ }
 {
     if chars != reader::core::base(rec) {
         return false;
     }
-    if 32768 < text.len() {
+    if MAX_SIZE < text.len() {
         return false;
     }
     layout::core::text_start(records) + text.len() <= room
@@ -127,7 +131,7 @@ fn evident(rec: &[u8], records: usize, text: &[u8], chars: usize, room: usize) -
 
 // Else a first run yields the sizes and writes nothing.
 fn twice(rec: &[u8], records: usize, text: &[u8], chars: usize, out: &mut [u8]) -> Written
-    requires { ⌜ (recordFault (now rec) ≡ 0) × (records ≡ recordsOf (now rec)) × (records ≤ 1024) × T (wellFormed (now text)) × (chars ≡ numChars (now text)) ⌝ }
+    requires { ⌜ (recordFault (now rec) ≡ 0) × (records ≡ recordsOf (now rec)) × (records ≤ maxOps) × T (wellFormed (now text)) × (chars ≡ numChars (now text)) ⌝ }
     ensures { λ r. ⌜ Gives (deliver 0 (invertOf (ops (now (rec .entry))) (charsOf (now (text .entry)))) (now (out .entry))) r (now (out .exit)) ⌝ }
 {
     let mut none = [0u8; 0];

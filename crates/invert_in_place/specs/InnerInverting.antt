@@ -15,7 +15,7 @@ use Rattle.edits.specs.Sequence.{Seq}
 use Rattle.edits.specs.Build.{addAll}
 use Rattle.edits.specs.Invert.{undoAll}
 use Rattle.record.specs.declared.core.Front.{Front}
-use Rattle.record.specs.Layout.{kindAt, textStart}
+use Rattle.record.specs.Layout.{kindAt, textStart, deleteKind, insertKind, retainKind}
 use Rattle.record.specs.InnerFront.{opsLeft, Place}
 use Rattle.record.specs.Record.{ops}
 use Rattle.emitter.specs.InnerEmit.{entered, textsOf, laid}
@@ -23,25 +23,25 @@ use Rattle.invert_in_place.specs.declared.core.State.{State}
 
 -- how many characters the front's operation takes from the text, and what undoes it where the text goes on with `t`
 abbrev pub taken : Front → ℕ
-taken f = cond (eqb (f .kind) 2) 0 (f .left)
+taken f = cond (eqb (f .kind) insertKind) 0 (f .left)
 
 abbrev pub undone : Front → List Char → Op Char
-undone f t = cond (eqb (f .kind) 1) (retain (f .left)) (cond (eqb (f .kind) 2) (delete (f .left)) (insert (take (f .left) t)))
+undone f t = cond (eqb (f .kind) retainKind) (retain (f .left)) (cond (eqb (f .kind) insertKind) (delete (f .left)) (insert (take (f .left) t)))
 
 -- the front is a retain, the last of so many records
 abbrev pub lastRetain : Front → ℕ → Bool
-lastRetain f records = cond (eqb (f .kind) 1) (leb records (f .next)) false
+lastRetain f records = cond (eqb (f .kind) retainKind) (leb records (f .next)) false
 
 -- ---- each record at its place at once
 
 -- a delete stands behind record k of n
 abbrev pub deleteBehind : List ℕ → ℕ → ℕ → Bool
-deleteBehind r n k = cond (leb n (k + 1)) false (eqb (kindAt r (k + 1)) 3)
+deleteBehind r n k = cond (leb n (k + 1)) false (eqb (kindAt r (k + 1)) deleteKind)
 
 -- record k inserts `count` characters of the text from `at` up to `to`; its text stands at `put`
 pub record Restores (n : ℕ) (t : List ℕ) (k at put count : ℕ) (o : List ℕ) (to : ℕ) (o′ : List ℕ) : Type 0 where
   pub passes : Passes t at count to
-  pub wrote : o′ ≡ over put (take (to - at) (drop at t)) (entered n k 2 (to - at) o)
+  pub wrote : o′ ≡ over put (take (to - at) (drop at t)) (entered n k insertKind (to - at) o)
 
 -- the state then
 abbrev pub restored : State → ℕ → State

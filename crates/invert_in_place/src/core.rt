@@ -1,5 +1,8 @@
 // Where nothing can be refused each operation is inverted where it stands.
 use answers::Written;
+use record::core::DELETE;
+use record::core::INSERT;
+use record::core::RETAIN;
 ghost use mathlib.Core.Path.{_≡_};
 ghost use Prim.Native.Nat.{_≤_, _^_, _<_, _+_};
 ghost use lib.Dec.{T};
@@ -10,7 +13,7 @@ ghost use Rattle.characters.specs.InnerPlaces.{Passes};
 ghost use Rattle.characters.specs.Text.{chars as charsOf};
 ghost use Rattle.edits.specs.Invert.{invert as invertOf};
 ghost use Rattle.answers.specs.InnerGiven.{Gives};
-ghost use Rattle.record.specs.Layout.{textStart, recordsOf, kindAt, countAt, baseOf};
+ghost use Rattle.record.specs.Layout.{textStart, recordsOf, kindAt, countAt, baseOf, maxOps, maxSize};
 ghost use Rattle.record.specs.Record.{recordFault, ops};
 ghost use Rattle.operational_transform.specs.Calls.{deliver};
 ghost use Rattle.invert_in_place.specs.InnerInverting.{Restores, restored, deleteBehind, Reached, Undoes};
@@ -47,18 +50,18 @@ fn restore(
     put: usize,
     count: usize,
 ) -> usize
-    requires { ⌜ (chars ≡ numChars (now text)) × (at ≤ length (now text)) × T (wellFormed (drop at (now text))) × (n ≤ 1024) × (k < n) × (textStart n ≤ length (now out)) × (put ≤ 2 ^ 50) ⌝ }
+    requires { ⌜ (chars ≡ numChars (now text)) × (at ≤ length (now text)) × T (wellFormed (drop at (now text))) × (n ≤ maxOps) × (k < n) × (textStart n ≤ length (now out)) × (put ≤ 2 ^ 50) ⌝ }
     ensures { λ to. ⌜ Restores n (now (text .entry)) k at put count (now (out .entry)) to (now (out .exit)) ⌝ }
 {
     let to = behind(text, chars, at, count);
-    emitter::core::enter(out, n, k, 2, to - at);
+    emitter::core::enter(out, n, k, INSERT, to - at);
     buffers::core::copy(out, put, text, at, to);
     to
 }
 
 // A delete of `count` characters that no insert stands before.
 fn undo_delete(text: &[u8], chars: usize, out: &mut [u8], n: usize, s: State, count: usize) -> State
-    requires { ⌜ (chars ≡ numChars (now text)) × (s .at ≤ length (now text)) × T (wellFormed (drop (s .at) (now text))) × (length (now text) ≤ 32768) × (n ≤ 1024) × (s .k < n) × (textStart n ≤ length (now out)) × (s .put ≤ textStart n + s .at) ⌝ }
+    requires { ⌜ (chars ≡ numChars (now text)) × (s .at ≤ length (now text)) × T (wellFormed (drop (s .at) (now text))) × (length (now text) ≤ maxSize) × (n ≤ maxOps) × (s .k < n) × (textStart n ≤ length (now out)) × (s .put ≤ textStart n + s .at) ⌝ }
     ensures { λ u. ⌜ (u ≡ restored s (u .at)) × Restores n (now (text .entry)) (s .k) (s .at) (s .put) count (now (out .entry)) (u .at) (now (out .exit)) ⌝ }
 {
     let to = restore(text, chars, out, n, s.k, s.at, s.put, count);
@@ -76,7 +79,7 @@ fn delete_follows(rec: &[u8], n: usize, k: usize) -> bool
     ensures { λ r. ⌜ r ≡ deleteBehind (now (rec .entry)) n k ⌝ }
 {
     if k + 1 < n {
-        return reader::core::kind(rec, k + 1) == 3;
+        return reader::core::kind(rec, k + 1) == DELETE;
     }
     false
 }
@@ -91,7 +94,7 @@ fn undo_insert(
     s: State,
     count: usize,
 ) -> State
-    requires { ⌜ (recordFault (now rec) ≡ 0) × (n ≡ recordsOf (now rec)) × (chars ≡ numChars (now text)) × (length (now text) ≤ 32768) × (textStart n ≤ length (now out)) × Reached n (now rec) (now text) s × (s .k < n) × (kindAt (now rec) (s .k) ≡ 2) × (count ≡ countAt (now rec) (s .k)) × (count < 65536) ⌝ }
+    requires { ⌜ (recordFault (now rec) ≡ 0) × (n ≡ recordsOf (now rec)) × (chars ≡ numChars (now text)) × (length (now text) ≤ maxSize) × (textStart n ≤ length (now out)) × Reached n (now rec) (now text) s × (s .k < n) × (kindAt (now rec) (s .k) ≡ 2) × (count ≡ countAt (now rec) (s .k)) × (count < 65536) ⌝ }
     ensures { λ u. ⌜ Undoes n (now (rec .entry)) (now (text .entry)) s (now (out .entry)) u (now (out .exit)) ⌝ }
 {
     let k = s.k;
@@ -99,7 +102,7 @@ fn undo_insert(
     if delete_follows(rec, n, k) {
         let next = k + 1;
         let more = reader::core::count(rec, n, next);
-        emitter::core::enter(out, n, next, 3, num);
+        emitter::core::enter(out, n, next, DELETE, num);
         let to = restore(text, chars, out, n, k, s.at, s.put, more);
         return State {
             k: k + 2,
@@ -108,7 +111,7 @@ fn undo_insert(
             put: s.put + (to - s.at),
         };
     }
-    emitter::core::enter(out, n, k, 3, num);
+    emitter::core::enter(out, n, k, DELETE, num);
     State {
         k: k + 1,
         from: s.from + count,
@@ -119,13 +122,13 @@ fn undo_insert(
 
 // The next operation, or an insert and the delete behind it. Behind a last retain no character is asked for.
 fn undo(rec: &[u8], n: usize, text: &[u8], chars: usize, out: &mut [u8], s: State) -> State
-    requires { ⌜ (recordFault (now rec) ≡ 0) × (n ≡ recordsOf (now rec)) × (chars ≡ numChars (now text)) × (length (now text) ≤ 32768) × (textStart n ≤ length (now out)) × Reached n (now rec) (now text) s × (s .k < n) ⌝ }
+    requires { ⌜ (recordFault (now rec) ≡ 0) × (n ≡ recordsOf (now rec)) × (chars ≡ numChars (now text)) × (length (now text) ≤ maxSize) × (textStart n ≤ length (now out)) × Reached n (now rec) (now text) s × (s .k < n) ⌝ }
     ensures { λ u. ⌜ Undoes n (now (rec .entry)) (now (text .entry)) s (now (out .entry)) u (now (out .exit)) ⌝ }
 {
     let kind = reader::core::kind(rec, s.k);
     let count = reader::core::count(rec, n, s.k);
-    if kind == 1 {
-        emitter::core::enter(out, n, s.k, 1, count);
+    if kind == RETAIN {
+        emitter::core::enter(out, n, s.k, RETAIN, count);
         if s.k + 1 == n {
             return State {
                 k: s.k + 1,
@@ -142,7 +145,7 @@ fn undo(rec: &[u8], n: usize, text: &[u8], chars: usize, out: &mut [u8], s: Stat
             put: s.put,
         };
     }
-    if kind == 3 {
+    if kind == DELETE {
         return undo_delete(text, chars, out, n, s, count);
     }
     undo_insert(rec, n, text, chars, out, s, count)
@@ -150,7 +153,7 @@ fn undo(rec: &[u8], n: usize, text: &[u8], chars: usize, out: &mut [u8], s: Stat
 
 // Where nothing can be refused each record is written to its place at once.
 pub fn straight(rec: &[u8], records: usize, text: &[u8], chars: usize, out: &mut [u8]) -> Written
-    requires { ⌜ (recordFault (now rec) ≡ 0) × (records ≡ recordsOf (now rec)) × (records ≤ 1024) × T (wellFormed (now text)) × (chars ≡ numChars (now text)) × (chars ≡ baseOf (now rec)) × (length (now text) ≤ 32768) × (textStart records + length (now text) ≤ length (now out)) ⌝ }
+    requires { ⌜ (recordFault (now rec) ≡ 0) × (records ≡ recordsOf (now rec)) × (records ≤ maxOps) × T (wellFormed (now text)) × (chars ≡ numChars (now text)) × (chars ≡ baseOf (now rec)) × (length (now text) ≤ maxSize) × (textStart records + length (now text) ≤ length (now out)) ⌝ }
     ensures { λ r. ⌜ Gives (deliver 0 (invertOf (ops (now (rec .entry))) (charsOf (now (text .entry)))) (now (out .entry))) r (now (out .exit)) ⌝ }
 {
     let start = layout::core::text_start(records);

@@ -4,12 +4,36 @@ use answers::WrittenPair;
 use append::core::Tried;
 use log::core::Scan;
 use rebase::core::Run;
+use record::core::HEADER;
+use record::core::MAX_OPS;
+use record::core::MAX_RECORD;
+use record::core::OP_BYTES;
 ghost use mathlib.Core.Path.{_≡_};
 ghost use Prim.Native.Nat.{_-_, _≤_};
 ghost use lib.ListN.{length};
-ghost use Rattle.record.specs.Layout.{textStart};
+ghost use Rattle.record.specs.Layout.{textStart, maxOps, maxRecord};
 ghost use Rattle.log.specs.Log.{countOf};
 ghost use Rattle.append.specs.InnerAccepting.{Admitted, Tries, Accepts, MovedPast};
+
+// The buffers of two lengths, in bytes: for the edit, for its counterparts, and the stages, by the operations that they have places for.
+const SMALL_EDIT: usize = 256;
+
+const SMALL_PARTS: usize = 512;
+
+const SMALL_OPS: usize = 32;
+
+const SMALL_STAGE: usize = HEADER + OP_BYTES * SMALL_OPS;
+
+pub const MEDIUM_EDIT: usize = 1024;
+
+const MEDIUM_PARTS: usize = 8192;
+
+const MEDIUM_OPS: usize = 128;
+
+const MEDIUM_STAGE: usize = HEADER + OP_BYTES * MEDIUM_OPS;
+
+// A stage in which every record within the limits has its places.
+const LARGE_STAGE: usize = HEADER + OP_BYTES * MAX_OPS;
 
 // In buffers of any length: one run, which keeps the counterparts, too.
 fn short(
@@ -25,7 +49,7 @@ fn short(
     parts: &mut [u8],
     slots: usize,
 ) -> Tried
-    requires { ⌜ Admitted (now edit) r (now log) s × (n ≡ countOf (now log) - r) × (length (now next) ≡ textStart slots) × (length (now side) ≡ textStart slots) × (slots ≤ 1024) ⌝ }
+    requires { ⌜ Admitted (now edit) r (now log) s × (n ≡ countOf (now log) - r) × (length (now next) ≡ textStart slots) × (length (now side) ≡ textStart slots) × (slots ≤ maxOps) ⌝ }
     ensures { λ x. ⌜ Tries (now (edit .entry)) r (now (log .entry)) (now (out .entry)) x (now (log .exit)) (now (out .exit)) ⌝ }
 {
     let size = reader::core::size(edit);
@@ -53,7 +77,7 @@ fn again(
     side: &mut [u8],
     bytes: usize,
 ) -> WrittenPair
-    requires { ⌜ Admitted (now edit) r (now log) s × (n ≡ countOf (now log) - r) × (35848 ≤ length (now cur)) × (length (now next) ≡ 3080) × (length (now side) ≡ 3080) × MovedPast (now edit) r (now log) bytes (now cur) ⌝ }
+    requires { ⌜ Admitted (now edit) r (now log) s × (n ≡ countOf (now log) - r) × (maxRecord ≤ length (now cur)) × (length (now next) ≡ textStart maxOps) × (length (now side) ≡ textStart maxOps) × MovedPast (now edit) r (now log) bytes (now cur) ⌝ }
     ensures { λ x. ⌜ Accepts (now (edit .entry)) r (now (log .entry)) (now (out .entry)) x (now (log .exit)) (now (out .exit)) ⌝ }
 {
     let size = reader::core::size(cur);
@@ -61,7 +85,7 @@ fn again(
         return WrittenPair::Refused(Refusal::Room);
     }
     append::core::lay(cur, edit);
-    rebase::core::rebase(log, s.at, n, edit, cur, next, side, out, 1024);
+    rebase::core::rebase(log, s.at, n, edit, cur, next, side, out, MAX_OPS);
     append::core::append(log, s, cur, size);
     WrittenPair::Bytes(size, bytes)
 }
@@ -78,12 +102,12 @@ fn long(
     next: &mut [u8],
     side: &mut [u8],
 ) -> WrittenPair
-    requires { ⌜ Admitted (now edit) r (now log) s × (n ≡ countOf (now log) - r) × (35848 ≤ length (now cur)) × (length (now next) ≡ 3080) × (length (now side) ≡ 3080) ⌝ }
+    requires { ⌜ Admitted (now edit) r (now log) s × (n ≡ countOf (now log) - r) × (maxRecord ≤ length (now cur)) × (length (now next) ≡ textStart maxOps) × (length (now side) ≡ textStart maxOps) ⌝ }
     ensures { λ x. ⌜ Accepts (now (edit .entry)) r (now (log .entry)) (now (out .entry)) x (now (log .exit)) (now (out .exit)) ⌝ }
 {
     let mut none = [0u8; 0];
     append::core::lay(cur, edit);
-    match rebase::core::rebase(log, s.at, n, edit, cur, next, side, &mut none, 1024) {
+    match rebase::core::rebase(log, s.at, n, edit, cur, next, side, &mut none, MAX_OPS) {
         Run::Refused(x) => WrittenPair::Refused(x),
         Run::Kept(bytes) => again(edit, r, log, s, n, out, cur, next, side, bytes),
         // never: every record has a place
@@ -95,9 +119,9 @@ pub fn large(edit: &[u8], r: u64, log: &mut [u8], s: Scan, n: usize, out: &mut [
     requires { ⌜ Admitted (now edit) r (now log) s × (n ≡ countOf (now log) - r) ⌝ }
     ensures { λ x. ⌜ Accepts (now (edit .entry)) r (now (log .entry)) (now (out .entry)) x (now (log .exit)) (now (out .exit)) ⌝ }
 {
-    let mut cur = [0u8; 35848];
-    let mut next = [0u8; 3080];
-    let mut side = [0u8; 3080];
+    let mut cur = [0u8; MAX_RECORD];
+    let mut next = [0u8; LARGE_STAGE];
+    let mut side = [0u8; LARGE_STAGE];
     long(edit, r, log, s, n, out, &mut cur, &mut next, &mut side)
 }
 
@@ -105,10 +129,10 @@ pub fn medium(edit: &[u8], r: u64, log: &mut [u8], s: Scan, n: usize, out: &mut 
     requires { ⌜ Admitted (now edit) r (now log) s × (n ≡ countOf (now log) - r) ⌝ }
     ensures { λ x. ⌜ Accepts (now (edit .entry)) r (now (log .entry)) (now (out .entry)) x (now (log .exit)) (now (out .exit)) ⌝ }
 {
-    let mut cur = [0u8; 1024];
-    let mut next = [0u8; 392];
-    let mut side = [0u8; 392];
-    let mut parts = [0u8; 8192];
+    let mut cur = [0u8; MEDIUM_EDIT];
+    let mut next = [0u8; MEDIUM_STAGE];
+    let mut side = [0u8; MEDIUM_STAGE];
+    let mut parts = [0u8; MEDIUM_PARTS];
     match short(
         edit,
         r,
@@ -120,7 +144,7 @@ pub fn medium(edit: &[u8], r: u64, log: &mut [u8], s: Scan, n: usize, out: &mut 
         &mut next,
         &mut side,
         &mut parts,
-        128,
+        MEDIUM_OPS,
     ) {
         Tried::Bytes(k, l) => WrittenPair::Bytes(k, l),
         Tried::Refused(x) => WrittenPair::Refused(x),
@@ -132,10 +156,10 @@ pub fn small(edit: &[u8], r: u64, log: &mut [u8], s: Scan, n: usize, out: &mut [
     requires { ⌜ Admitted (now edit) r (now log) s × (n ≡ countOf (now log) - r) ⌝ }
     ensures { λ x. ⌜ Accepts (now (edit .entry)) r (now (log .entry)) (now (out .entry)) x (now (log .exit)) (now (out .exit)) ⌝ }
 {
-    let mut cur = [0u8; 256];
-    let mut next = [0u8; 104];
-    let mut side = [0u8; 104];
-    let mut parts = [0u8; 512];
+    let mut cur = [0u8; SMALL_EDIT];
+    let mut next = [0u8; SMALL_STAGE];
+    let mut side = [0u8; SMALL_STAGE];
+    let mut parts = [0u8; SMALL_PARTS];
     match short(
         edit,
         r,
@@ -147,7 +171,7 @@ pub fn small(edit: &[u8], r: u64, log: &mut [u8], s: Scan, n: usize, out: &mut [
         &mut next,
         &mut side,
         &mut parts,
-        32,
+        SMALL_OPS,
     ) {
         Tried::Bytes(k, l) => WrittenPair::Bytes(k, l),
         Tried::Refused(x) => WrittenPair::Refused(x),

@@ -1,4 +1,6 @@
 // Where everything stands in a record: the four sizes, the kinds, the counts, the inserted text.
+use record::core::HEADER;
+use record::core::OP_BYTES;
 ghost use mathlib.Core.Path.{_≡_};
 ghost use Prim.Native.Nat.{_≤_, _<_, _+_, _^_, _*_};
 ghost use lib.ListN.{length};
@@ -37,21 +39,21 @@ pub fn kind_place(k: usize) -> usize
     requires { ⌜ k ≤ 2 ^ 62 ⌝ }
     ensures { λ r. ⌜ r ≡ kindsStart + k ⌝ }
 {
-    8 + k
+    HEADER + k
 }
 
 pub fn count_place(n: usize, k: usize) -> usize
     requires { ⌜ (n ≤ 2 ^ 62) × (k ≤ 2 ^ 62) ⌝ }
     ensures { λ r. ⌜ r ≡ countsStart n + 2 * k ⌝ }
 {
-    8 + n + 2 * k
+    HEADER + n + 2 * k
 }
 
 pub fn text_start(n: usize) -> usize
     requires { ⌜ n ≤ 2 ^ 62 ⌝ }
     ensures { λ r. ⌜ r ≡ textStart n ⌝ }
 {
-    8 + 3 * n
+    HEADER + OP_BYTES * n
 }
 
 pub fn kind(rec: &[u8], k: usize) -> u8

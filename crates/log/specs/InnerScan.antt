@@ -5,18 +5,19 @@ use mathlib.Core.List.{List}
 use lib.Dec.{T}
 use lib.ListN.{length}
 use mathlib.Core.Bool.{false}
-use Rattle.log.specs.Log.{countOf, startOf, readable, sizeOfLog, placeOf, lengthAt}
+use Rattle.log.specs.Log.{countOf, startOf, readable, sizeOfLog, placeOf, lengthAt, maxRevisions}
 use Rattle.log.specs.declared.core.Scan.{Scan}
 use Rattle.log.specs.declared.core.Scanned.{Scanned}
 use Rattle.log.specs.declared.core.Scanned.the-variants.{Unreadable, Of}
+use Rattle.record.specs.Layout.{maxSize}
 
 -- a log that can be read: what it states, where it ends, and where revision r does
 pub record Found (l : List ℕ) (r : ℕ) (s : Scan) : Type 0 where
   pub reads : T (readable l)
   pub count : s .count ≡ countOf l
-  pub few : s .count ≤ 256
+  pub few : s .count ≤ maxRevisions
   pub start : s .start ≡ startOf l
-  pub small : s .start ≤ 32768
+  pub small : s .start ≤ maxSize
   pub size : s .size ≡ sizeOfLog l
   pub whole : s .size ≤ length l
   pub place : r ≤ countOf l → s .at ≡ placeOf r l

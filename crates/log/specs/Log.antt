@@ -7,7 +7,7 @@ use lib.Dec.{eqb, leb}
 use Rattle.buffers.specs.Words.{words, wordAt}
 use Rattle.edits.specs.Sequence.{Seq}
 use Rattle.record.specs.Record.{encode, ops, recordFault}
-use Rattle.record.specs.Layout.{sizeOf, targetOf, baseOf}
+use Rattle.record.specs.Layout.{sizeOf, targetOf, baseOf, maxSize}
 
 -- ---- writing: "the number of revisions, the starting length, then the revisions' records end to end"
 
@@ -27,6 +27,10 @@ countOf l = wordAt l 0
 
 abbrev pub startOf : List ℕ → ℕ
 startOf l = wordAt l 2
+
+-- the limit of refusal 6: "over 256 revisions"
+abbrev pub maxRevisions : ℕ
+maxRevisions = 256
 
 -- where the records begin
 abbrev pub recordsStart : ℕ
@@ -62,8 +66,8 @@ readableFrom (suc n) len l =
 unfoldable pub readable : List ℕ → Bool
 unfolding readableFrom
 readable l =
-    leb 4 (length l)
-    && (leb (countOf l) 256 && (leb (startOf l) 32768 && readableFrom (countOf l) (startOf l) (drop recordsStart l)))
+    leb recordsStart (length l)
+    && (leb (countOf l) maxRevisions && (leb (startOf l) maxSize && readableFrom (countOf l) (startOf l) (drop recordsStart l)))
 
 -- where revision r ends, 0 being the start; and where the log's contents do
 unfoldable pub placeOf : ℕ → List ℕ → ℕ

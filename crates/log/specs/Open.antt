@@ -5,7 +5,8 @@ use lib.Dec.{leb}
 use Rattle.buffers.specs.Words.{words}
 use Rattle.answers.specs.Answer.{needs}
 use Rattle.answers.specs.Output.{Out, writing}
+use Rattle.record.specs.Layout.{maxSize}
 
 unfoldable pub openCall : ℕ → List ℕ → Out
 unfolding writing
-openCall n log = writing (needs (leb n 32768) 9 0) (words (0 ∷ n ∷ [])) log
+openCall n log = writing (needs (leb n maxSize) 9 0) (words (0 ∷ n ∷ [])) log

@@ -1,13 +1,21 @@
 // A log gone through once.
 use answers::Fact;
+use record::core::MAX_SIZE;
 ghost use mathlib.Core.Path.{_≡_};
 ghost use Prim.Native.Nat.{_≤_};
 ghost use lib.ListN.{length};
 ghost use mathlib.Core.Bool.{cond};
 ghost use lib.Dec.{eqb};
 ghost use Rattle.log.specs.InnerScan.{Scans};
-ghost use Rattle.log.specs.Log.{countOf, startOf};
+ghost use Rattle.log.specs.Log.{countOf, startOf, maxRevisions};
 ghost use Rattle.log.specs.InnerSteps.{Steps};
+ghost use Rattle.record.specs.Layout.{maxSize};
+
+// The limit of document 01's refusal 6: at most so many revisions.
+pub const MAX_REVISIONS: usize = 256;
+
+// Where the records begin, behind the number of revisions and the starting length.
+pub const LOG_HEADER: usize = 4;
 
 // The number of revisions, the starting length and the size of the contents; where revision r ends, and the length after it
 // (where there is no revision r, the last two are 0).
@@ -39,25 +47,28 @@ pub(crate) enum Stepped {
 pub fn read(log: &[u8], r: u64) -> Scanned
     ensures { λ x. ⌜ Scans (now (log .entry)) r x ⌝ }
 {
-    if log.len() < 4 {
+    if log.len() < LOG_HEADER {
         return Scanned::Unreadable;
     }
     let count = buffers::core::word(log, 0);
-    if 256 < count {
+    if MAX_REVISIONS < count {
         return Scanned::Unreadable;
     }
     let start = buffers::core::word(log, 2);
-    if 32768 < start {
+    if MAX_SIZE < start {
         return Scanned::Unreadable;
     }
     go_through(log, count, start, r)
 }
 
 fn go_through(log: &[u8], count: usize, start: usize, r: u64) -> Scanned
-    requires { ⌜ (4 ≤ length (now log)) × (count ≡ countOf (now log)) × (count ≤ 256) × (start ≡ startOf (now log)) × (start ≤ 32768) ⌝ }
+    requires { ⌜ (4 ≤ length (now log)) × (count ≡ countOf (now log)) × (count ≤ maxRevisions) × (start ≡ startOf (now log)) × (start ≤ maxSize) ⌝ }
     ensures { λ x. ⌜ Scans (now (log .entry)) r x ⌝ }
 {
-    let mut here = Spot { at: 4, len: start };
+    let mut here = Spot {
+        at: LOG_HEADER,
+        len: start,
+    };
     let mut mark = Spot { at: 0, len: 0 };
     let mut k = 0;
     while k < count {

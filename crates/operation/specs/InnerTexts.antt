@@ -8,7 +8,7 @@ use mathlib.Core.Path.{_≡_}
 use Rattle.buffers.specs.Lists.{allOf}
 use Rattle.characters.specs.Chars.{isCont, numChars}
 use Rattle.record.specs.Record.{Entry, textOf, byteOps, wellInserted, entries, soundEntry, insertBytes}
-use Rattle.record.specs.Layout.{recordsOf, textBytesOf, sizeOf}
+use Rattle.record.specs.Layout.{recordsOf, textBytesOf, sizeOf, maxOps, maxSize, insertKind}
 use Rattle.record.specs.InnerFront.{entriesLeft, byteOpsLeft}
 use Rattle.operation.specs.declared.checks.Inserted.{Inserted}
 use Rattle.operation.specs.declared.checks.Inserted.the-variants.{IllFormed, Chars}
@@ -16,7 +16,7 @@ use Rattle.operation.specs.declared.checks.Inserted.the-variants.{IllFor
 -- no insert begins with a continuation
 abbrev pub startWell : List Entry → List ℕ → Bool
 startWell [] t = true
-startWell (e ∷ es) t = cond (eqb (e .kind) 2) (not (isCont (getD t 0 0)) && startWell es (drop (e .count) t)) (startWell es t)
+startWell (e ∷ es) t = cond (eqb (e .kind) insertKind) (not (isCont (getD t 0 0)) && startWell es (drop (e .count) t)) (startWell es t)
 
 unfoldable pub insertedOf : List ℕ → Inserted
 unfolding textOf byteOps
@@ -24,8 +24,8 @@ insertedOf r = cond (allOf wellInserted (byteOps r)) (Chars (numChars (textOf r)
 
 -- neither 1 nor 2 is found
 pub record Sound (r : List ℕ) : Type 0 where
-  pub few : recordsOf r ≤ 1024
-  pub short : textBytesOf r ≤ 32768
+  pub few : recordsOf r ≤ maxOps
+  pub short : textBytesOf r ≤ maxSize
   pub room : sizeOf r ≤ length r
   pub entries-sound : T (allOf soundEntry (entries r))
   pub adds-up : insertBytes (entries r) ≡ textBytesOf r

@@ -1,5 +1,9 @@
 // The parts of a record's check.
 use characters::Form;
+use record::core::HEADER;
+use record::core::INSERT;
+use record::core::MAX_OPS;
+use record::core::MAX_SIZE;
 ghost use mathlib.Core.Path.{_≡_};
 ghost use lib.ListN.{drop};
 ghost use Prim.Native.Nat.{_<_};
@@ -12,21 +16,21 @@ ghost use Rattle.operation.specs.InnerTexts.{startWell, Sound, insertedO
 pub(crate) fn in_limits(rec: &[u8]) -> bool
     ensures { λ r. ⌜ r ≡ inLimits (now (rec .entry)) ⌝ }
 {
-    if rec.len() < 8 {
+    if rec.len() < HEADER {
         return false;
     }
     let n = layout::core::records(rec);
-    if 1024 < n {
+    if MAX_OPS < n {
         return false;
     }
     let text = layout::core::text_bytes(rec);
-    if 32768 < text {
+    if MAX_SIZE < text {
         return false;
     }
-    if 32768 < layout::core::base(rec) {
+    if MAX_SIZE < layout::core::base(rec) {
         return false;
     }
-    if 32768 < layout::core::target(rec) {
+    if MAX_SIZE < layout::core::target(rec) {
         return false;
     }
     layout::core::text_start(n) + text <= rec.len()
@@ -45,7 +49,7 @@ fn start_well(rec: &[u8], n: usize, linked: bool) -> bool
     let mut k = 0;
     while k < n {
         let kind = layout::core::kind(rec, k);
-        if kind == 2 {
+        if kind == INSERT {
             let count = layout::core::count(rec, n, k);
             if utf8::core::continues(rec[at]) {
                 return false;
@@ -95,7 +99,7 @@ pub(crate) fn text_at(rec: &[u8], n: usize, k: usize) -> usize
     let mut i = 0;
     while i < k {
         let kind = layout::core::kind(rec, i);
-        if kind == 2 {
+        if kind == INSERT {
             at += layout::core::count(rec, n, i);
         }
         i += 1;

@@ -2,6 +2,8 @@
 use answers::Fact;
 use answers::Noop;
 use answers::Refusal;
+use record::core::INSERT;
+use record::core::RETAIN;
 ghost use mathlib.Core.Path.{_≡_};
 ghost use Rattle.answers.specs.Answer.{factOf, noopOf};
 ghost use Rattle.record.specs.Calls.{checkCall, baseCall, targetCall, noopCall, textCall};
@@ -74,7 +76,7 @@ pub fn is_noop(rec: &[u8]) -> Noop
             if 1 < n {
                 return Noop::Is(false);
             }
-            Noop::Is(layout::core::kind(rec, 0) == 1)
+            Noop::Is(layout::core::kind(rec, 0) == RETAIN)
         }
     }
 }
@@ -91,7 +93,7 @@ pub fn insert_text(rec: &[u8], k: usize) -> &[u8]
         return &rec[0..0];
     }
     let kind = layout::core::kind(rec, k);
-    if kind != 2 {
+    if kind != INSERT {
         return &rec[0..0];
     }
     let from = checks::text_at(rec, n, k);

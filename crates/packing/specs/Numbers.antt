@@ -6,6 +6,8 @@ use lib.Dec.{leb}
 use Rattle.answers.specs.Answer.{Answer, gives, refused}
 use Rattle.walker.specs.declared.Found.{Found}
 use Rattle.walker.specs.declared.Found.the-variants.{Op, End}
+use Rattle.record.specs.Layout.{maxRecord}
+use Rattle.log.specs.Log.{maxRevisions}
 
 -- One result stands as it is. Of two, the first is the low 32 bits and the second the high 32. Bit 63 is set where the call is
 -- refused, and the low byte is then the refusal's number.
@@ -22,9 +24,9 @@ readOne r = cond (leb (2 ^ 63) r) (refused (r - 2 ^ 63)) (gives (r ∷ []))
 unfoldable pub readTwo : ℕ → Answer
 readTwo r = cond (leb (2 ^ 63) r) (refused (r - 2 ^ 63)) (gives (r % 2 ^ 32 ∷ r / 2 ^ 32 ∷ []))
 
--- two results, each at most the size of 256 records of 35,848 bytes; or a refusal
+-- two results, each at most the size of as many of the longest records as a log holds; or a refusal
 abbrev pub most : ℕ
-most = 9177088
+most = maxRevisions * maxRecord
 
 abbrev pub small : Answer → Bool
 small (gives []) = false

@@ -1,11 +1,12 @@
 // What the programs share: reading and writing, which no contract can state.
+use crate::MAX_INPUT;
 ghost use mathlib.Core.Path.{_≡_};
 ghost use lib.ListN.{length};
 
-fn space() -> [u8; 65537]
+fn space() -> [u8; MAX_INPUT + 1]
     ensures { λ r. ⌜ 65537 ≡ length r ⌝ }
 {
-    [0; 65537]
+    [0; MAX_INPUT + 1]
 }
 
 // The input comes from this descriptor. One byte more than the limit is asked for, so that longer input is seen.

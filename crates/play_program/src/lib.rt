@@ -12,11 +12,14 @@ ghost use Rattle.play_program.specs.Program.{program, Writes, complaint}
 
 pub mod core;
 
+// "input over 65,536 bytes is `refused 10`": so many bytes have the scratch buffers and the output, too.
+pub const MAX_INPUT: usize = 65536;
+
 // From input to output: how many bytes of the output are written.
-pub fn run(input: &[u8], out: &mut [u8; 65536]) -> usize
+pub fn run(input: &[u8], out: &mut [u8; MAX_INPUT]) -> usize
     ensures { λ n. ⌜ Writes (program (now (input .entry))) (now (out .entry)) n (now (out .exit)) ⌝ }
 {
-    if 65536 < input.len() {
+    if MAX_INPUT < input.len() {
         return complain(out, Refusal::Room);
     }
     let Scanned::Of(scan) = log::core::read(input, 0) else {
@@ -38,10 +41,10 @@ fn answer(input: &[u8], size: usize, out: &mut [u8]) -> usize
     }
 }
 
-pub(crate) fn buffer() -> [u8; 65536]
+pub(crate) fn buffer() -> [u8; MAX_INPUT]
     ensures { λ r. ⌜ 65536 ≡ length r ⌝ }
 {
-    [0; 65536]
+    [0; MAX_INPUT]
 }
 
 // `refused `, the number and a line end.

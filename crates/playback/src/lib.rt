@@ -2,6 +2,7 @@
 use answers::Refusal;
 use answers::Written;
 use characters::Form;
+use log::core::LOG_HEADER;
 use log::core::Scanned;
 ghost use mathlib.Core.Path.{_≡_};
 ghost use lib.ListN.{length, take};
@@ -70,7 +71,7 @@ fn revise(log: &[u8], count: usize, n: usize, a: &mut [u8], b: &mut [u8]) -> Rea
     ensures { λ r. ⌜ Ends (now (log .entry)) (take n (now (a .entry))) (length (now (a .entry))) (length (now (b .entry))) (now (a .exit)) r ⌝ }
 {
     let mut len = n;
-    let mut at = 4;
+    let mut at = LOG_HEADER;
     let mut k = 0;
     while k < count {
         let rec = &log[at..];

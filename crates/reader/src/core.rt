@@ -1,16 +1,18 @@
 // What the crates above use to go through a record that was checked: its sizes, its operations, and the front of what lies ahead.
+use record::core::AT_END;
+use record::core::AT_INSERT;
 use record::core::Front;
 ghost use mathlib.Core.Path.{_≡_};
 ghost use Prim.Native.Nat.{_≤_, _<_};
 ghost use lib.ListN.{length};
-ghost use Rattle.record.specs.Layout.{recordsOf, baseOf, targetOf, textBytesOf, sizeOf, kindAt, countAt};
+ghost use Rattle.record.specs.Layout.{recordsOf, baseOf, targetOf, textBytesOf, sizeOf, kindAt, countAt, maxOps, maxRecord};
 ghost use Rattle.record.specs.Record.{recordFault, ops};
 ghost use Rattle.record.specs.InnerFront.{Stands, ahead, Place, Loads, Cut, Leaves};
 
 // The sizes that a checked record states.
 pub fn records(rec: &[u8]) -> usize
     requires { ⌜ recordFault (now rec) ≡ 0 ⌝ }
-    ensures { λ r. ⌜ (r ≡ recordsOf (now (rec .entry))) × (r ≤ 1024) ⌝ }
+    ensures { λ r. ⌜ (r ≡ recordsOf (now (rec .entry))) × (r ≤ maxOps) ⌝ }
 {
     layout::core::records(rec)
 }
@@ -40,7 +42,7 @@ pub fn text_bytes(rec: &[u8]) -> usize
 // How many bytes the record has.
 pub fn size(rec: &[u8]) -> usize
     requires { ⌜ recordFault (now rec) ≡ 0 ⌝ }
-    ensures { λ r. ⌜ (r ≡ sizeOf (now (rec .entry))) × (r ≤ 35848) × (r ≤ length (now (rec .entry))) ⌝ }
+    ensures { λ r. ⌜ (r ≡ sizeOf (now (rec .entry))) × (r ≤ maxRecord) × (r ≤ length (now (rec .entry))) ⌝ }
 {
     let n = layout::core::records(rec);
     layout::core::text_start(n) + layout::core::text_bytes(rec)
@@ -63,7 +65,7 @@ pub fn count(rec: &[u8], n: usize, k: usize) -> usize
 
 // The front of a whole record of n.
 pub fn first(rec: &[u8], n: usize) -> Front
-    requires { ⌜ (recordFault (now rec) ≡ 0) × (n ≡ recordsOf (now rec)) × (n ≤ 1024) ⌝ }
+    requires { ⌜ (recordFault (now rec) ≡ 0) × (n ≡ recordsOf (now rec)) × (n ≤ maxOps) ⌝ }
     ensures { λ f. ⌜ Stands (now (rec .entry)) f × (ahead (now (rec .entry)) f ≡ ops (now (rec .entry))) ⌝ }
 {
     load(rec, n, 0, layout::core::text_start(n))
@@ -76,7 +78,7 @@ pub fn load(rec: &[u8], n: usize, k: usize, at: usize) -> Front
 {
     if n <= k {
         return Front {
-            kind: 0,
+            kind: AT_END,
             left: 0,
             from: at,
             to: at,
@@ -85,7 +87,7 @@ pub fn load(rec: &[u8], n: usize, k: usize, at: usize) -> Front
     }
     let kind = layout::core::kind(rec, k) as usize;
     let count = layout::core::count(rec, n, k);
-    if kind == 2 {
+    if kind == AT_INSERT {
         let to = at + count;
         let chars = counting::core::count_in(rec, at, to);
         return Front {

@@ -11,7 +11,7 @@ use Rattle.characters.specs.Text.{Char}
 use Rattle.edits.specs.Sequence.{Seq}
 use Rattle.edits.specs.Transform.{Sides}
 use Rattle.answers.specs.declared.Refusal.the-variants.{Limit}
-use Rattle.record.specs.Layout.{sizeOf, textStart}
+use Rattle.record.specs.Layout.{sizeOf, textStart, maxOps, maxRecord}
 use Rattle.record.specs.Record.{encode, ops, recordFault, inBytes, text, fits}
 use Rattle.emitter.specs.InnerEmit.{Marked, sizeIn, headed, settledRecords}
 use Rattle.emitter.specs.declared.core.Emitter.{Emitter}
@@ -80,7 +80,7 @@ pub record Rebased (e : Seq) (vs : List Seq) (bytes : ℕ) (cur′ : List ℕ) :
 abbrev pub RunsTo : ℕ → ℕ → Seq → List Seq → Run → List ℕ → List ℕ → List ℕ → Type 0
 RunsTo slots room e vs (outcome.Refused x) cur′ parts parts′ = (x ≡ Limit) × (rebase e vs .kept ≡ false)
 RunsTo slots room e vs (outcome.Kept b) cur′ parts parts′ = Rebased e vs b cur′ × (b ≤ length parts → parts′ ≡ atFront (encodeAll (rebase e vs .counterparts)) parts)
-RunsTo slots room e vs outcome.Short cur′ parts parts′ = 1024 ≤ slots → 35848 ≤ room → ⊥
+RunsTo slots room e vs outcome.Short cur′ parts parts′ = maxOps ≤ slots → maxRecord ≤ room → ⊥
 
 pub record Runs (slots room : ℕ) (e : Seq) (vs : List Seq) (r : Run) (cur′ parts parts′ : List ℕ) : Type 0 where
   pub runs : RunsTo slots room e vs r cur′ parts parts′

@@ -10,10 +10,10 @@ ghost use lib.Dec.{leb};
 ghost use lib.ListN.{length, drop};
 ghost use Rattle.characters.specs.Order.{order};
 ghost use Rattle.edits.specs.Transform.{transform as transformOf};
-ghost use Rattle.record.specs.Layout.{textStart, recordsOf, baseOf};
+ghost use Rattle.record.specs.Layout.{textStart, recordsOf, baseOf, maxOps};
 ghost use Rattle.record.specs.Record.{ops, recordFault};
 ghost use Rattle.emitter.specs.InnerEmit.{within, Under, sizeIn};
-ghost use Rattle.log.specs.Log.{editsIn};
+ghost use Rattle.log.specs.Log.{editsIn, maxRevisions};
 ghost use Rattle.rebase.specs.InnerRunning.{Keeps, SameText, Ready, GoesOn, Lie, Holds, Runs};
 
 // How many bytes the counterparts have, or why the run ended: a refusal, or buffers that are too short for what is written.
@@ -89,7 +89,7 @@ fn go_on(
     p: Pair,
     spot: Spot,
 ) -> Spot
-    requires { ⌜ (slots ≤ 2 ^ 40) × (ne ≡ recordsOf (now edit)) × (ne ≤ 1024) × (nb ≡ recordsOf (now rec)) × (nb ≤ 1024) × (recordFault (now edit) ≡ 0) × (recordFault (now rec) ≡ 0) × SameText (ops (now cur)) (ops (now edit)) × (length (now next) ≡ textStart slots) × (length (now side) ≡ textStart slots) × Ready slots (transformOf order (ops (now cur)) (ops (now rec))) p (length (now cur)) (now next) (now side) × (spot .at ≤ 2 ^ 63) × (spot .bytes ≤ 2 ^ 40) ⌝ }
+    requires { ⌜ (slots ≤ 2 ^ 40) × (ne ≡ recordsOf (now edit)) × (ne ≤ maxOps) × (nb ≡ recordsOf (now rec)) × (nb ≤ maxOps) × (recordFault (now edit) ≡ 0) × (recordFault (now rec) ≡ 0) × SameText (ops (now cur)) (ops (now edit)) × (length (now next) ≡ textStart slots) × (length (now side) ≡ textStart slots) × Ready slots (transformOf order (ops (now cur)) (ops (now rec))) p (length (now cur)) (now next) (now side) × (spot .at ≤ 2 ^ 63) × (spot .bytes ≤ 2 ^ 40) ⌝ }
     ensures { λ r. ⌜ GoesOn (transformOf order (ops (now (cur .entry))) (ops (now (rec .entry)))) (now (rec .entry)) spot r (now (cur .exit)) (now (parts .entry)) (now (parts .exit)) ⌝ }
 {
     let e = p.e;
@@ -115,7 +115,7 @@ pub fn rebase(
     parts: &mut [u8],
     slots: usize,
 ) -> Run
-    requires { ⌜ (from ≤ length (now log)) × (n ≤ 256) × Lie n (baseOf (now edit)) (drop from (now log)) × (recordFault (now edit) ≡ 0) × Holds (ops (now edit)) (now cur) × (length (now next) ≡ textStart slots) × (length (now side) ≡ textStart slots) × (slots ≤ 2 ^ 40) ⌝ }
+    requires { ⌜ (from ≤ length (now log)) × (n ≤ maxRevisions) × Lie n (baseOf (now edit)) (drop from (now log)) × (recordFault (now edit) ≡ 0) × Holds (ops (now edit)) (now cur) × (length (now next) ≡ textStart slots) × (length (now side) ≡ textStart slots) × (slots ≤ 2 ^ 40) ⌝ }
     ensures { λ r. ⌜ Runs slots (length (now (cur .entry))) (ops (now (edit .entry))) (editsIn n (drop from (now (log .entry)))) r (now (cur .exit)) (now (parts .entry)) (now (parts .exit)) ⌝ }
 {
     let ne = reader::core::records(edit);

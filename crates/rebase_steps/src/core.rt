@@ -1,4 +1,6 @@
 // One step over the front operations of an edit and of a revision: what either becomes past the other.
+use record::core::AT_INSERT;
+use record::core::AT_RETAIN;
 use steps::core::Both;
 use steps::core::Counts;
 use steps::core::Pair;
@@ -9,7 +11,7 @@ ghost use lib.ListN.{length};
 ghost use mathlib.Core.Bool.{true};
 ghost use Rattle.characters.specs.Order.{order};
 ghost use Rattle.edits.specs.Transform.{transformTurn};
-ghost use Rattle.record.specs.Layout.{recordsOf, textStart};
+ghost use Rattle.record.specs.Layout.{recordsOf, textStart, maxOps};
 ghost use Rattle.record.specs.Record.{recordFault};
 ghost use Rattle.record.specs.InnerFront.{Stands, Cut};
 ghost use Rattle.emitter.specs.InnerEmit.{Under};
@@ -18,7 +20,7 @@ ghost use Rattle.steps.specs.InnerSteps.{liveIs, Chooses};
 
 // Before the first step past a revision: of the edit's side and of the counterpart nothing was emitted.
 pub fn begin(cur: &[u8], na: usize, rec: &[u8], nb: usize) -> Both
-    requires { ⌜ (na ≡ recordsOf (now cur)) × (na ≤ 1024) × (nb ≡ recordsOf (now rec)) × (nb ≤ 1024) × (recordFault (now cur) ≡ 0) × (recordFault (now rec) ≡ 0) ⌝ }
+    requires { ⌜ (na ≡ recordsOf (now cur)) × (na ≤ maxOps) × (nb ≡ recordsOf (now rec)) × (nb ≤ maxOps) × (recordFault (now cur) ≡ 0) × (recordFault (now rec) ≡ 0) ⌝ }
     ensures { λ r. ⌜ BegunBoth (now (cur .entry)) (now (rec .entry)) r ⌝ }
 {
     let s = steps::core::begin(cur, na, rec, nb);
@@ -90,22 +92,22 @@ fn meet(
     let f = b.f;
     let i = x.to;
     let j = y.to;
-    if y.kind == 2 {
+    if y.kind == AT_INSERT {
         let d = emitter::core::mark(next, slots, e, rec, y, k, j);
         let h = emitter::core::mark(side, slots, f, cur, x, k, i);
         let d = emitter::core::retain(d, k);
         let h = emitter::core::retain(h, k);
         return Pair { e: d, f: h };
     }
-    if y.kind == 1 {
+    if y.kind == AT_RETAIN {
         let d = emitter::core::mark(next, slots, e, cur, x, k, i);
-        if x.kind == 1 {
+        if x.kind == AT_RETAIN {
             let h = emitter::core::mark(side, slots, f, rec, y, k, j);
             return Pair { e: d, f: h };
         }
         return Pair { e: d, f };
     }
-    if x.kind == 1 {
+    if x.kind == AT_RETAIN {
         let h = emitter::core::mark(side, slots, f, rec, y, k, j);
         return Pair { e, f: h };
     }

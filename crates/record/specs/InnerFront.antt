@@ -11,7 +11,7 @@ use Rattle.characters.specs.Form.{within, wellFormed}
 use Rattle.characters.specs.Chars.{numChars}
 use Rattle.edits.specs.Sequence.{Seq}
 use Rattle.edits.specs.Op.{Op, retain, insert, delete, ifZero, cut, rest, front}
-use Rattle.record.specs.Layout.{recordsOf, textStart}
+use Rattle.record.specs.Layout.{recordsOf, textStart, maxOps, deleteKind, insertKind, retainKind}
 use Rattle.record.specs.Record.{Entry, entriesFrom, ByteSeq, operations, inChars, soundEntry, insertBytes, wellInserted, inBytes, inserted}
 use Rattle.record.specs.declared.core.Front.{Front}
 
@@ -28,7 +28,7 @@ opsLeft r k at = map inChars (byteOpsLeft r k at)
 
 -- `at` is a place at which the text of the records from k on can begin
 pub record Place (r : List ℕ) (k at : ℕ) : Type 0 where
-  pub few : recordsOf r ≤ 1024
+  pub few : recordsOf r ≤ maxOps
   pub header : textStart (recordsOf r) ≤ length r
   pub index : k ≤ recordsOf r
   pub room : at + insertBytes (entriesLeft r k) ≤ length r
@@ -41,7 +41,7 @@ frontText r f = take (f .to - f .from) (drop (f .from) r)
 
 -- the front's operation, and with it all that lies ahead: nothing where no character is left of it
 abbrev pub frontOp : List ℕ → Front → Op Char
-frontOp r f = cond (eqb (f .kind) 1) (retain (f .left)) (cond (eqb (f .kind) 2) (insert (chars (frontText r f))) (delete (f .left)))
+frontOp r f = cond (eqb (f .kind) retainKind) (retain (f .left)) (cond (eqb (f .kind) insertKind) (insert (chars (frontText r f))) (delete (f .left)))
 
 unfoldable pub ahead : List ℕ → Front → Seq
 unfolding chars opsLeft
@@ -50,13 +50,13 @@ ahead r f = ifZero (f .left) [] (frontOp r f ∷ opsLeft r (f .next) (f .to))
 -- a front at its place: kind 0 is the end, and else some characters are left
 pub record Stands (r : List ℕ) (f : Front) : Type 0 where
   pub place : Place r (f .next) (f .to)
-  pub known : T (within 0 3 (f .kind))
+  pub known : T (within 0 deleteKind (f .kind))
   pub ended : f .kind ≡ 0 → f .left ≡ 0
   pub some : 0 < f .kind → 0 < f .left
   pub small : f .left < 65536
   pub part : f .from ≤ f .to
-  pub text : f .kind ≡ 2 → T (wellFormed (frontText r f)) × (f .left ≡ numChars (frontText r f))
-  pub none : (f .kind ≡ 2 → ⊥) → f .from ≡ f .to
+  pub text : f .kind ≡ insertKind → T (wellFormed (frontText r f)) × (f .left ≡ numChars (frontText r f))
+  pub none : (f .kind ≡ insertKind → ⊥) → f .from ≡ f .to
 
 -- `mid` cuts the front's text behind k characters
 pub record Cut (r : List ℕ) (f : Front) (k mid : ℕ) : Type 0 where

@@ -13,7 +13,7 @@ use Rattle.edits.specs.Op.{Op, retain, insert, delete, size, base, target, tota
 use Rattle.edits.specs.Sequence.{Seq}
 use Rattle.edits.specs.Built.{chained}
 use Rattle.answers.specs.Answer.{needs}
-use Rattle.record.specs.Layout.{kindAt, countAt, recordsOf, textBytesOf, textStart, baseOf, targetOf, sizeOf}
+use Rattle.record.specs.Layout.{kindAt, countAt, recordsOf, textBytesOf, textStart, baseOf, targetOf, sizeOf, maxOps, maxSize, deleteKind, insertKind, retainKind}
 
 -- a sequence as a record holds it: inserted text in bytes
 abbrev pub ByteSeq : Type 0
@@ -35,9 +35,9 @@ inChars (delete n) = delete n
 
 -- "1 retain, 2 insert, 3 delete"
 abbrev pub code : Op ℕ → ℕ
-code (retain n) = 1
-code (insert t) = 2
-code (delete n) = 3
+code (retain n) = retainKind
+code (insert t) = insertKind
+code (delete n) = deleteKind
 
 abbrev pub inserted : Op ℕ → List ℕ
 inserted (retain n) = []
@@ -59,7 +59,7 @@ encode s =
 unfoldable pub fits : Seq → Bool
 unfolding inBytes
 fits s =
-    leb (length s) 1024 && (leb (length (text (map inBytes s))) 32768 && (leb (base s) 32768 && leb (target s) 32768))
+    leb (length s) maxOps && (leb (length (text (map inBytes s))) maxSize && (leb (base s) maxSize && leb (target s) maxSize))
 
 -- ---- reading
 
@@ -82,12 +82,12 @@ unfoldable pub textOf : List ℕ → List ℕ
 textOf r = take (textBytesOf r) (drop (textStart (recordsOf r)) r)
 
 abbrev pub operation : ℕ → ℕ → List ℕ → Op ℕ
-operation k n t = cond (eqb k 1) (retain n) (cond (eqb k 2) (insert (take n t)) (delete n))
+operation k n t = cond (eqb k retainKind) (retain n) (cond (eqb k insertKind) (insert (take n t)) (delete n))
 
 -- each insert takes its bytes off the text
 abbrev pub operations : List Entry → List ℕ → ByteSeq
 operations [] t = []
-operations (e ∷ es) t = operation (e .kind) (e .count) t ∷ operations es (cond (eqb (e .kind) 2) (drop (e .count) t) t)
+operations (e ∷ es) t = operation (e .kind) (e .count) t ∷ operations es (cond (eqb (e .kind) insertKind) (drop (e .count) t) t)
 
 unfoldable pub byteOps : List ℕ → ByteSeq
 unfolding entries textOf
@@ -103,15 +103,15 @@ ops r = map inChars (byteOps r)
 unfoldable pub inLimits : List ℕ → Bool
 inLimits r =
     leb 8 (length r)
-    && (leb (recordsOf r) 1024 && (leb (textBytesOf r) 32768 && (leb (baseOf r) 32768 && (leb (targetOf r) 32768 && leb (sizeOf r) (length r)))))
+    && (leb (recordsOf r) maxOps && (leb (textBytesOf r) maxSize && (leb (baseOf r) maxSize && (leb (targetOf r) maxSize && leb (sizeOf r) (length r)))))
 
 -- 2: a kind that is none of 1, 2, 3, a count of 0, or insert counts that don't add up to the text bytes
 abbrev pub soundEntry : Entry → Bool
-soundEntry e = within 1 3 (e .kind) && leb 1 (e .count)
+soundEntry e = within retainKind deleteKind (e .kind) && leb 1 (e .count)
 
 abbrev pub insertBytes : List Entry → ℕ
 insertBytes [] = 0
-insertBytes (e ∷ es) = cond (eqb (e .kind) 2) (e .count + insertBytes es) (insertBytes es)
+insertBytes (e ∷ es) = cond (eqb (e .kind) insertKind) (e .count + insertBytes es) (insertBytes es)
 
 unfoldable pub sound : List ℕ → Bool
 unfolding entries

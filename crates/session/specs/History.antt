@@ -14,7 +14,7 @@ use Rattle.edits.specs.Compose.{compose}
 use Rattle.answers.specs.Answer.{Answer, first, gives, needs, refused, settle}
 use Rattle.answers.specs.Output.{Out, writing}
 use Rattle.record.specs.Record.{encode, fits, ops, recordFault}
-use Rattle.log.specs.Log.{logOf, encodeAll}
+use Rattle.log.specs.Log.{logOf, encodeAll, maxRevisions}
 use Rattle.session.specs.Rows.{rule, still, playAll}
 
 -- "the starting length and a row of edits, its revisions: none at first"
@@ -68,7 +68,7 @@ historyAccept h edit r room space =
     (first (recordFault edit)
     (needs (leb r (length (h .edits))) 7
     (needs (eqb (base (ops edit)) (targetAfter (h .start) (h .edits) r)) 8
-    (needs (ltb (length (h .edits)) 256 && allOf (λ s. fits (s .left) && fits (s .right)) ts) 9
+    (needs (ltb (length (h .edits)) maxRevisions && allOf (λ s. fits (s .left) && fits (s .right)) ts) 9
     (needs (leb (length (logIn next)) room && leb (length (encodeAll counterparts)) space) 10 0)))))
     (λ n. record { answer = refused n; counterparts = []; history = h })
     (record { answer = gives (length (encode new) ∷ length (encodeAll counterparts) ∷ []); counterparts = counterparts; history = next })

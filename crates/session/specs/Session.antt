@@ -13,7 +13,7 @@ use Rattle.answers.specs.Answer.{first, needs, gives, refused, settle}
 use Rattle.answers.specs.Output.{Outs, Out, writing}
 use Rattle.record.specs.Record.{ops, encode, recordFault, fits}
 use Rattle.record.specs.Layout.{baseOf}
-use Rattle.log.specs.Log.{revisions, encodeAll, countOf, readable, sizeOfLog, lengthAt, startOf}
+use Rattle.log.specs.Log.{revisions, encodeAll, countOf, readable, sizeOfLog, lengthAt, startOf, maxRevisions}
 use Rattle.session.specs.Rows.{Moved, rebase, still, composesWithin, composeAll, playAll, longest}
 
 -- ---- accept: "Checks: the edit, the log, 7, 8 (its base isn't the length after revision r), 9, 10."
@@ -31,7 +31,7 @@ acceptFault edit r log out =
     (needs (readable log) 6
     (needs (leb r (countOf log)) 7
     (needs (eqb (baseOf edit) (lengthAt r log)) 8
-    (needs (ltb (countOf log) 256 && m .kept) 9
+    (needs (ltb (countOf log) maxRevisions && m .kept) 9
     (needs (leb (sizeOfLog log + length (encode (m .edit))) (length log) && leb (length (encodeAll (m .counterparts))) (length out)) 10 0)))))
 
 -- "what comes out is appended": a record behind the log's contents, and one revision more

@@ -10,9 +10,10 @@ use Rattle.record.specs.declared.core.Front.{Front}
 use Rattle.record.specs.InnerFront.{frontOp, Leaves}
 use Rattle.emitter.specs.InnerEmit.{Adds, Retains}
 use Rattle.steps.specs.declared.core.State.{State}
+use Rattle.record.specs.Layout.{deleteKind}
 
 abbrev pub givesOf : Front → ℕ
-givesOf f = cond (eqb (f .kind) 3) 0 (f .left)
+givesOf f = cond (eqb (f .kind) deleteKind) 0 (f .left)
 
 -- the first's operation went by itself
 pub record FirstWent (n : ℕ) (a : List ℕ) (s : State) (o : List ℕ) (r : State) (o′ : List ℕ) : Type 0 where

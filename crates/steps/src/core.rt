@@ -1,6 +1,9 @@
 // The way of compose or transform over the two front records: how it begins, and whether it goes on.
 use characters::Ordering;
 use emitter::core::Emitter;
+use record::core::AT_DELETE;
+use record::core::AT_END;
+use record::core::AT_INSERT;
 use record::core::Front;
 ghost use mathlib.Core.Path.{_≡_};
 ghost use mathlib.Core.Bool.{true};
@@ -10,7 +13,7 @@ ghost use Rattle.buffers.specs.InnerOver.{over};
 ghost use Rattle.characters.specs.Order.{byteOrder, order};
 ghost use Rattle.edits.specs.Transform.{transformTurn, transform as transformOf};
 ghost use Rattle.record.specs.InnerFront.{frontText, Stands};
-ghost use Rattle.record.specs.Layout.{baseOf, textStart, recordsOf};
+ghost use Rattle.record.specs.Layout.{baseOf, textStart, recordsOf, maxOps};
 ghost use Rattle.record.specs.Record.{ops, recordFault};
 ghost use Rattle.emitter.specs.InnerEmit.{Under, headed, settledRecords};
 ghost use Rattle.steps.specs.InnerSteps.{liveIs, Chooses, Begun};
@@ -34,14 +37,14 @@ pub fn whose(a: &[u8], b: &[u8], x: Front, y: Front) -> Turn
     requires { ⌜ Stands (now a) x × Stands (now b) y × (liveIs x y ≡ true) ⌝ }
     ensures { λ r. ⌜ Chooses (transformTurn order) (now (a .entry)) (now (b .entry)) x y r ⌝ }
 {
-    if x.kind == 0 {
+    if x.kind == AT_END {
         return Turn::Second;
     }
-    if y.kind == 0 {
+    if y.kind == AT_END {
         return Turn::First;
     }
-    if x.kind == 2 {
-        if y.kind == 2 {
+    if x.kind == AT_INSERT {
+        if y.kind == AT_INSERT {
             return match rank(a, b, x, y) {
                 Ordering::Less => Turn::First,
                 Ordering::Equal => Turn::Together,
@@ -50,7 +53,7 @@ pub fn whose(a: &[u8], b: &[u8], x: Front, y: Front) -> Turn
         }
         return Turn::First;
     }
-    if y.kind == 2 {
+    if y.kind == AT_INSERT {
         return Turn::Second;
     }
     Turn::Together
@@ -61,7 +64,7 @@ pub fn gives(f: Front) -> usize
     requires { ⌜ f .left < 65536 ⌝ }
     ensures { λ r. ⌜ (r ≡ givesOf f) × (r < 65536) ⌝ }
 {
-    if f.kind == 3 {
+    if f.kind == AT_DELETE {
         return 0;
     }
     f.left
@@ -147,7 +150,7 @@ pub struct State {
 
 // The fronts of two whole records; nothing was emitted.
 pub fn begin(a: &[u8], na: usize, b: &[u8], nb: usize) -> State
-    requires { ⌜ (na ≡ recordsOf (now a)) × (na ≤ 1024) × (nb ≡ recordsOf (now b)) × (nb ≤ 1024) × (recordFault (now a) ≡ 0) × (recordFault (now b) ≡ 0) ⌝ }
+    requires { ⌜ (na ≡ recordsOf (now a)) × (na ≤ maxOps) × (nb ≡ recordsOf (now b)) × (nb ≤ maxOps) × (recordFault (now a) ≡ 0) × (recordFault (now b) ≡ 0) ⌝ }
     ensures { λ s. ⌜ Begun (now (a .entry)) (now (b .entry)) s ⌝ }
 {
     let x = reader::core::first(a, na);
@@ -160,8 +163,8 @@ pub fn begin(a: &[u8], na: usize, b: &[u8], nb: usize) -> State
 pub fn live(x: Front, y: Front) -> bool
     ensures { λ r. ⌜ r ≡ liveIs x y ⌝ }
 {
-    if x.kind == 0 {
-        return y.kind != 0;
+    if x.kind == AT_END {
+        return y.kind != AT_END;
     }
     true
 }

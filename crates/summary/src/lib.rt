@@ -2,6 +2,7 @@
 use answers::Refusal;
 use answers::Written;
 use log::core::Scanned;
+use record::core::MAX_RECORD;
 ghost use mathlib.Core.Path.{_≡_};
 ghost use Prim.Native.Nat.{_≤_};
 ghost use lib.Dec.{T};
@@ -11,6 +12,7 @@ ghost use Rattle.answers.specs.InnerGiven.{Gives};
 ghost use Rattle.answers.specs.Output.{writing};
 ghost use Rattle.log.specs.Log.{countOf, startOf, readable};
 ghost use Rattle.session.specs.Session.{summaryCall};
+ghost use Rattle.record.specs.Layout.{maxSize};
 
 mod partial;
 
@@ -30,11 +32,11 @@ pub fn summary(log: &[u8], out: &mut [u8]) -> Written
 
 // Of a log that can be read. A record within the limits has at most 35,848 bytes.
 fn summed(log: &[u8], count: usize, start: usize, out: &mut [u8]) -> Written
-    requires { ⌜ T (readable (now log)) × (count ≡ countOf (now log)) × (start ≡ startOf (now log)) × (start ≤ 32768) ⌝ }
+    requires { ⌜ T (readable (now log)) × (count ≡ countOf (now log)) × (start ≡ startOf (now log)) × (start ≤ maxSize) ⌝ }
     ensures { λ r. ⌜ Gives (summaryCall (now (log .entry)) (now (out .entry))) r (now (out .exit)) ⌝ }
 {
-    let mut cur = [0u8; 35848];
-    let mut next = [0u8; 35848];
+    let mut cur = [0u8; MAX_RECORD];
+    let mut next = [0u8; MAX_RECORD];
     match partial::sum(log, count, start, &mut cur, &mut next) {
         Written::Refused(x) => Written::Refused(x),
         Written::Bytes(k) => delivered(&cur, k, out),

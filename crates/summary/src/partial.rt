@@ -1,11 +1,12 @@
 // The partial results of composing a log's revisions, each in the buffer of the one before.
 use answers::Written;
+use log::core::LOG_HEADER;
 ghost use mathlib.Core.Path.{_≡_};
 ghost use Prim.Native.Nat.{_≤_};
 ghost use lib.ListN.{length};
 ghost use lib.Dec.{T};
 ghost use Rattle.edits.specs.Compose.{compose as composeOf};
-ghost use Rattle.record.specs.Layout.{baseOf, targetOf};
+ghost use Rattle.record.specs.Layout.{baseOf, targetOf, maxRecord, maxSize};
 ghost use Rattle.record.specs.Record.{ops, recordFault};
 ghost use Rattle.emitter.specs.InnerEmit.{one};
 ghost use Rattle.log.specs.Log.{countOf, startOf, readable};
@@ -21,7 +22,7 @@ fn records(start: usize) -> usize
 
 // The sequence that retains the starting length is written: the number of bytes of its record.
 fn still(start: usize, cur: &mut [u8]) -> usize
-    requires { ⌜ (start ≤ 32768) × (35848 ≤ length (now cur)) ⌝ }
+    requires { ⌜ (start ≤ maxSize) × (maxRecord ≤ length (now cur)) ⌝ }
     ensures { λ r. ⌜ Holds (stillOf start) r (now (cur .exit)) ⌝ }
 {
     let n = records(start);
@@ -34,7 +35,7 @@ fn still(start: usize, cur: &mut [u8]) -> usize
 
 // One revision more: the result takes the place of what the revision is composed with.
 fn step(rec: &[u8], cur: &mut [u8], next: &mut [u8]) -> Written
-    requires { ⌜ (recordFault (now cur) ≡ 0) × (recordFault (now rec) ≡ 0) × (targetOf (now cur) ≡ baseOf (now rec)) × (35848 ≤ length (now cur)) × (35848 ≤ length (now next)) ⌝ }
+    requires { ⌜ (recordFault (now cur) ≡ 0) × (recordFault (now rec) ≡ 0) × (targetOf (now cur) ≡ baseOf (now rec)) × (maxRecord ≤ length (now cur)) × (maxRecord ≤ length (now next)) ⌝ }
     ensures { λ r. ⌜ Makes (composeOf (ops (now (cur .entry))) (ops (now (rec .entry)))) r (now (cur .exit)) ⌝ }
 {
     match compose::core::composed(cur, rec, next) {
@@ -54,11 +55,11 @@ pub(crate) fn sum(
     cur: &mut [u8],
     next: &mut [u8],
 ) -> Written
-    requires { ⌜ T (readable (now log)) × (count ≡ countOf (now log)) × (start ≡ startOf (now log)) × (start ≤ 32768) × (35848 ≤ length (now cur)) × (35848 ≤ length (now next)) ⌝ }
+    requires { ⌜ T (readable (now log)) × (count ≡ countOf (now log)) × (start ≡ startOf (now log)) × (start ≤ maxSize) × (maxRecord ≤ length (now cur)) × (maxRecord ≤ length (now next)) ⌝ }
     ensures { λ r. ⌜ Sums (now (log .entry)) r (now (cur .exit)) ⌝ }
 {
     let mut size = still(start, cur);
-    let mut at = 4;
+    let mut at = LOG_HEADER;
     let mut k = 0;
     while k < count {
         let rec = &log[at..];

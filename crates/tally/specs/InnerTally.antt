@@ -8,7 +8,7 @@ use Rattle.buffers.specs.Lists.{allOf}
 use Rattle.edits.specs.Op.{Op, retain, insert, delete, total, base}
 use Rattle.edits.specs.Built.{chained}
 use Rattle.record.specs.Record.{Entry, soundEntry, entryAt, entries, byteOps, insertBytes}
-use Rattle.record.specs.Layout.{kindAt}
+use Rattle.record.specs.Layout.{kindAt, deleteKind, insertKind, retainKind}
 use Rattle.tally.specs.declared.core.Tally.{Tally}
 use Rattle.tally.specs.declared.core.Parts.{Parts}
 use Rattle.tally.specs.declared.core.Sums.{Sums}
@@ -43,7 +43,7 @@ empty e = picked (eqb (e .count) 0) 1
 
 -- the neighbours' rule on kinds as they are written
 unfoldable pub mayFollow : ℕ → ℕ → Bool
-mayFollow last kind = cond (eqb last kind) false (cond (eqb last 3) (not (eqb kind 2)) true)
+mayFollow last kind = cond (eqb last kind) false (cond (eqb last deleteKind) (not (eqb kind insertKind)) true)
 
 abbrev pub apartAt : List ℕ → ℕ → ℕ
 apartAt r k = picked (not (mayFollow (kindAt r k) (kindAt r (suc k)))) 1
@@ -52,18 +52,18 @@ unfoldable pub tallied : Tally → Entry → Bool → Tally
 tallied t e apart =
     record {
       odd = t .odd + odd e;
-      inserts = t .inserts + ofKind 2 e;
+      inserts = t .inserts + ofKind insertKind e;
       all = t .all + e .count;
-      kept = t .kept + ofKind 1 e;
+      kept = t .kept + ofKind retainKind e;
       apart = t .apart + picked apart 1;
     }
 
 -- the first n entries; their neighbours, where none is odd
 pub record Tallied (r : List ℕ) (n : ℕ) (t : Tally) : Type 0 where
   pub odds : eqb (t .odd) 0 ≡ eqb (sumOf odd r n) 0
-  pub inserted : t .inserts ≡ sumOf (ofKind 2) r n
+  pub inserted : t .inserts ≡ sumOf (ofKind insertKind) r n
   pub counts : t .all ≡ sumOf (λ e. e .count) r n
-  pub retained : t .kept ≡ sumOf (ofKind 1) r n
+  pub retained : t .kept ≡ sumOf (ofKind retainKind) r n
   pub neighbours : t .odd ≡ 0 → t .apart ≡ sumFrom (apartAt r) 0 (n - 1)
   pub few : t .odd ≤ 65537 * n
   pub less : t .inserts ≤ t .all
@@ -79,16 +79,16 @@ unfoldable pub partedBy : Parts → Entry → Parts
 partedBy p e =
     record {
       empty = p .empty + empty e;
-      inserts = p .inserts + ofKind 2 e;
-      kept = p .kept + ofKind 1 e;
-      deleted = p .deleted + ofKind 3 e;
+      inserts = p .inserts + ofKind insertKind e;
+      kept = p .kept + ofKind retainKind e;
+      deleted = p .deleted + ofKind deleteKind e;
     }
 
 pub record Parted (r : List ℕ) (n : ℕ) (p : Parts) : Type 0 where
   pub empties : p .empty ≡ sumOf empty r n
-  pub inserted : p .inserts ≡ sumOf (ofKind 2) r n
-  pub retained : p .kept ≡ sumOf (ofKind 1) r n
-  pub dropped : p .deleted ≡ sumOf (ofKind 3) r n
+  pub inserted : p .inserts ≡ sumOf (ofKind insertKind) r n
+  pub retained : p .kept ≡ sumOf (ofKind retainKind) r n
+  pub dropped : p .deleted ≡ sumOf (ofKind deleteKind) r n
   pub few : p .empty ≤ n
   pub less : p .inserts + p .kept + p .deleted ≤ sumOf (λ e. e .count) r n
 

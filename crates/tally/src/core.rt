@@ -1,10 +1,13 @@
 // The passes of the check over the kinds and the counts of a record.
+use record::core::DELETE;
+use record::core::INSERT;
+use record::core::RETAIN;
 ghost use mathlib.Core.Path.{_≡_};
 ghost use Prim.Native.Nat.{_≤_, _^_, _<_, _+_, _-_};
 ghost use lib.ListN.{length};
 ghost use mathlib.Core.Bool.{not};
 ghost use Rattle.record.specs.Record.{soundEntry};
-ghost use Rattle.record.specs.Layout.{recordsOf, textStart};
+ghost use Rattle.record.specs.Layout.{recordsOf, textStart, maxOps};
 ghost use Rattle.tally.specs.InnerTally.{picked, entry, mayFollow, tallied, Tallied, Whole, partedBy, Parted, sumFrom, apartAt, entriesOf};
 
 // What the kinds and the counts come to: the bytes inserted, whether all neighbours may stand so, the characters of
@@ -47,7 +50,7 @@ fn is_sound(kind: u8, count: u32) -> bool
     if kind == 0 {
         return false;
     }
-    if 3 < kind {
+    if DELETE < kind {
         return false;
     }
     0 < count
@@ -59,8 +62,8 @@ fn may_follow(last: u8, kind: u8) -> bool
     if last == kind {
         return false;
     }
-    if last == 3 {
-        return kind != 2;
+    if last == DELETE {
+        return kind != INSERT;
     }
     true
 }
@@ -83,16 +86,16 @@ fn counted(t: Tally, kind: u8, count: usize, apart: bool) -> Tally
     let c = count as u32;
     Tally {
         odd: t.odd + pick(!is_sound(kind, c), 1),
-        inserts: t.inserts + pick(kind == 2, c),
+        inserts: t.inserts + pick(kind == INSERT, c),
         all: t.all + c,
-        kept: t.kept + pick(kind == 1, c),
+        kept: t.kept + pick(kind == RETAIN, c),
         apart: t.apart + pick(apart, 1),
     }
 }
 
 // Any entries, in one pass: in 32 bits, that are enough for all sums.
 fn any(rec: &[u8], n: usize) -> Tally
-    requires { ⌜ (n ≡ recordsOf (now rec)) × (n ≤ 1024) × (textStart n ≤ length (now rec)) ⌝ }
+    requires { ⌜ (n ≡ recordsOf (now rec)) × (n ≤ maxOps) × (textStart n ≤ length (now rec)) ⌝ }
     ensures { λ r. ⌜ Tallied (now (rec .entry)) n r ⌝ }
 {
     let mut t = Tally {
@@ -126,31 +129,31 @@ fn entered(t: Tally, last: u8, kind: u8, count: u32) -> Tally
 {
     let odd = t.odd + pick(count == 0, 1);
     let all = t.all + count;
-    if kind == 1 {
+    if kind == RETAIN {
         return Tally {
             odd,
             inserts: t.inserts,
             all,
             kept: t.kept + count,
-            apart: t.apart + pick(!may_follow(last, 1), 1),
+            apart: t.apart + pick(!may_follow(last, RETAIN), 1),
         };
     }
-    if kind == 2 {
+    if kind == INSERT {
         return Tally {
             odd,
             inserts: t.inserts + count,
             all,
             kept: t.kept,
-            apart: t.apart + pick(!may_follow(last, 2), 1),
+            apart: t.apart + pick(!may_follow(last, INSERT), 1),
         };
     }
-    if kind == 3 {
+    if kind == DELETE {
         return Tally {
             odd,
             inserts: t.inserts,
             all,
             kept: t.kept,
-            apart: t.apart + pick(!may_follow(last, 3), 1),
+            apart: t.apart + pick(!may_follow(last, DELETE), 1),
         };
     }
     Tally {
@@ -165,7 +168,7 @@ fn entered(t: Tally, last: u8, kind: u8, count: u32) -> Tally
 // A few entries, one after another: with branches that is the fewest instructions for those of a keystroke. Kind 0 stands
 // before the first: only what can't be may not follow it.
 fn few(rec: &[u8], n: usize) -> Tally
-    requires { ⌜ (n ≡ recordsOf (now rec)) × (n ≤ 1024) × (textStart n ≤ length (now rec)) ⌝ }
+    requires { ⌜ (n ≡ recordsOf (now rec)) × (n ≤ maxOps) × (textStart n ≤ length (now rec)) ⌝ }
     ensures { λ r. ⌜ Tallied (now (rec .entry)) n r ⌝ }
 {
     let mut t = Tally {
@@ -189,11 +192,11 @@ fn few(rec: &[u8], n: usize) -> Tally
 
 // All counts, or 65,536 where the entries are so few that one pass in 32 bits was measured to be faster.
 fn all_counts(rec: &[u8], n: usize) -> u32
-    requires { ⌜ (n ≡ recordsOf (now rec)) × (n ≤ 1024) × (textStart n ≤ length (now rec)) ⌝ }
+    requires { ⌜ (n ≡ recordsOf (now rec)) × (n ≤ maxOps) × (textStart n ≤ length (now rec)) ⌝ }
     ensures { λ r. ⌜ Whole (now (rec .entry)) n r ⌝ }
 {
     if n < 32 {
-        return 65536;
+        return TOO_MANY;
     }
     let mut all: u32 = 0;
     let mut k = 0;
@@ -214,21 +217,21 @@ struct Parts {
 
 // One entry more.
 fn parted(p: Parts, kind: u8, count: usize) -> Parts
-    requires { ⌜ (p .empty ≤ 1024) × (p .inserts + p .kept + p .deleted + count < 65536) ⌝ }
+    requires { ⌜ (p .empty ≤ maxOps) × (p .inserts + p .kept + p .deleted + count < 65536) ⌝ }
     ensures { λ r. ⌜ r ≡ partedBy p (entry kind count) ⌝ }
 {
     let c = count as u16;
     Parts {
         empty: p.empty + pick_u16(c == 0, 1),
-        inserts: p.inserts + pick_u16(kind == 2, c),
-        kept: p.kept + pick_u16(kind == 1, c),
-        deleted: p.deleted + pick_u16(kind == 3, c),
+        inserts: p.inserts + pick_u16(kind == INSERT, c),
+        kept: p.kept + pick_u16(kind == RETAIN, c),
+        deleted: p.deleted + pick_u16(kind == DELETE, c),
     }
 }
 
 // Where all counts together are under 65,536, 16 bits are enough for each part of them.
 fn part(rec: &[u8], n: usize, all: u32) -> Parts
-    requires { ⌜ (n ≡ recordsOf (now rec)) × (n ≤ 1024) × (textStart n ≤ length (now rec)) × (all < 65536) × Whole (now rec) n all ⌝ }
+    requires { ⌜ (n ≡ recordsOf (now rec)) × (n ≤ maxOps) × (textStart n ≤ length (now rec)) × (all < 65536) × Whole (now rec) n all ⌝ }
     ensures { λ r. ⌜ Parted (now (rec .entry)) n r ⌝ }
 {
     let mut p = Parts {
@@ -246,6 +249,14 @@ fn part(rec: &[u8], n: usize, all: u32) -> Parts
     }
     p
 }
+
+// So many neighbours are counted in 8 bits: 7 times the 32 that are done at once.
+const NEIGHBOURS: usize = 224;
+
+// All counts together for which 16 bits are enough.
+const MOST_COUNTS: u32 = 65535;
+
+const TOO_MANY: u32 = MOST_COUNTS + 1;
 
 // How many neighbours may not stand so, of the entries from..to and each one before.
 fn apart_in(rec: &[u8], from: usize, to: usize) -> u8
@@ -265,28 +276,28 @@ fn apart_in(rec: &[u8], from: usize, to: usize) -> u8
 
 // The same of all entries. 8 bits are enough for 224 of them: 7 times the 32 that are done at once.
 fn apart(rec: &[u8], n: usize) -> u32
-    requires { ⌜ (n ≡ recordsOf (now rec)) × (n ≤ 1024) × (textStart n ≤ length (now rec)) ⌝ }
+    requires { ⌜ (n ≡ recordsOf (now rec)) × (n ≤ maxOps) × (textStart n ≤ length (now rec)) ⌝ }
     ensures { λ r. ⌜ (r ≡ sumFrom (apartAt (now (rec .entry))) 0 (n - 1)) × (r ≤ n) ⌝ }
 {
     let mut apart: u32 = 0;
     let mut from = 1;
-    while from + 224 < n {
-        apart += apart_in(rec, from, from + 224) as u32;
-        from += 224;
+    while from + NEIGHBOURS < n {
+        apart += apart_in(rec, from, from + NEIGHBOURS) as u32;
+        from += NEIGHBOURS;
     }
     apart + apart_in(rec, from, n) as u32
 }
 
 // What can't be has a count of 0, or one that is of no kind.
 fn count_up(rec: &[u8], n: usize) -> Tally
-    requires { ⌜ (n ≡ recordsOf (now rec)) × (n ≤ 1024) × (textStart n ≤ length (now rec)) ⌝ }
+    requires { ⌜ (n ≡ recordsOf (now rec)) × (n ≤ maxOps) × (textStart n ≤ length (now rec)) ⌝ }
     ensures { λ r. ⌜ Tallied (now (rec .entry)) n r ⌝ }
 {
     if n < 8 {
         return few(rec, n);
     }
     let all = all_counts(rec, n);
-    if 65535 < all {
+    if MOST_COUNTS < all {
         return any(rec, n);
     }
     let p = part(rec, n, all);
@@ -303,7 +314,7 @@ fn count_up(rec: &[u8], n: usize) -> Tally
 }
 
 pub fn sum_up(rec: &[u8], n: usize) -> Entries
-    requires { ⌜ (n ≡ recordsOf (now rec)) × (n ≤ 1024) × (textStart n ≤ length (now rec)) ⌝ }
+    requires { ⌜ (n ≡ recordsOf (now rec)) × (n ≤ maxOps) × (textStart n ≤ length (now rec)) ⌝ }
     ensures { λ r. ⌜ r ≡ entriesOf (now (rec .entry)) ⌝ }
 {
     let t = count_up(rec, n);

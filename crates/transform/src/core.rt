@@ -2,6 +2,9 @@
 use answers::Refusal;
 use answers::WrittenPair;
 use emitter::core::Emitter;
+use record::core::HEADER;
+use record::core::MAX_OPS;
+use record::core::OP_BYTES;
 use steps::core::Both;
 use steps::core::Counts;
 ghost use mathlib.Core.Path.{_≡_};
@@ -9,7 +12,7 @@ ghost use Prim.Native.Nat.{_≤_, _^_, _+_, min};
 ghost use lib.ListN.{length};
 ghost use Rattle.characters.specs.Order.{order};
 ghost use Rattle.edits.specs.Transform.{transform as transformOf};
-ghost use Rattle.record.specs.Layout.{recordsOf, textStart, baseOf};
+ghost use Rattle.record.specs.Layout.{recordsOf, textStart, baseOf, maxOps};
 ghost use Rattle.record.specs.Record.{recordFault, ops};
 ghost use Rattle.emitter.specs.InnerEmit.{Under, judgedBoth};
 ghost use Rattle.steps.specs.InnerBoth.{BegunBoth, MarkedBoth};
@@ -17,7 +20,7 @@ ghost use Rattle.steps.specs.InnerSteps.{liveIs};
 ghost use Rattle.transform.specs.InnerPairs.{Transforms};
 
 fn begin(a: &[u8], na: usize, b: &[u8], nb: usize) -> Both
-    requires { ⌜ (na ≡ recordsOf (now a)) × (na ≤ 1024) × (nb ≡ recordsOf (now b)) × (nb ≤ 1024) × (recordFault (now a) ≡ 0) × (recordFault (now b) ≡ 0) ⌝ }
+    requires { ⌜ (na ≡ recordsOf (now a)) × (na ≤ maxOps) × (nb ≡ recordsOf (now b)) × (nb ≤ maxOps) × (recordFault (now a) ≡ 0) × (recordFault (now b) ≡ 0) ⌝ }
     ensures { λ r. ⌜ BegunBoth (now (a .entry)) (now (b .entry)) r ⌝ }
 {
     let s = steps::core::begin(a, na, b, nb);
@@ -46,7 +49,7 @@ fn run(
     stage_b: &mut [u8],
     slots: usize,
 ) -> Counts
-    requires { ⌜ (na ≡ recordsOf (now a)) × (na ≤ 1024) × (nb ≡ recordsOf (now b)) × (nb ≤ 1024) × (recordFault (now a) ≡ 0) × (recordFault (now b) ≡ 0) × (slots ≤ 2 ^ 40) × (length (now «stage_a») ≤ textStart slots) × (length (now «stage_b») ≤ textStart slots) ⌝ }
+    requires { ⌜ (na ≡ recordsOf (now a)) × (na ≤ maxOps) × (nb ≡ recordsOf (now b)) × (nb ≤ maxOps) × (recordFault (now a) ≡ 0) × (recordFault (now b) ≡ 0) × (slots ≤ 2 ^ 40) × (length (now «stage_a») ≤ textStart slots) × (length (now «stage_b») ≤ textStart slots) ⌝ }
     ensures { λ r. ⌜ MarkedBoth slots (transformOf order (ops (now (a .entry))) (ops (now (b .entry)))) r (now («stage_a» .exit)) (now («stage_b» .exit)) ⌝ }
 {
     let mut s = begin(a, na, b, nb);
@@ -99,7 +102,7 @@ fn staged(
     out_a: &mut [u8],
     out_b: &mut [u8],
 ) -> WrittenPair
-    requires { ⌜ (na ≡ recordsOf (now a)) × (na ≤ 1024) × (nb ≡ recordsOf (now b)) × (nb ≤ 1024) × (recordFault (now a) ≡ 0) × (recordFault (now b) ≡ 0) × (slots ≤ 1024) × (min (na + nb) 1024 ≤ slots) × (length (now «stage_a») ≡ textStart slots) × (length (now «stage_b») ≡ textStart slots) × (baseOf (now a) ≡ baseOf (now b)) ⌝ }
+    requires { ⌜ (na ≡ recordsOf (now a)) × (na ≤ maxOps) × (nb ≡ recordsOf (now b)) × (nb ≤ maxOps) × (recordFault (now a) ≡ 0) × (recordFault (now b) ≡ 0) × (slots ≤ maxOps) × (min (na + nb) maxOps ≤ slots) × (length (now «stage_a») ≡ textStart slots) × (length (now «stage_b») ≡ textStart slots) × (baseOf (now a) ≡ baseOf (now b)) ⌝ }
     ensures { λ r. ⌜ Transforms (now (a .entry)) (now (b .entry)) (now («out_a» .entry)) (now («out_b» .entry)) r (now («out_a» .exit)) (now («out_b» .exit)) ⌝ }
 {
     let c = run(a, na, b, nb, stage_a, stage_b, slots);
@@ -117,6 +120,17 @@ fn staged(
     }
 }
 
+// The operations that a stage has places for, and its bytes.
+const SMALL_OPS: usize = 40;
+
+const SMALL_STAGE: usize = HEADER + OP_BYTES * SMALL_OPS;
+
+const MEDIUM_OPS: usize = 338;
+
+const MEDIUM_STAGE: usize = HEADER + OP_BYTES * MEDIUM_OPS;
+
+const LARGE_STAGE: usize = HEADER + OP_BYTES * MAX_OPS;
+
 // With stages of several lengths: what is cleared is paid for.
 fn small(
     a: &[u8],
@@ -126,12 +140,22 @@ fn small(
     out_a: &mut [u8],
     out_b: &mut [u8],
 ) -> WrittenPair
-    requires { ⌜ (na ≡ recordsOf (now a)) × (na ≤ 1024) × (nb ≡ recordsOf (now b)) × (nb ≤ 1024) × (recordFault (now a) ≡ 0) × (recordFault (now b) ≡ 0) × (na + nb ≤ 40) × (baseOf (now a) ≡ baseOf (now b)) ⌝ }
+    requires { ⌜ (na ≡ recordsOf (now a)) × (na ≤ maxOps) × (nb ≡ recordsOf (now b)) × (nb ≤ maxOps) × (recordFault (now a) ≡ 0) × (recordFault (now b) ≡ 0) × (na + nb ≤ 40) × (baseOf (now a) ≡ baseOf (now b)) ⌝ }
     ensures { λ r. ⌜ Transforms (now (a .entry)) (now (b .entry)) (now («out_a» .entry)) (now («out_b» .entry)) r (now («out_a» .exit)) (now («out_b» .exit)) ⌝ }
 {
-    let mut stage_a = [0u8; 128];
-    let mut stage_b = [0u8; 128];
-    match staged(a, na, b, nb, &mut stage_a, &mut stage_b, 40, out_a, out_b) {
+    let mut stage_a = [0u8; SMALL_STAGE];
+    let mut stage_b = [0u8; SMALL_STAGE];
+    match staged(
+        a,
+        na,
+        b,
+        nb,
+        &mut stage_a,
+        &mut stage_b,
+        SMALL_OPS,
+        out_a,
+        out_b,
+    ) {
         WrittenPair::Bytes(k, l) => WrittenPair::Bytes(k, l),
         WrittenPair::Refused(x) => WrittenPair::Refused(x),
     }
@@ -145,12 +169,22 @@ fn medium(
     out_a: &mut [u8],
     out_b: &mut [u8],
 ) -> WrittenPair
-    requires { ⌜ (na ≡ recordsOf (now a)) × (na ≤ 1024) × (nb ≡ recordsOf (now b)) × (nb ≤ 1024) × (recordFault (now a) ≡ 0) × (recordFault (now b) ≡ 0) × (na + nb ≤ 338) × (baseOf (now a) ≡ baseOf (now b)) ⌝ }
+    requires { ⌜ (na ≡ recordsOf (now a)) × (na ≤ maxOps) × (nb ≡ recordsOf (now b)) × (nb ≤ maxOps) × (recordFault (now a) ≡ 0) × (recordFault (now b) ≡ 0) × (na + nb ≤ 338) × (baseOf (now a) ≡ baseOf (now b)) ⌝ }
     ensures { λ r. ⌜ Transforms (now (a .entry)) (now (b .entry)) (now («out_a» .entry)) (now («out_b» .entry)) r (now («out_a» .exit)) (now («out_b» .exit)) ⌝ }
 {
-    let mut stage_a = [0u8; 1022];
-    let mut stage_b = [0u8; 1022];
-    match staged(a, na, b, nb, &mut stage_a, &mut stage_b, 338, out_a, out_b) {
+    let mut stage_a = [0u8; MEDIUM_STAGE];
+    let mut stage_b = [0u8; MEDIUM_STAGE];
+    match staged(
+        a,
+        na,
+        b,
+        nb,
+        &mut stage_a,
+        &mut stage_b,
+        MEDIUM_OPS,
+        out_a,
+        out_b,
+    ) {
         WrittenPair::Bytes(k, l) => WrittenPair::Bytes(k, l),
         WrittenPair::Refused(x) => WrittenPair::Refused(x),
     }
@@ -164,12 +198,22 @@ fn large(
     out_a: &mut [u8],
     out_b: &mut [u8],
 ) -> WrittenPair
-    requires { ⌜ (na ≡ recordsOf (now a)) × (na ≤ 1024) × (nb ≡ recordsOf (now b)) × (nb ≤ 1024) × (recordFault (now a) ≡ 0) × (recordFault (now b) ≡ 0) × (baseOf (now a) ≡ baseOf (now b)) ⌝ }
+    requires { ⌜ (na ≡ recordsOf (now a)) × (na ≤ maxOps) × (nb ≡ recordsOf (now b)) × (nb ≤ maxOps) × (recordFault (now a) ≡ 0) × (recordFault (now b) ≡ 0) × (baseOf (now a) ≡ baseOf (now b)) ⌝ }
     ensures { λ r. ⌜ Transforms (now (a .entry)) (now (b .entry)) (now («out_a» .entry)) (now («out_b» .entry)) r (now («out_a» .exit)) (now («out_b» .exit)) ⌝ }
 {
-    let mut stage_a = [0u8; 3080];
-    let mut stage_b = [0u8; 3080];
-    match staged(a, na, b, nb, &mut stage_a, &mut stage_b, 1024, out_a, out_b) {
+    let mut stage_a = [0u8; LARGE_STAGE];
+    let mut stage_b = [0u8; LARGE_STAGE];
+    match staged(
+        a,
+        na,
+        b,
+        nb,
+        &mut stage_a,
+        &mut stage_b,
+        MAX_OPS,
+        out_a,
+        out_b,
+    ) {
         WrittenPair::Bytes(k, l) => WrittenPair::Bytes(k, l),
         WrittenPair::Refused(x) => WrittenPair::Refused(x),
     }
@@ -187,10 +231,10 @@ pub fn transformed(a: &[u8], b: &[u8], out_a: &mut [u8], out_b: &mut [u8]) -> Wr
     }
     let na = reader::core::records(a);
     let nb = reader::core::records(b);
-    if 338 < na + nb {
+    if MEDIUM_OPS < na + nb {
         return large(a, na, b, nb, out_a, out_b);
     }
-    if 40 < na + nb {
+    if SMALL_OPS < na + nb {
         return medium(a, na, b, nb, out_a, out_b);
     }
     small(a, na, b, nb, out_a, out_b)

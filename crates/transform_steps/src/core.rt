@@ -1,5 +1,8 @@
 // One step of transform over the front operations of two records that were checked: what either becomes past the other.
 use characters::Ordering;
+use record::core::AT_END;
+use record::core::AT_INSERT;
+use record::core::AT_RETAIN;
 use steps::core::Both;
 use steps::core::Pair;
 use steps::core::Turn;
@@ -136,15 +139,15 @@ fn meet(
     let f = s.f;
     let i = x.to;
     let j = y.to;
-    if y.kind == 1 {
+    if y.kind == AT_RETAIN {
         let d = emitter::core::mark(out_a, m, e, a, x, k, i);
-        if x.kind == 1 {
+        if x.kind == AT_RETAIN {
             let h = emitter::core::mark(out_b, n, f, b, y, k, j);
             return Pair { e: d, f: h };
         }
         return Pair { e: d, f };
     }
-    if x.kind == 1 {
+    if x.kind == AT_RETAIN {
         let h = emitter::core::mark(out_b, n, f, b, y, k, j);
         return Pair { e, f: h };
     }
@@ -270,19 +273,19 @@ pub fn turn(
 {
     let x = s.x;
     let y = s.y;
-    if x.kind == 2 {
-        if y.kind == 2 {
+    if x.kind == AT_INSERT {
+        if y.kind == AT_INSERT {
             return inserts(a, na, b, nb, out_a, m, out_b, n, s);
         }
         return insert_first(a, na, out_a, m, s);
     }
-    if y.kind == 2 {
+    if y.kind == AT_INSERT {
         return insert_second(b, nb, out_b, n, s);
     }
-    if x.kind == 0 {
+    if x.kind == AT_END {
         return second(b, nb, out_b, n, s);
     }
-    if y.kind == 0 {
+    if y.kind == AT_END {
         return first(a, na, out_a, m, s);
     }
     together(a, na, b, nb, out_a, m, out_b, n, s)
