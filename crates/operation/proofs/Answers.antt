@@ -72,9 +72,9 @@ pub record Agreed (r : List ℕ) (n t g : ℕ) : Type 0 where
   pub short : t ≤ 32768
   pub small : g < 2 ^ 32
 
-pub links : (r : List ℕ) (e : Entries) → e ≡ entriesOf r → (q : Sums) → e ≡ Of q → q .linked ≡ chained (byteOps r)
+pub links : (r : List ℕ) (e : Entries) → e ≡ entriesOf r → (q : Sums) → e ≡ Of q → q .ordered ≡ chained (byteOps r)
 unfolding entriesOf
-links r e p q u = ap (λ x. x .linked) (sym (summing (allOf soundEntry (entries r)) (sumsOf r) q e p u .1)) ∙ found r .linked
+links r e p q u = ap (λ x. x .ordered) (sym (summing (allOf soundEntry (entries r)) (sumsOf r) q e p u .1)) ∙ found r .ordered
 
 module _ (r : List ℕ) (a : Bool) (pa : a ≡ inLimits r) where
   pub check-1 : not a ≡ true → refused 1 ≡ checkCall r
@@ -136,14 +136,14 @@ module _ (r : List ℕ) (a : Bool) (pa : a ≡ inLimits r) where
               unfolding insertedOf
               texts = formed (allOf wellInserted (byteOps r)) (numChars (textOf r)) c o po pc
 
-              pub check-4 : not (q .linked) ≡ true → refused 4 ≡ checkCall r
+              pub check-4 : not (q .ordered) ≡ true → refused 4 ≡ checkCall r
               unfolding checkCall recordFault
-              check-4 u = rw (limited, is-sound, texts .0, sym (sums .linked) ∙ not-true (q .linked) u)
+              check-4 u = rw (limited, is-sound, texts .0, sym (sums .ordered) ∙ not-true (q .ordered) u)
 
-              module _ (ml : not (q .linked) ≡ false) (b′ : ℕ) (pb : b′ ≡ baseOf r) where
+              module _ (ml : not (q .ordered) ≡ false) (b′ : ℕ) (pb : b′ ≡ baseOf r) where
                 pub check-5 : (q .base ≡ b′ → ⊥) → refused 5 ≡ checkCall r
                 unfolding checkCall recordFault adds
-                check-5 u = rw (limited, is-sound, texts .0, sym (sums .linked) ∙ not-false (q .linked) ml, ne-eqb (base (byteOps r)) (baseOf r) (λ z. u (sums .base-is ∙ z ∙ sym pb)))
+                check-5 u = rw (limited, is-sound, texts .0, sym (sums .ordered) ∙ not-false (q .ordered) ml, ne-eqb (base (byteOps r)) (baseOf r) (λ z. u (sums .base-is ∙ z ∙ sym pb)))
 
                 pub agreed : (n : ℕ) → n ≡ recordsOf r → q .base ≡ b′ → Agreed r n t (q .kept + c)
                 unfolding textOf
@@ -152,7 +152,7 @@ module _ (r : List ℕ) (a : Bool) (pa : a ≡ inLimits r) where
                       in-limits = limited;
                       is-sound = is-sound;
                       texts = texts .0;
-                      chain = sym (sums .linked) ∙ not-false (q .linked) ml;
+                      chain = sym (sums .ordered) ∙ not-false (q .ordered) ml;
                       base-is = sym (sums .base-is) ∙ mb ∙ pb;
                       target-is = rw (texts .1) at (sums .target-is adds-up);
                       records = pn;

@@ -28,7 +28,7 @@ use Rattle.record.specs.InnerFront.{byteOpsLeft, entriesLeft}
 use Rattle.record.proofs.Records.{sound-kind}
 use Rattle.record.proofs.Walks.{left-all, left-insert, inserts-more, inserts-same, left-other, entries-done, entries-next, sound-next}
 use Rattle.tally.specs.InnerTally.{entry, mayFollow, picked}
-use Rattle.tally.proofs.Tallying.{chars-part, linked-follow}
+use Rattle.tally.proofs.Tallying.{chars-part, ordered-follow}
 use Rattle.operation.specs.InnerTexts.{startWell, Sound, Reached, insertedOf}
 use Rattle.operation.specs.declared.checks.Inserted.the-variants.{IllFormed, Chars}
 
@@ -219,7 +219,7 @@ not-twice k l f p q = absurd (known (sym (ap₂ mayFollow p q) ∙ f))
 module _ (r : List ℕ) (n k at : ℕ) {w : Bool} (s : Sound r) (e : n ≡ recordsOf r) (z : kindAt r k ≡ 2) (g : Starting r (k + 1) at w) where
   began-second : chained (byteOps r) ≡ true → k + 1 < n → Starting r (k + 1 + 1) at w
   began-second p h =
-      let f = linked-follow r n k e (s .entries-sound) p h in
+      let f = ordered-follow r n k e (s .entries-sound) p h in
       starting-other r n (k + 1) at (kindAt r (k + 1)) h e g refl (λ y. not-twice (kindAt r k) (kindAt r (suc k)) f z (ap (kindAt r) (sym (add-one k)) ∙ y))
 
   pub began-behind : (b : Bool) (m : ℕ) → b ≡ chained (byteOps r) → m ≡ picked b 1 → Began r n (k + m + 1) at w

@@ -40,11 +40,11 @@ pub(crate) fn in_limits(rec: &[u8]) -> bool
 // narrower their numbers are.
 
 // Whether no insert begins with a continuation. Where all neighbours may stand so, none stands directly behind another.
-fn start_well(rec: &[u8], n: usize, linked: bool) -> bool
-    requires { ⌜ (n ≡ recordsOf (now rec)) × (linked ≡ chained (byteOps (now rec))) × Sound (now rec) ⌝ }
+fn start_well(rec: &[u8], n: usize, ordered: bool) -> bool
+    requires { ⌜ (n ≡ recordsOf (now rec)) × (ordered ≡ chained (byteOps (now rec))) × Sound (now rec) ⌝ }
     ensures { λ r. ⌜ r ≡ startWell (entries (now (rec .entry))) (drop (textStart n) (now (rec .entry))) ⌝ }
 {
-    let behind = tally::core::pick(linked, 1) as usize;
+    let behind = tally::core::pick(ordered, 1) as usize;
     let mut at = layout::core::text_start(n);
     let mut k = 0;
     while k < n {
@@ -69,8 +69,8 @@ pub(crate) enum Inserted {
 }
 
 // All inserts at once: where the whole is well-formed, each is that begins with no continuation.
-pub(crate) fn inserted_chars(rec: &[u8], n: usize, text: usize, linked: bool) -> Inserted
-    requires { ⌜ (n ≡ recordsOf (now rec)) × (text ≡ textBytesOf (now rec)) × (linked ≡ chained (byteOps (now rec))) × Sound (now rec) ⌝ }
+pub(crate) fn inserted_chars(rec: &[u8], n: usize, text: usize, ordered: bool) -> Inserted
+    requires { ⌜ (n ≡ recordsOf (now rec)) × (text ≡ textBytesOf (now rec)) × (ordered ≡ chained (byteOps (now rec))) × Sound (now rec) ⌝ }
     ensures { λ r. ⌜ r ≡ insertedOf (now (rec .entry)) ⌝ }
 {
     if text == 0 {
@@ -83,7 +83,7 @@ pub(crate) fn inserted_chars(rec: &[u8], n: usize, text: usize, linked: bool) ->
         return Inserted::IllFormed;
     };
     if chars < text {
-        if !start_well(rec, n, linked) {
+        if !start_well(rec, n, ordered) {
             return Inserted::IllFormed;
         }
     }

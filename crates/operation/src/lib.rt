@@ -26,10 +26,10 @@ pub fn check(rec: &[u8]) -> Fact
     if sums.inserts != text {
         return Fact::Refused(Refusal::Entry);
     }
-    let checks::Inserted::Chars(chars) = checks::inserted_chars(rec, n, text, sums.linked) else {
+    let checks::Inserted::Chars(chars) = checks::inserted_chars(rec, n, text, sums.ordered) else {
         return Fact::Refused(Refusal::Utf8);
     };
-    if !sums.linked {
+    if !sums.ordered {
         return Fact::Refused(Refusal::Neighbours);
     }
     if sums.base != layout::core::base(rec) {

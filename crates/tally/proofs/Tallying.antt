@@ -24,7 +24,7 @@ use Rattle.record.specs.Layout.{kindAt, countAt, recordsOf, textBytesOf, textSt
 use Rattle.record.proofs.Records.{sound-kind}
 use Rattle.tally.specs.declared.core.Tally.{Tally}
 use Rattle.tally.specs.declared.core.Parts.{Parts}
-use Rattle.tally.specs.InnerTally.{entry, picked, odd, empty, tallied, partedBy, mayFollow, sumFrom, Tallied, apartAt, ofKind, sumOf, Whole, Parted, keeps, sumsOf, entriesOf}
+use Rattle.tally.specs.InnerTally.{entry, picked, invalid, empty, tallied, partedBy, mayFollow, sumFrom, Tallied, apartAt, ofKind, sumOf, Whole, Parted, keeps, sumsOf, entriesOf}
 use Rattle.tally.specs.declared.core.Entries.the-variants.{Unsound, Of}
 use Rattle.tally.specs.declared.core.Sums.{Sums}
 
@@ -41,12 +41,12 @@ module _ (k n : ℕ) where
   sound-count z h = rw (inside 1 3 k (omega arith) h)
 
   pub count-one : (t : Tally) (b a : Bool) (o i j m : ℕ) → b ≡ soundEntry (entry k n) → o ≡ picked (not b) 1 → i ≡ picked (eqb k 2) n → j ≡ picked (eqb k 1) n → m ≡ picked a 1
-      → record { odd = t .odd + o; inserts = t .inserts + i; all = t .all + n; kept = t .kept + j; apart = t .apart + m } ≡ tallied t (entry k n) a
+      → record { invalid = t .invalid + o; inserts = t .inserts + i; all = t .all + n; kept = t .kept + j; clashes = t .clashes + m } ≡ tallied t (entry k n) a
   unfolding tallied
   count-one t b a o i j m p q u v w = rw (q, u, v, w, p)
 
-  odd-known : (k ≡ 0 → ⊥) → k ≤ 3 → picked (eqb n 0) 1 ≡ odd (entry k n)
-  odd-known z h = ap (λ b. picked b 1) (go n) ∙ ap (λ b. picked (not b) 1) (sound-count z h)
+  invalid-known : (k ≡ 0 → ⊥) → k ≤ 3 → picked (eqb n 0) 1 ≡ invalid (entry k n)
+  invalid-known z h = ap (λ b. picked b 1) (go n) ∙ ap (λ b. picked (not b) 1) (sound-count z h)
     where
       go : (n : ℕ) → eqb n 0 ≡ not (leb 1 n)
       go zero = refl
@@ -55,31 +55,31 @@ module _ (k n : ℕ) where
   -- by its kind
   module _ (t : Tally) (last o m : ℕ) (b : Bool) where
     pub enter-retain : k ≡ 1 → o ≡ picked (eqb n 0) 1 → b ≡ mayFollow last 1 → m ≡ picked (not b) 1
-        → record { odd = t .odd + o; inserts = t .inserts; all = t .all + n; kept = t .kept + n; apart = t .apart + m } ≡ tallied t (entry k n) (not (mayFollow last k))
+        → record { invalid = t .invalid + o; inserts = t .inserts; all = t .all + n; kept = t .kept + n; clashes = t .clashes + m } ≡ tallied t (entry k n) (not (mayFollow last k))
     enter-retain e p q s =
-        (λ i. record { odd = t .odd + o; inserts = sym (add-zero (t .inserts)) i; all = t .all + n; kept = t .kept + n; apart = t .apart + m })
-        ∙ count-one t (soundEntry (entry k n)) (not (mayFollow last k)) o 0 n m refl (p ∙ odd-known (λ z. absurd (omega arith)) (omega arith)) (rw (ne-eqb k 2 (λ z. absurd (omega arith)))) (rw (eq-eqb k 1 e)) (s ∙ ap (λ x. picked (not x) 1) (q ∙ ap (mayFollow last) (sym e)))
+        (λ i. record { invalid = t .invalid + o; inserts = sym (add-zero (t .inserts)) i; all = t .all + n; kept = t .kept + n; clashes = t .clashes + m })
+        ∙ count-one t (soundEntry (entry k n)) (not (mayFollow last k)) o 0 n m refl (p ∙ invalid-known (λ z. absurd (omega arith)) (omega arith)) (rw (ne-eqb k 2 (λ z. absurd (omega arith)))) (rw (eq-eqb k 1 e)) (s ∙ ap (λ x. picked (not x) 1) (q ∙ ap (mayFollow last) (sym e)))
 
     pub enter-insert : k ≡ 2 → o ≡ picked (eqb n 0) 1 → b ≡ mayFollow last 2 → m ≡ picked (not b) 1
-        → record { odd = t .odd + o; inserts = t .inserts + n; all = t .all + n; kept = t .kept; apart = t .apart + m } ≡ tallied t (entry k n) (not (mayFollow last k))
+        → record { invalid = t .invalid + o; inserts = t .inserts + n; all = t .all + n; kept = t .kept; clashes = t .clashes + m } ≡ tallied t (entry k n) (not (mayFollow last k))
     enter-insert e p q s =
-        (λ i. record { odd = t .odd + o; inserts = t .inserts + n; all = t .all + n; kept = sym (add-zero (t .kept)) i; apart = t .apart + m })
-        ∙ count-one t (soundEntry (entry k n)) (not (mayFollow last k)) o n 0 m refl (p ∙ odd-known (λ z. absurd (omega arith)) (omega arith)) (rw (eq-eqb k 2 e)) (rw (ne-eqb k 1 (λ z. absurd (omega arith)))) (s ∙ ap (λ x. picked (not x) 1) (q ∙ ap (mayFollow last) (sym e)))
+        (λ i. record { invalid = t .invalid + o; inserts = t .inserts + n; all = t .all + n; kept = sym (add-zero (t .kept)) i; clashes = t .clashes + m })
+        ∙ count-one t (soundEntry (entry k n)) (not (mayFollow last k)) o n 0 m refl (p ∙ invalid-known (λ z. absurd (omega arith)) (omega arith)) (rw (eq-eqb k 2 e)) (rw (ne-eqb k 1 (λ z. absurd (omega arith)))) (s ∙ ap (λ x. picked (not x) 1) (q ∙ ap (mayFollow last) (sym e)))
 
     -- what adds to neither
-    enter-neither : (k ≡ 1 → ⊥) → (k ≡ 2 → ⊥) → o ≡ odd (entry k n) → b ≡ mayFollow last k → m ≡ picked (not b) 1
-        → record { odd = t .odd + o; inserts = t .inserts; all = t .all + n; kept = t .kept; apart = t .apart + m } ≡ tallied t (entry k n) (not (mayFollow last k))
+    enter-neither : (k ≡ 1 → ⊥) → (k ≡ 2 → ⊥) → o ≡ invalid (entry k n) → b ≡ mayFollow last k → m ≡ picked (not b) 1
+        → record { invalid = t .invalid + o; inserts = t .inserts; all = t .all + n; kept = t .kept; clashes = t .clashes + m } ≡ tallied t (entry k n) (not (mayFollow last k))
     enter-neither x y p q s =
-        (λ i. record { odd = t .odd + o; inserts = sym (add-zero (t .inserts)) i; all = t .all + n; kept = sym (add-zero (t .kept)) i; apart = t .apart + m })
+        (λ i. record { invalid = t .invalid + o; inserts = sym (add-zero (t .inserts)) i; all = t .all + n; kept = sym (add-zero (t .kept)) i; clashes = t .clashes + m })
         ∙ count-one t (soundEntry (entry k n)) (not (mayFollow last k)) o 0 0 m refl p (rw (ne-eqb k 2 y)) (rw (ne-eqb k 1 x)) (s ∙ ap (λ x. picked (not x) 1) q)
 
     pub enter-delete : k ≡ 3 → o ≡ picked (eqb n 0) 1 → b ≡ mayFollow last 3 → m ≡ picked (not b) 1
-        → record { odd = t .odd + o; inserts = t .inserts; all = t .all + n; kept = t .kept; apart = t .apart + m } ≡ tallied t (entry k n) (not (mayFollow last k))
+        → record { invalid = t .invalid + o; inserts = t .inserts; all = t .all + n; kept = t .kept; clashes = t .clashes + m } ≡ tallied t (entry k n) (not (mayFollow last k))
     enter-delete e p q s =
-        enter-neither (λ z. absurd (omega arith)) (λ z. absurd (omega arith)) (p ∙ odd-known (λ z. absurd (omega arith)) (omega arith)) (q ∙ ap (mayFollow last) (sym e)) s
+        enter-neither (λ z. absurd (omega arith)) (λ z. absurd (omega arith)) (p ∙ invalid-known (λ z. absurd (omega arith)) (omega arith)) (q ∙ ap (mayFollow last) (sym e)) s
 
   pub enter-other : (t : Tally) (last m : ℕ) (b : Bool) → (k ≡ 1 → ⊥) → (k ≡ 2 → ⊥) → (k ≡ 3 → ⊥) → b ≡ mayFollow last k → m ≡ picked (not b) 1
-      → record { odd = t .odd + 1; inserts = t .inserts; all = t .all + n; kept = t .kept; apart = t .apart + m } ≡ tallied t (entry k n) (not (mayFollow last k))
+      → record { invalid = t .invalid + 1; inserts = t .inserts; all = t .all + n; kept = t .kept; clashes = t .clashes + m } ≡ tallied t (entry k n) (not (mayFollow last k))
   enter-other t last m b x y w q s = enter-neither t last 1 m b x y (sym (ap (λ b. picked (not b) 1) (unknown (eqb k 0) refl))) q s
     where
       unknown : (c : Bool) → eqb k 0 ≡ c → soundEntry (entry k n) ≡ false
@@ -124,10 +124,10 @@ sum-under f k n h =
     let e : n ≡ k + 1 + (n - (k + 1)) = omega arith in
     omega (arith, ap (sumFrom f 0) e, sum-join f 0 (k + 1) (n - (k + 1)), sum-more f k)
 
-pub tally-none : (r : List ℕ) → Tallied r 0 (record { odd = 0; inserts = 0; all = 0; kept = 0; apart = 0 })
+pub tally-none : (r : List ℕ) → Tallied r 0 (record { invalid = 0; inserts = 0; all = 0; kept = 0; clashes = 0 })
 tally-none r =
     record {
-      odds = refl;
+      invalids = refl;
       inserted = refl;
       counts = refl;
       retained = refl;
@@ -140,9 +140,9 @@ tally-none r =
     }
 
 -- the neighbours before k and at k, as the code finds them
-pub apart-more : (r : List ℕ) (from k last kind p a : ℕ) (b : Bool) → 1 ≤ from → from ≤ k → last ≡ kindAt r (k - 1) → kind ≡ kindAt r k → b ≡ mayFollow last kind → p ≡ picked (not b) 1 → a ≡ sumFrom (apartAt r) (from - 1) (k - from)
+pub clashes-more : (r : List ℕ) (from k last kind p a : ℕ) (b : Bool) → 1 ≤ from → from ≤ k → last ≡ kindAt r (k - 1) → kind ≡ kindAt r k → b ≡ mayFollow last kind → p ≡ picked (not b) 1 → a ≡ sumFrom (apartAt r) (from - 1) (k - from)
     → a + p ≡ sumFrom (apartAt r) (from - 1) (k + 1 - from)
-apart-more r from k last kind p a b l m e f g h i =
+clashes-more r from k last kind p a b l m e f g h i =
     let x : k ≡ suc (k - 1) = omega arith in
     let y : suc (k - from) ≡ k + 1 - from = omega arith in
     let z : k - 1 ≡ from - 1 + (k - from) = omega arith in
@@ -150,12 +150,12 @@ apart-more r from k last kind p a b l m e f g h i =
     ∙ sym (sum-last (apartAt r) (from - 1) (k - from))
     ∙ ap (sumFrom (apartAt r) (from - 1)) y
 
-pub apart-none : (r : List ℕ) (from : ℕ) → 0 ≡ sumFrom (apartAt r) (from - 1) (from - from)
-apart-none r from = let x : 0 ≡ from - from = omega arith in ap (sumFrom (apartAt r) (from - 1)) x
+pub clashes-none : (r : List ℕ) (from : ℕ) → 0 ≡ sumFrom (apartAt r) (from - 1) (from - from)
+clashes-none r from = let x : 0 ≡ from - from = omega arith in ap (sumFrom (apartAt r) (from - 1)) x
 
 -- those before k, and those from k on before m
-pub apart-join : (r : List ℕ) (k m a b : ℕ) → 1 ≤ k → k - 1 ≤ m - 1 → a ≡ sumFrom (apartAt r) 0 (k - 1) → b ≡ sumFrom (apartAt r) (k - 1) (m - k) → a + b ≡ sumFrom (apartAt r) 0 (m - 1)
-apart-join r k m a b l h e f =
+pub clashes-join : (r : List ℕ) (k m a b : ℕ) → 1 ≤ k → k - 1 ≤ m - 1 → a ≡ sumFrom (apartAt r) 0 (k - 1) → b ≡ sumFrom (apartAt r) (k - 1) (m - k) → a + b ≡ sumFrom (apartAt r) 0 (m - 1)
+clashes-join r k m a b l h e f =
     let x : k - 1 + (m - k) ≡ m - 1 = omega arith in
     ap₂ _+_ e (f ∙ ap (λ i. sumFrom (apartAt r) i (m - k)) (sym (zero-add (k - 1))))
     ∙ sym (sum-join (apartAt r) 0 (k - 1) (m - k))
@@ -186,7 +186,7 @@ module _ (r : List ℕ) (k kind count : ℕ) (q : kind ≡ kindAt r k) (c : coun
       ∙ sym (none-both (sumOf f r k) (f (entry kind count)))
       ∙ ap (λ x. eqb x 0) (more f refl)
 
-  tally-step : (t u : Tally) (b : Bool) → Tallied r k t → count < 65536 → u ≡ tallied t (entry kind count) b → (t .odd + odd (entry kind count) ≡ 0 → t .apart + picked b 1 ≡ sumFrom (apartAt r) 0 (k + 1 - 1)) → Tallied r (k + 1) u
+  tally-step : (t u : Tally) (b : Bool) → Tallied r k t → count < 65536 → u ≡ tallied t (entry kind count) b → (t .invalid + invalid (entry kind count) ≡ 0 → t .clashes + picked b 1 ≡ sumFrom (apartAt r) 0 (k + 1 - 1)) → Tallied r (k + 1) u
   unfolding tallied
   tally-step t u b g h v w =
       let o = picked-le (not (soundEntry (entry kind count))) 1 in
@@ -195,7 +195,7 @@ module _ (r : List ℕ) (k kind count : ℕ) (q : kind ≡ kindAt r k) (c : coun
       let m = picked-le b 1 in
       rw v (
       record {
-        odds = more-none odd (t .odd) (g .odds);
+        invalids = more-none invalid (t .invalid) (g .invalids);
         inserted = more (ofKind 2) (g .inserted);
         counts = more (λ e. e .count) (g .counts);
         retained = more (ofKind 1) (g .retained);
@@ -209,7 +209,7 @@ module _ (r : List ℕ) (k kind count : ℕ) (q : kind ≡ kindAt r k) (c : coun
       )
 
   pub tally-more : (t u : Tally) (last : ℕ) (b : Bool) → Tallied r k t → count < 65536 → 1 ≤ k → last ≡ kindAt r (k - 1) → b ≡ mayFollow last kind → u ≡ tallied t (entry kind count) (not b) → Tallied r (k + 1) u
-  tally-more t u last b g h l e f v = tally-step t u (not b) g h v (λ z. apart-more r 1 k last kind (picked (not b) 1) (t .apart) b (omega arith) l e q f refl (g .neighbours (omega (arith, z))))
+  tally-more t u last b g h l e f v = tally-step t u (not b) g h v (λ z. clashes-more r 1 k last kind (picked (not b) 1) (t .clashes) b (omega arith) l e q f refl (g .neighbours (omega (arith, z))))
 
   pub part-more : (p u : Parts) → Parted r k p → u ≡ partedBy p (entry kind count) → Parted r (k + 1) u
   unfolding partedBy
@@ -234,11 +234,11 @@ module _ (r : List ℕ) (k kind count : ℕ) (q : kind ≡ kindAt r k) (c : coun
 
 -- no record, and the first one
 module _ (r : List ℕ) where
-  pub tally-empty : (n : ℕ) → n ≡ 0 → Tallied r n (record { odd = 0; inserts = 0; all = 0; kept = 0; apart = 0 })
+  pub tally-empty : (n : ℕ) → n ≡ 0 → Tallied r n (record { invalid = 0; inserts = 0; all = 0; kept = 0; clashes = 0 })
   tally-empty n e = rw e (tally-none r)
 
-  pub tally-first : (kind count : ℕ) (u : Tally) → kind ≡ kindAt r 0 → count ≡ countAt r 0 → count < 65536 → u ≡ tallied (record { odd = 0; inserts = 0; all = 0; kept = 0; apart = 0 }) (entry kind count) false → Tallied r 1 u
-  tally-first kind count u q c h v = tally-step r 0 kind count q c (record { odd = 0; inserts = 0; all = 0; kept = 0; apart = 0 }) u false (tally-none r) h v (λ z. refl)
+  pub tally-first : (kind count : ℕ) (u : Tally) → kind ≡ kindAt r 0 → count ≡ countAt r 0 → count < 65536 → u ≡ tallied (record { invalid = 0; inserts = 0; all = 0; kept = 0; clashes = 0 }) (entry kind count) false → Tallied r 1 u
+  tally-first kind count u q c h v = tally-step r 0 kind count q c (record { invalid = 0; inserts = 0; all = 0; kept = 0; clashes = 0 }) u false (tally-none r) h v (λ z. refl)
 
 -- the kind before record k, and 0 before the first
 abbrev pub lastKind : List ℕ → ℕ → ℕ
@@ -249,10 +249,10 @@ pub last-more : (r : List ℕ) (k kind : ℕ) → kind ≡ kindAt r k → kind �
 last-more r k kind q = q ∙ ap (lastKind r) (sym (add-one k))
 
 -- whatever can be may follow 0
-first-follows : (last kind count : ℕ) → last ≡ 0 → odd (entry kind count) ≡ 0 → mayFollow last kind ≡ true
+first-follows : (last kind count : ℕ) → last ≡ 0 → invalid (entry kind count) ≡ 0 → mayFollow last kind ≡ true
 unfolding mayFollow
 first-follows last kind count e z =
-    let f : kind ≡ 0 → odd (entry kind count) ≡ 1 = λ y. ap (λ b. picked (not b) 1) (sym (sound-low kind count y)) in
+    let f : kind ≡ 0 → invalid (entry kind count) ≡ 1 = λ y. ap (λ b. picked (not b) 1) (sym (sound-low kind count y)) in
     rw (e, ne-eqb 0 kind (λ y. absurd (omega (arith, z, f (sym y)))))
 
 pub tally-next : (r : List ℕ) (k kind count : ℕ) → kind ≡ kindAt r k → count ≡ countAt r k → (t u : Tally) (last : ℕ) → Tallied r k t → count < 65536 → last ≡ lastKind r k → u ≡ tallied t (entry kind count) (not (mayFollow last kind)) → Tallied r (k + 1) u
@@ -281,15 +281,15 @@ part-none r = record { empties = refl; inserted = refl; retained = refl; dropped
 stray : Entry → ℕ
 stray e = e .count - (ofKind 2 e + ofKind 1 e + ofKind 3 e)
 
-odd-none-is : (k n : ℕ) (b : Bool) → b ≡ soundEntry (entry k n) → b ≡ eqb (odd (entry k n)) 0
-odd-none-is k n true e = rw (← e)
-odd-none-is k n false e = rw (← e)
+invalid-none-is : (k n : ℕ) (b : Bool) → b ≡ soundEntry (entry k n) → b ≡ eqb (invalid (entry k n)) 0
+invalid-none-is k n true e = rw (← e)
+invalid-none-is k n false e = rw (← e)
 
 kind-sound : (k n : ℕ) → 1 ≤ k → k ≤ 3 → 1 ≤ n → true ≡ soundEntry (entry k n)
 kind-sound k n a b c = sym (le-leb 1 n c) ∙ sound-count k n (λ z. absurd (omega arith)) b
 
 -- an entry can be where its count isn't 0 and is of a kind
-stray-none : (k n : ℕ) → eqb (empty (entry k n) + stray (entry k n)) 0 ≡ eqb (odd (entry k n)) 0
+stray-none : (k n : ℕ) → eqb (empty (entry k n) + stray (entry k n)) 0 ≡ eqb (invalid (entry k n)) 0
 unfolding stray
 stray-none k n = go (eqb n 0) (eqb k 2) (eqb k 1) (eqb k 3) refl refl refl refl
   where
@@ -297,22 +297,22 @@ stray-none k n = go (eqb n 0) (eqb k 2) (eqb k 1) (eqb k 3) refl refl refl refl
     other p q s true h = sound-low k n (eqb-true k 0 h)
     other p q s false h = sound-high k n (omega (arith, eqb-false k 0 h))
 
-    go : (z a b c : Bool) → eqb n 0 ≡ z → eqb k 2 ≡ a → eqb k 1 ≡ b → eqb k 3 ≡ c → eqb (picked z 1 + (n - (picked a n + picked b n + picked c n))) 0 ≡ eqb (odd (entry k n)) 0
+    go : (z a b c : Bool) → eqb n 0 ≡ z → eqb k 2 ≡ a → eqb k 1 ≡ b → eqb k 3 ≡ c → eqb (picked z 1 + (n - (picked a n + picked b n + picked c n))) 0 ≡ eqb (invalid (entry k n)) 0
     go true a b c y p q s =
         ne-eqb (1 + (n - (picked a n + picked b n + picked c n))) 0 (λ z. absurd (omega arith))
-        ∙ odd-none-is k n false (sym (ap (λ m. within 1 3 k && leb 1 m) (eqb-true n 0 y) ∙ and-false (within 1 3 k)))
+        ∙ invalid-none-is k n false (sym (ap (λ m. within 1 3 k && leb 1 m) (eqb-true n 0 y) ∙ and-false (within 1 3 k)))
     go false true b c y p q s =
         eq-eqb (0 + (n - (n + picked b n + picked c n))) 0 (omega arith)
-        ∙ odd-none-is k n true (kind-sound k n (omega (arith, eqb-true k 2 p)) (omega (arith, eqb-true k 2 p)) (omega (arith, eqb-false n 0 y)))
+        ∙ invalid-none-is k n true (kind-sound k n (omega (arith, eqb-true k 2 p)) (omega (arith, eqb-true k 2 p)) (omega (arith, eqb-false n 0 y)))
     go false false true c y p q s =
         eq-eqb (0 + (n - (0 + n + picked c n))) 0 (omega arith)
-        ∙ odd-none-is k n true (kind-sound k n (omega (arith, eqb-true k 1 q)) (omega (arith, eqb-true k 1 q)) (omega (arith, eqb-false n 0 y)))
+        ∙ invalid-none-is k n true (kind-sound k n (omega (arith, eqb-true k 1 q)) (omega (arith, eqb-true k 1 q)) (omega (arith, eqb-false n 0 y)))
     go false false false true y p q s =
         eq-eqb (0 + (n - (0 + 0 + n))) 0 (omega arith)
-        ∙ odd-none-is k n true (kind-sound k n (omega (arith, eqb-true k 3 s)) (omega (arith, eqb-true k 3 s)) (omega (arith, eqb-false n 0 y)))
+        ∙ invalid-none-is k n true (kind-sound k n (omega (arith, eqb-true k 3 s)) (omega (arith, eqb-true k 3 s)) (omega (arith, eqb-false n 0 y)))
     go false false false false y p q s =
         ne-eqb (0 + (n - (0 + 0 + 0))) 0 (λ z. absurd (omega (arith, eqb-false n 0 y)))
-        ∙ odd-none-is k n false (other (eqb-false k 2 p) (eqb-false k 1 q) (eqb-false k 3 s) (eqb k 0) refl)
+        ∙ invalid-none-is k n false (other (eqb-false k 2 p) (eqb-false k 1 q) (eqb-false k 3 s) (eqb k 0) refl)
 
 module _ (r : List ℕ) where
   parts-sum : (i n : ℕ)
@@ -321,7 +321,7 @@ module _ (r : List ℕ) where
   parts-sum i zero = refl
   parts-sum i (suc n) = omega (arith, parts-sum (suc i) n, parts-le (kindAt r i) (countAt r i))
 
-  strays-none : (i n : ℕ) → eqb (sumFrom (λ j. empty (entryAt r j)) i n + sumFrom (λ j. stray (entryAt r j)) i n) 0 ≡ eqb (sumFrom (λ j. odd (entryAt r j)) i n) 0
+  strays-none : (i n : ℕ) → eqb (sumFrom (λ j. empty (entryAt r j)) i n + sumFrom (λ j. stray (entryAt r j)) i n) 0 ≡ eqb (sumFrom (λ j. invalid (entryAt r j)) i n) 0
   strays-none i zero = refl
   strays-none i (suc n) =
       let e = empty (entryAt r i) in
@@ -332,7 +332,7 @@ module _ (r : List ℕ) where
       ap (λ y. eqb y 0) w
       ∙ none-both (e + x) (es + xs)
       ∙ ap₂ _&&_ (stray-none (kindAt r i) (countAt r i)) (strays-none (suc i) n)
-      ∙ sym (none-both (odd (entryAt r i)) (sumFrom (λ j. odd (entryAt r j)) (suc i) n))
+      ∙ sym (none-both (invalid (entryAt r i)) (sumFrom (λ j. invalid (entryAt r j)) (suc i) n))
 
   module _ (n all : ℕ) (p : Parts) (l : all < 65536) (w : Whole r n all) (g : Parted r n p) where
     pub parts-under : p .inserts + p .kept + p .deleted ≤ all
@@ -346,13 +346,13 @@ module _ (r : List ℕ) where
         go (suc m) e = omega (arith, l)
 
     pub tally-parts : (a : ℕ) → a ≡ sumFrom (apartAt r) 0 (n - 1) → a ≤ n
-        → Tallied r n (record { odd = p .empty + (all - p .inserts - p .kept - p .deleted); inserts = p .inserts; all = all; kept = p .kept; apart = a })
+        → Tallied r n (record { invalid = p .empty + (all - p .inserts - p .kept - p .deleted); inserts = p .inserts; all = all; kept = p .kept; clashes = a })
     tally-parts a e h =
         let u = parts-under in
         let v = whole-small in
         let x : all - p .inserts - p .kept - p .deleted ≡ sumOf stray r n = omega (arith, w .counts l, g .inserted, g .retained, g .dropped, parts-sum 0 n) in
         record {
-          odds = ap₂ (λ x y. eqb (x + y) 0) (g .empties) x ∙ strays-none 0 n;
+          invalids = ap₂ (λ x y. eqb (x + y) 0) (g .empties) x ∙ strays-none 0 n;
           inserted = g .inserted;
           counts = w .counts l;
           retained = g .retained;
@@ -395,9 +395,9 @@ kinds-follow k l n m t u a b =
     ap₂ mayFollow (sym p) (sym q) ∙ may-follow (operation k n t) (operation l m u)
 
 module _ (r : List ℕ) where
-  odd-none : (i n : ℕ) → eqb (sumFrom (λ k. odd (entryAt r k)) i n) 0 ≡ allOf soundEntry (entriesFrom r i n)
-  odd-none i zero = refl
-  odd-none i (suc n) = holds-all (soundEntry (entryAt r i)) _ ∙ ap (λ b. soundEntry (entryAt r i) && b) (odd-none (suc i) n)
+  invalid-none : (i n : ℕ) → eqb (sumFrom (λ k. invalid (entryAt r k)) i n) 0 ≡ allOf soundEntry (entriesFrom r i n)
+  invalid-none i zero = refl
+  invalid-none i (suc n) = holds-all (soundEntry (entryAt r i)) _ ∙ ap (λ b. soundEntry (entryAt r i) && b) (invalid-none (suc i) n)
 
   chained-none : (i n : ℕ) (t : List ℕ) → T (allOf soundEntry (entriesFrom r i (suc n))) → eqb (sumFrom (apartAt r) i n) 0 ≡ chained (operations (entriesFrom r i (suc n)) t)
   chained-none i zero t h = refl
@@ -438,9 +438,9 @@ module _ (r : List ℕ) where
       go false true p q c y z h = omega arith
       go false false p q c y z h = omega arith
 
-none-apart : (r : List ℕ) (n : ℕ) → n ≡ recordsOf r → T (allOf soundEntry (entries r)) → eqb (sumFrom (apartAt r) 0 (n - 1)) 0 ≡ chained (byteOps r)
+none-clashes : (r : List ℕ) (n : ℕ) → n ≡ recordsOf r → T (allOf soundEntry (entries r)) → eqb (sumFrom (apartAt r) 0 (n - 1)) 0 ≡ chained (byteOps r)
 unfolding byteOps entries
-none-apart r n e s = go n e s
+none-clashes r n e s = go n e s
   where
     go : (m : ℕ) → m ≡ recordsOf r → T (allOf soundEntry (entriesFrom r 0 (recordsOf r))) → eqb (sumFrom (apartAt r) 0 (m - 1)) 0 ≡ chained (operations (entriesFrom r 0 (recordsOf r)) (textOf r))
     go zero p h = rw (← p)
@@ -451,9 +451,9 @@ none-apart r n e s = go n e s
         ∙ ap (λ j. chained (operations (entriesFrom r 0 j) (textOf r))) p
 
 -- where all neighbours may stand so, any two may
-pub linked-follow : (r : List ℕ) (n k : ℕ) → n ≡ recordsOf r → T (allOf soundEntry (entries r)) → chained (byteOps r) ≡ true → k + 1 < n → mayFollow (kindAt r k) (kindAt r (suc k)) ≡ true
-linked-follow r n k e s p h =
-    go (mayFollow (kindAt r k) (kindAt r (suc k))) refl (sum-under (apartAt r) k (n - 1) (omega arith)) (eqb-true (sumFrom (apartAt r) 0 (n - 1)) 0 (none-apart r n e s ∙ p))
+pub ordered-follow : (r : List ℕ) (n k : ℕ) → n ≡ recordsOf r → T (allOf soundEntry (entries r)) → chained (byteOps r) ≡ true → k + 1 < n → mayFollow (kindAt r k) (kindAt r (suc k)) ≡ true
+ordered-follow r n k e s p h =
+    go (mayFollow (kindAt r k) (kindAt r (suc k))) refl (sum-under (apartAt r) k (n - 1) (omega arith)) (eqb-true (sumFrom (apartAt r) 0 (n - 1)) 0 (none-clashes r n e s ∙ p))
   where
     go : (b : Bool) → mayFollow (kindAt r k) (kindAt r (suc k)) ≡ b → sumFrom (apartAt r) 0 k + picked (not b) 1 ≤ sumFrom (apartAt r) 0 (n - 1) → sumFrom (apartAt r) 0 (n - 1) ≡ 0 → b ≡ true
     go true q l z = refl
@@ -461,26 +461,26 @@ linked-follow r n k e s p h =
 
 -- the passes, as the code finds them
 module _ (r : List ℕ) (n : ℕ) (t : Tally) (e : n ≡ recordsOf r) (g : Tallied r n t) where
-  none-odd : eqb (t .odd) 0 ≡ allOf soundEntry (entries r)
+  none-invalid : eqb (t .invalid) 0 ≡ allOf soundEntry (entries r)
   unfolding entries
-  none-odd = g .odds ∙ odd-none r 0 n ∙ ap (λ m. allOf soundEntry (entriesFrom r 0 m)) e
+  none-invalid = g .invalids ∙ invalid-none r 0 n ∙ ap (λ m. allOf soundEntry (entriesFrom r 0 m)) e
 
-  pub sums-unsound : (t .odd ≡ 0 → ⊥) → Unsound ≡ entriesOf r
+  pub sums-unsound : (t .invalid ≡ 0 → ⊥) → Unsound ≡ entriesOf r
   unfolding entriesOf
-  sums-unsound z = rw (sym none-odd ∙ ne-eqb (t .odd) 0 z)
+  sums-unsound z = rw (sym none-invalid ∙ ne-eqb (t .invalid) 0 z)
 
-  module _ (z : t .odd ≡ 0) where
+  module _ (z : t .invalid ≡ 0) where
     all-sound : allOf soundEntry (entries r) ≡ true
-    all-sound = sym none-odd ∙ eq-eqb (t .odd) 0 z
+    all-sound = sym none-invalid ∙ eq-eqb (t .invalid) 0 z
 
-    pub sums-found : Of (record { inserts = t .inserts; linked = eqb (t .apart) 0; base = t .all - t .inserts; kept = t .kept }) ≡ entriesOf r
+    pub sums-found : Of (record { inserts = t .inserts; ordered = eqb (t .clashes) 0; base = t .all - t .inserts; kept = t .kept }) ≡ entriesOf r
     unfolding entriesOf sumsOf entries byteOps
     sums-found =
         let x : t .inserts ≡ insertBytes (entries r) = g .inserted ∙ inserts-sum r 0 n ∙ ap (λ m. insertBytes (entriesFrom r 0 m)) e in
         let y : t .all ≡ insertBytes (entries r) + base (byteOps r) = g .counts ∙ base-sum r 0 n (textOf r) ∙ ap (λ m. insertBytes (entriesFrom r 0 m) + base (operations (entriesFrom r 0 m) (textOf r))) e in
         let w : t .all - t .inserts ≡ base (byteOps r) = omega arith in
         let v : t .kept ≡ total keeps (byteOps r) = g .retained ∙ kept-sum r 0 n (textOf r) ∙ ap (λ m. total keeps (operations (entriesFrom r 0 m) (textOf r))) e in
-        rw (all-sound) (λ i. Of (record { inserts = x i; linked = (ap (λ j. eqb j 0) (g .neighbours z) ∙ none-apart r n e (known all-sound)) i; base = w i; kept = v i }))
+        rw (all-sound) (λ i. Of (record { inserts = x i; ordered = (ap (λ j. eqb j 0) (g .neighbours z) ∙ none-clashes r n e (known all-sound)) i; base = w i; kept = v i }))
 
 pub chars-part : (n m : ℕ) (t : List ℕ) → numChars (take (n + m) t) ≡ numChars (take n t) + numChars (take m (drop n t))
 chars-part n m t = ap numChars (take-add n m t) ∙ num-append (take n t) (take m (drop n t))
@@ -514,11 +514,11 @@ target-found r e =
 -- the whole record's
 pub record Found (r : List ℕ) (q : Sums) : Type 0 where
   pub inserts : q .inserts ≡ insertBytes (entries r)
-  pub linked : q .linked ≡ chained (byteOps r)
+  pub ordered : q .ordered ≡ chained (byteOps r)
   pub base-is : q .base ≡ base (byteOps r)
   pub target-is : insertBytes (entries r) ≡ textBytesOf r → q .kept + numChars (textOf r) ≡ total givesChars (byteOps r)
   pub less : q .kept ≤ q .base
 
 pub found : (r : List ℕ) → Found r (sumsOf r)
 unfolding sumsOf
-found r = record { inserts = refl; linked = refl; base-is = refl; target-is = target-found r; less = keeps-less (byteOps r) }
+found r = record { inserts = refl; ordered = refl; base-is = refl; target-is = target-found r; less = keeps-less (byteOps r) }

@@ -29,8 +29,8 @@ abbrev pub picked : Bool → ℕ → ℕ
 picked b n = cond b n 0
 
 -- what one entry adds
-abbrev pub odd : Entry → ℕ
-odd e = picked (not (soundEntry e)) 1
+abbrev pub invalid : Entry → ℕ
+invalid e = picked (not (soundEntry e)) 1
 
 abbrev pub ofKind : ℕ → Entry → ℕ
 ofKind k e = picked (eqb (e .kind) k) (e .count)
@@ -49,27 +49,27 @@ abbrev pub apartAt : List ℕ → ℕ → ℕ
 apartAt r k = picked (not (mayFollow (kindAt r k) (kindAt r (suc k)))) 1
 
 unfoldable pub tallied : Tally → Entry → Bool → Tally
-tallied t e apart =
+tallied t e clashes =
     record {
-      odd = t .odd + odd e;
+      invalid = t .invalid + invalid e;
       inserts = t .inserts + ofKind insertKind e;
       all = t .all + e .count;
       kept = t .kept + ofKind retainKind e;
-      apart = t .apart + picked apart 1;
+      clashes = t .clashes + picked clashes 1;
     }
 
--- the first n entries; their neighbours, where none is odd
+-- the first n entries; their neighbours, where none is invalid
 pub record Tallied (r : List ℕ) (n : ℕ) (t : Tally) : Type 0 where
-  pub odds : eqb (t .odd) 0 ≡ eqb (sumOf odd r n) 0
+  pub invalids : eqb (t .invalid) 0 ≡ eqb (sumOf invalid r n) 0
   pub inserted : t .inserts ≡ sumOf (ofKind insertKind) r n
   pub counts : t .all ≡ sumOf (λ e. e .count) r n
   pub retained : t .kept ≡ sumOf (ofKind retainKind) r n
-  pub neighbours : t .odd ≡ 0 → t .apart ≡ sumFrom (apartAt r) 0 (n - 1)
-  pub few : t .odd ≤ 65537 * n
+  pub neighbours : t .invalid ≡ 0 → t .clashes ≡ sumFrom (apartAt r) 0 (n - 1)
+  pub few : t .invalid ≤ 65537 * n
   pub less : t .inserts ≤ t .all
   pub fewer : t .kept ≤ t .all
   pub small : t .all ≤ 65536 * n
-  pub close : t .apart ≤ n
+  pub close : t .clashes ≤ n
 
 -- the counts of the first n entries, where they are under 65,536 together
 pub record Whole (r : List ℕ) (n all : ℕ) : Type 0 where
@@ -99,7 +99,7 @@ keeps (delete n) = 0
 
 unfoldable pub sumsOf : List ℕ → Sums
 unfolding entries byteOps
-sumsOf r = record { inserts = insertBytes (entries r); linked = chained (byteOps r); base = base (byteOps r); kept = total keeps (byteOps r) }
+sumsOf r = record { inserts = insertBytes (entries r); ordered = chained (byteOps r); base = base (byteOps r); kept = total keeps (byteOps r) }
 
 unfoldable pub entriesOf : List ℕ → Entries
 unfolding entries sumsOf

@@ -14,7 +14,7 @@ ghost use Rattle.tally.specs.InnerTally.{picked, entry, mayFollow, talli
 // the text before the edit, and those of them that stay.
 pub struct Sums {
     pub inserts: usize,
-    pub linked: bool,
+    pub ordered: bool,
     pub base: usize,
     pub kept: usize,
 }
@@ -71,25 +71,25 @@ fn may_follow(last: u8, kind: u8) -> bool
 // What can't be (0 where all can), the bytes inserted, all counts, those of retains, and how many neighbours may not
 // stand so.
 struct Tally {
-    odd: u32,
+    invalid: u32,
     inserts: u32,
     all: u32,
     kept: u32,
-    apart: u32,
+    clashes: u32,
 }
 
 // One entry more.
-fn counted(t: Tally, kind: u8, count: usize, apart: bool) -> Tally
-    requires { ⌜ (t .odd ≤ 2 ^ 31) × (t .all ≤ 2 ^ 31) × (t .inserts ≤ t .all) × (t .kept ≤ t .all) × (t .apart ≤ 2 ^ 31) × (count < 65536) ⌝ }
-    ensures { λ r. ⌜ r ≡ tallied t (entry kind count) apart ⌝ }
+fn counted(t: Tally, kind: u8, count: usize, clashes: bool) -> Tally
+    requires { ⌜ (t .invalid ≤ 2 ^ 31) × (t .all ≤ 2 ^ 31) × (t .inserts ≤ t .all) × (t .kept ≤ t .all) × (t .clashes ≤ 2 ^ 31) × (count < 65536) ⌝ }
+    ensures { λ r. ⌜ r ≡ tallied t (entry kind count) clashes ⌝ }
 {
     let c = count as u32;
     Tally {
-        odd: t.odd + pick(!is_sound(kind, c), 1),
+        invalid: t.invalid + pick(!is_sound(kind, c), 1),
         inserts: t.inserts + pick(kind == INSERT, c),
         all: t.all + c,
         kept: t.kept + pick(kind == RETAIN, c),
-        apart: t.apart + pick(apart, 1),
+        clashes: t.clashes + pick(clashes, 1),
     }
 }
 
@@ -99,11 +99,11 @@ fn any(rec: &[u8], n: usize) -> Tally
     ensures { λ r. ⌜ Tallied (now (rec .entry)) n r ⌝ }
 {
     let mut t = Tally {
-        odd: 0,
+        invalid: 0,
         inserts: 0,
         all: 0,
         kept: 0,
-        apart: 0,
+        clashes: 0,
     };
     if n == 0 {
         return t;
@@ -124,44 +124,44 @@ fn any(rec: &[u8], n: usize) -> Tally
 
 // One entry more, by its kind.
 fn entered(t: Tally, last: u8, kind: u8, count: u32) -> Tally
-    requires { ⌜ (t .odd ≤ 2 ^ 31) × (t .all ≤ 2 ^ 31) × (t .inserts ≤ t .all) × (t .kept ≤ t .all) × (t .apart ≤ 2 ^ 31) × (count < 65536) ⌝ }
+    requires { ⌜ (t .invalid ≤ 2 ^ 31) × (t .all ≤ 2 ^ 31) × (t .inserts ≤ t .all) × (t .kept ≤ t .all) × (t .clashes ≤ 2 ^ 31) × (count < 65536) ⌝ }
     ensures { λ r. ⌜ r ≡ tallied t (entry kind count) (not (mayFollow last kind)) ⌝ }
 {
-    let odd = t.odd + pick(count == 0, 1);
+    let invalid = t.invalid + pick(count == 0, 1);
     let all = t.all + count;
     if kind == RETAIN {
         return Tally {
-            odd,
+            invalid,
             inserts: t.inserts,
             all,
             kept: t.kept + count,
-            apart: t.apart + pick(!may_follow(last, RETAIN), 1),
+            clashes: t.clashes + pick(!may_follow(last, RETAIN), 1),
         };
     }
     if kind == INSERT {
         return Tally {
-            odd,
+            invalid,
             inserts: t.inserts + count,
             all,
             kept: t.kept,
-            apart: t.apart + pick(!may_follow(last, INSERT), 1),
+            clashes: t.clashes + pick(!may_follow(last, INSERT), 1),
         };
     }
     if kind == DELETE {
         return Tally {
-            odd,
+            invalid,
             inserts: t.inserts,
             all,
             kept: t.kept,
-            apart: t.apart + pick(!may_follow(last, DELETE), 1),
+            clashes: t.clashes + pick(!may_follow(last, DELETE), 1),
         };
     }
     Tally {
-        odd: t.odd + 1,
+        invalid: t.invalid + 1,
         inserts: t.inserts,
         all,
         kept: t.kept,
-        apart: t.apart + pick(!may_follow(last, kind), 1),
+        clashes: t.clashes + pick(!may_follow(last, kind), 1),
     }
 }
 
@@ -172,11 +172,11 @@ fn few(rec: &[u8], n: usize) -> Tally
     ensures { λ r. ⌜ Tallied (now (rec .entry)) n r ⌝ }
 {
     let mut t = Tally {
-        odd: 0,
+        invalid: 0,
         inserts: 0,
         all: 0,
         kept: 0,
-        apart: 0,
+        clashes: 0,
     };
     let mut last: u8 = 0;
     let mut k = 0;
@@ -263,29 +263,29 @@ fn apart_in(rec: &[u8], from: usize, to: usize) -> u8
     requires { ⌜ (1 ≤ from) × (to ≤ recordsOf (now rec)) × (to ≤ from + 224) × (textStart (recordsOf (now rec)) ≤ length (now rec)) ⌝ }
     ensures { λ r. ⌜ (r ≡ sumFrom (apartAt (now (rec .entry))) (from - 1) (to - from)) × (r ≤ to - from) ⌝ }
 {
-    let mut apart: u8 = 0;
+    let mut clashes: u8 = 0;
     let mut k = from;
     while k < to {
         let last = layout::core::kind(rec, k - 1);
         let kind = layout::core::kind(rec, k);
-        apart += pick_u8(!may_follow(last, kind), 1);
+        clashes += pick_u8(!may_follow(last, kind), 1);
         k += 1;
     }
-    apart
+    clashes
 }
 
 // The same of all entries. 8 bits are enough for 224 of them: 7 times the 32 that are done at once.
-fn apart(rec: &[u8], n: usize) -> u32
+fn clashes(rec: &[u8], n: usize) -> u32
     requires { ⌜ (n ≡ recordsOf (now rec)) × (n ≤ maxOps) × (textStart n ≤ length (now rec)) ⌝ }
     ensures { λ r. ⌜ (r ≡ sumFrom (apartAt (now (rec .entry))) 0 (n - 1)) × (r ≤ n) ⌝ }
 {
-    let mut apart: u32 = 0;
+    let mut clashes: u32 = 0;
     let mut from = 1;
     while from + NEIGHBOURS < n {
-        apart += apart_in(rec, from, from + NEIGHBOURS) as u32;
+        clashes += apart_in(rec, from, from + NEIGHBOURS) as u32;
         from += NEIGHBOURS;
     }
-    apart + apart_in(rec, from, n) as u32
+    clashes + apart_in(rec, from, n) as u32
 }
 
 // What can't be has a count of 0, or one that is of no kind.
@@ -305,11 +305,11 @@ fn count_up(rec: &[u8], n: usize) -> Tally
     let kept = p.kept as u32;
     let others = all - inserts - kept - p.deleted as u32;
     Tally {
-        odd: p.empty as u32 + others,
+        invalid: p.empty as u32 + others,
         inserts: inserts,
         all: all,
         kept: kept,
-        apart: apart(rec, n),
+        clashes: clashes(rec, n),
     }
 }
 
@@ -318,12 +318,12 @@ pub fn sum_up(rec: &[u8], n: usize) -> Entries
     ensures { λ r. ⌜ r ≡ entriesOf (now (rec .entry)) ⌝ }
 {
     let t = count_up(rec, n);
-    if t.odd != 0 {
+    if t.invalid != 0 {
         return Entries::Unsound;
     }
     Entries::Of(Sums {
         inserts: t.inserts as usize,
-        linked: t.apart == 0,
+        ordered: t.clashes == 0,
         base: (t.all - t.inserts) as usize,
         kept: t.kept as usize,
     })

@@ -12,10 +12,10 @@ use Rattle.operation.proofs.checks.start_well.Statement.{statement}
 use Rattle.operation.proofs.checks.start_well.Tie as tie
 
 abbrev Inv-loop : tie.InvT-loop
-Inv-loop rec n linked behind at₀ k₀ at k = (k ≤ n + 1) × Began rec n k at (startWell (entries rec) (drop (textStart n) rec))
+Inv-loop rec n ordered behind at₀ k₀ at k = (k ≤ n + 1) × Began rec n k at (startWell (entries rec) (drop (textStart n) rec))
 
 abbrev μ-loop : tie.MeasureT-loop
-μ-loop rec n linked behind at₀ k₀ at k = n - k
+μ-loop rec n ordered behind at₀ k₀ at k = n - k
 
 pick-requires : tie.Need-pick-requires Inv-loop μ-loop
 pick-requires c κs = search needs
@@ -66,7 +66,7 @@ loop-again c =
     let kind = c .before .before .kind in
     let pick = c .before .before .before .before .before .before .pick in
     ⊎-elim
-    (λ w. (omega (arith, w .6), rw (w .5, w .6) (began-behind r n (now .k) (now .at + w .1 .result) (pre .2) (pre .0) (sym (kind .ensures) ∙ w .0 .taken) (starting-insert r n (now .k) (now .at) (kind .result) (omega arith) (pre .0) here (kind .ensures) (w .1 .result) (w .1 .ensures .0) (w .0 .taken) (w .3 .result) (w .3 .ensures) (w .4 .left)) (c .before .before .before .before .before .before .before .before .args .linked) (pick .result) (pre .1) (pick .ensures .0))))
+    (λ w. (omega (arith, w .6), rw (w .5, w .6) (began-behind r n (now .k) (now .at + w .1 .result) (pre .2) (pre .0) (sym (kind .ensures) ∙ w .0 .taken) (starting-insert r n (now .k) (now .at) (kind .result) (omega arith) (pre .0) here (kind .ensures) (w .1 .result) (w .1 .ensures .0) (w .0 .taken) (w .3 .result) (w .3 .ensures) (w .4 .left)) (c .before .before .before .before .before .before .before .before .args .ordered) (pick .result) (pre .1) (pick .ensures .0))))
     (λ w. (omega (arith, w .2), rw (w .1, w .2) (began r n (now .k + 1) (now .at) (pre .0) (starting-other r n (now .k) (now .at) (kind .result) (omega arith) (pre .0) here (kind .ensures) (w .0 .left)))))
     (c .before .if1 .came)
 

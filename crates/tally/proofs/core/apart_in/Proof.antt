@@ -3,18 +3,18 @@ use mathlib.Core.Path.{_≡_}
 use native.Mathlib.Omega.{arith}
 use borrow.Author.Needs.{needs}
 use Rattle.tally.specs.InnerTally.{sumFrom, apartAt}
-use Rattle.tally.proofs.Tallying.{apart-none, apart-more}
+use Rattle.tally.proofs.Tallying.{clashes-none, clashes-more}
 use Rattle.tally.proofs.core.apart_in.Statement.{statement}
 use Rattle.tally.proofs.core.apart_in.Tie as tie
 
 abbrev Inv-loop : tie.InvT-loop
-Inv-loop rec from to apart₀ k₀ apart k = (from ≤ k) × (k - from ≤ to - from) × (apart ≤ k - from) × (apart ≡ sumFrom (apartAt rec) (from - 1) (k - from))
+Inv-loop rec from to clashes₀ k₀ clashes k = (from ≤ k) × (k - from ≤ to - from) × (clashes ≤ k - from) × (clashes ≡ sumFrom (apartAt rec) (from - 1) (k - from))
 
 abbrev μ-loop : tie.MeasureT-loop
-μ-loop rec from to apart₀ k₀ apart k = to - k
+μ-loop rec from to clashes₀ k₀ clashes k = to - k
 
 loop-holds : tie.Need-loop-holds Inv-loop μ-loop
-loop-holds c = (search needs, search needs, search needs, search apart-none)
+loop-holds c = (search needs, search needs, search needs, search clashes-none)
 
 sub-kind : tie.Need-sub-kind Inv-loop μ-loop
 sub-kind c = search needs
@@ -31,8 +31,8 @@ may-follow-requires c κs = search needs
 pick-u8-requires : tie.Need-pick-u8-requires Inv-loop μ-loop
 pick-u8-requires c κs = search needs
 
-add-apart : tie.Need-add-apart Inv-loop μ-loop
-add-apart c = search needs
+add-clashes : tie.Need-add-clashes Inv-loop μ-loop
+add-clashes c = search needs
 
 add-k : tie.Need-add-k Inv-loop μ-loop
 add-k c = search needs
@@ -41,15 +41,15 @@ loop-less : tie.Need-loop-less Inv-loop μ-loop
 loop-less c = search needs
 
 loop-again : tie.Need-loop-again Inv-loop μ-loop
-loop-again c = (search needs, search needs, search needs, search apart-more)
+loop-again c = (search needs, search needs, search needs, search clashes-more)
 
 returns : tie.Need-returns Inv-loop μ-loop
 returns c =
     let e : c .before .loop .k - c .before .before .before .args .from ≡ c .before .before .before .args .to - c .before .before .before .args .from = omega arith in
     rw (← e) (c .before .loop .inv .3, c .before .loop .inv .2)
 
-pub apart-in-spec : {M : Type 1} → statement M
-apart-in-spec =
+pub clashes-in-spec : {M : Type 1} → statement M
+clashes-in-spec =
     tie.close
     (tie.spec
     Inv-loop
@@ -60,7 +60,7 @@ apart-in-spec =
     kind-requires-2
     may-follow-requires
     pick-u8-requires
-    add-apart
+    add-clashes
     add-k
     loop-less
     loop-again

@@ -46,11 +46,11 @@ cast-t9 c = search needs
 add-t11 : tie.Need-add-t11
 add-t11 c = search needs
 
-apart-requires : tie.Need-apart-requires
-apart-requires c κs = search needs
+clashes-requires : tie.Need-clashes-requires
+clashes-requires c κs = search needs
 
 returns-3 : tie.Need-returns-3
-returns-3 c = tally-parts _ _ _ _ (search needs) (c .before .before .before .before .before .before .before .all-counts .ensures) (c .before .before .before .before .before .part .ensures) _ (c .apart .ensures .0) (c .apart .ensures .1)
+returns-3 c = tally-parts _ _ _ _ (search needs) (c .before .before .before .before .before .before .before .all-counts .ensures) (c .before .before .before .before .before .part .ensures) _ (c .clashes .ensures .0) (c .clashes .ensures .1)
 
 pub count-up-spec : {M : Type 1} → statement M
 count-up-spec =
@@ -70,5 +70,5 @@ count-up-spec =
     sub-others-3
     cast-t9
     add-t11
-    apart-requires
+    clashes-requires
     returns-3)

@@ -6,8 +6,8 @@ use Rattle.tally.proofs.core.entered.Tie as tie
 pick-requires : tie.Need-pick-requires
 pick-requires c κs = search needs
 
-add-odd : tie.Need-add-odd
-add-odd c = search needs
+add-invalid : tie.Need-add-invalid
+add-invalid c = search needs
 
 add-all : tie.Need-add-all
 add-all c = search needs
@@ -74,7 +74,7 @@ entered-spec =
     tie.close
     (tie.spec
     pick-requires
-    add-odd
+    add-invalid
     add-all
     add-t9
     may-follow-requires
