@@ -22,21 +22,28 @@ const FEW_REVISIONS: usize = 384;
 
 // Past n revisions that came meanwhile. A short edit past few bytes of revisions nearly always does with short buffers, which cost little
 // to clear.
-fn late(edit: &[u8], r: u64, log: &mut [u8], s: Scan, n: usize, out: &mut [u8]) -> WrittenPair
+fn choose_buffers(
+    edit: &[u8],
+    r: u64,
+    log: &mut [u8],
+    s: Scan,
+    n: usize,
+    out: &mut [u8],
+) -> WrittenPair
     requires { ⌜ Admitted (now edit) r (now log) s × (n ≡ countOf (now log) - r) ⌝ }
     ensures { λ x. ⌜ Accepts (now (edit .entry)) r (now (log .entry)) (now (out .entry)) x (now (log .exit)) (now (out .exit)) ⌝ }
 {
     let size = reader::core::size(edit);
     if MEDIUM_EDIT < size {
-        return late_edits::core::large(edit, r, log, s, n, out);
+        return late_edits::core::in_large_buffers(edit, r, log, s, n, out);
     }
     if SHORT_EDIT < size {
-        return late_edits::core::medium(edit, r, log, s, n, out);
+        return late_edits::core::in_medium_buffers(edit, r, log, s, n, out);
     }
     if s.at + FEW_REVISIONS < s.size {
-        return late_edits::core::medium(edit, r, log, s, n, out);
+        return late_edits::core::in_medium_buffers(edit, r, log, s, n, out);
     }
-    late_edits::core::small(edit, r, log, s, n, out)
+    late_edits::core::in_small_buffers(edit, r, log, s, n, out)
 }
 
 // Into a log that can be read.
@@ -56,9 +63,9 @@ fn admit(edit: &[u8], r: u64, log: &mut [u8], s: Scan, out: &mut [u8]) -> Writte
         return WrittenPair::Refused(Refusal::Limit);
     }
     if r == count {
-        return append::core::newest(edit, r, log, s, out);
+        return append::core::append_unmoved(edit, r, log, s, out);
     }
-    late(edit, r, log, s, (count - r) as usize, out)
+    choose_buffers(edit, r, log, s, (count - r) as usize, out)
 }
 
 fn checked(edit: &[u8], r: u64, log: &mut [u8], out: &mut [u8]) -> WrittenPair

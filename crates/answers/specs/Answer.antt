@@ -28,21 +28,21 @@ number Room = 10
 
 -- the numbers that a call gives, or the number of its refusal
 pub data Answer : Type 0 where
-  gives : List ℕ → Answer
+  success : List ℕ → Answer
   refused : ℕ → Answer
 
-abbrev pub goes : Answer → Bool
-goes (gives ns) = true
-goes (refused n) = false
+abbrev pub succeeds : Answer → Bool
+succeeds (success ns) = true
+succeeds (refused n) = false
 
 -- the answers of the code, in the paper's numbers
 abbrev pub factOf : Fact → Answer
-factOf (fact.Is n) = gives (n ∷ [])
+factOf (fact.Is n) = success (n ∷ [])
 factOf (fact.Refused x) = refused (number x)
 
 abbrev pub noopOf : Noop → Answer
-noopOf (noop.Is true) = gives (1 ∷ [])
-noopOf (noop.Is false) = gives (0 ∷ [])
+noopOf (noop.Is true) = success (1 ∷ [])
+noopOf (noop.Is false) = success (0 ∷ [])
 noopOf (noop.Refused x) = refused (number x)
 
 -- where a test fails, its number; else what comes after
@@ -50,21 +50,21 @@ abbrev pub needs : Bool → ℕ → ℕ → ℕ
 needs test n k = cond test k n
 
 -- the first of two refusals, where there is one; 0 is none
-abbrev pub first : ℕ → ℕ → ℕ
-first zero k = k
-first (suc n) k = suc n
+abbrev pub orElse : ℕ → ℕ → ℕ
+orElse zero k = k
+orElse (suc n) k = suc n
 
 -- a call goes through where nothing refuses it
-abbrev pub settle : {A : Type 0} → ℕ → (ℕ → A) → A → A
-settle zero f x = x
-settle (suc n) f x = f (suc n)
+abbrev pub unlessRefused : {A : Type 0} → ℕ → (ℕ → A) → A → A
+unlessRefused zero f x = x
+unlessRefused (suc n) f x = f (suc n)
 
 -- the code's answer, in the paper's numbers
 abbrev pub writtenOf : Written → Answer
-writtenOf (written.Bytes n) = gives (n ∷ [])
+writtenOf (written.Bytes n) = success (n ∷ [])
 writtenOf (written.Refused x) = refused (number x)
 
 -- the code's answer, in the paper's numbers
 abbrev pub pairOf : WrittenPair → Answer
-pairOf (pair.Bytes p q) = gives (p ∷ q ∷ [])
+pairOf (pair.Bytes p q) = success (p ∷ q ∷ [])
 pairOf (pair.Refused x) = refused (number x)

@@ -5,7 +5,7 @@ use lib.ListN.{length}
 use lib.Dec.{leb}
 use mathlib.Core.Bool.{_&&_}
 use Rattle.buffers.specs.Buffers.{atFront}
-use Rattle.answers.specs.Answer.{Answer, gives, refused, needs, first, settle}
+use Rattle.answers.specs.Answer.{Answer, success, refused, needs, orElse, unlessRefused}
 
 pub record Out : Type 0 where
   pub answer : Answer
@@ -16,8 +16,8 @@ pub record Out : Type 0 where
 unfoldable pub writing : ℕ → List ℕ → List ℕ → Out
 unfolding atFront
 writing fault result out =
-    settle (first fault (needs (leb (length result) (length out)) 10 0)) (λ n. record { answer = refused n; out = out })
-    (record { answer = gives (length result ∷ []); out = atFront result out })
+    unlessRefused (orElse fault (needs (leb (length result) (length out)) 10 0)) (λ n. record { answer = refused n; out = out })
+    (record { answer = success (length result ∷ []); out = atFront result out })
 
 -- two outputs: "one number for each buffer"
 pub record Outs : Type 0 where
@@ -28,6 +28,6 @@ pub record Outs : Type 0 where
 unfoldable pub writingBoth : ℕ → List ℕ → List ℕ → List ℕ → List ℕ → Outs
 unfolding atFront
 writingBoth fault p q x y =
-    settle (first fault (needs (leb (length p) (length x) && leb (length q) (length y)) 10 0))
+    unlessRefused (orElse fault (needs (leb (length p) (length x) && leb (length q) (length y)) 10 0))
     (λ n. record { answer = refused n; outA = x; outB = y })
-    (record { answer = gives (length p ∷ length q ∷ []); outA = atFront p x; outB = atFront q y })
+    (record { answer = success (length p ∷ length q ∷ []); outA = atFront p x; outB = atFront q y })

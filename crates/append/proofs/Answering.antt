@@ -14,7 +14,7 @@ use Rattle.answers.specs.declared.Refusal.{Refusal}
 use Rattle.answers.specs.declared.Refusal.the-variants.{Log, Revision, IncompatibleLengths, Limit, Room}
 use Rattle.answers.specs.declared.Fact.{Fact}
 use Rattle.answers.specs.declared.Fact.the-variants as fact
-use Rattle.answers.specs.Answer.{number, gives, refused, factOf, needs}
+use Rattle.answers.specs.Answer.{number, success, refused, factOf, needs}
 use Rattle.answers.specs.declared.WrittenPair.the-variants as written
 use Rattle.record.specs.Layout.{sizeOf, baseOf}
 use Rattle.record.specs.Record.{encode, ops, recordFault}
@@ -134,7 +134,7 @@ module _ (edit : List ℕ) (r : ℕ) (log out : List ℕ) where
               let k : take size cur′ ≡ encode (moved .edit) =
               ap (λ n. take n cur′) (size-is ∙ sym (size-of (moved .edit) cur′ (o .holds))) ∙ o .holds .bytes-are in
               record {
-                answer = rw fault-none (ap₂ (λ x y. gives (x ∷ y ∷ [])) size-is (m .moved .bytes-are));
+                answer = rw fault-none (ap₂ (λ x y. success (x ∷ y ∷ [])) size-is (m .moved .bytes-are));
                 log-is = rw fault-none (e ∙ ap (append log) k);
                 out-is = rw fault-none (o .given);
               }

@@ -12,22 +12,22 @@ use Rattle.log.specs.Log.{sizesIn, lengthIn, editsIn, countOf, startOf, records
 use Rattle.log.specs.declared.core.Scan.{Scan}
 use Rattle.log.specs.InnerScan.{Found}
 use Rattle.log.proofs.Scanning.{reads, drop-place, place-inside}
-use Rattle.rebase.specs.InnerRunning.{Lie}
+use Rattle.rebase.specs.InnerRunning.{RecordsFollow}
 use Rattle.rebase.proofs.Moving.{lie-first, lie-rest}
 
 -- ---- records that stand end to end
 
-small : (n len : ℕ) (m : List ℕ) → Lie n len m → sizesIn n m ≤ 35848 * n
+small : (n len : ℕ) (m : List ℕ) → RecordsFollow n len m → sizesIn n m ≤ 35848 * n
 small zero len m h = omega arith
 small (suc n) len m h =
     let f = limits m .0 (faultless m .0 (lie-first (suc n) len m (λ z. absurd (omega (arith, z))) h .0) .in-limits) in
     omega (arith, f .records, f .text-bytes, small n (targetOf m) (drop (sizeOf m) m) (lie-rest n len m h))
 
-lie-behind : (r n len : ℕ) (m : List ℕ) → r ≤ n → Lie n len m → Lie (n - r) (lengthIn r len m) (drop (sizesIn r m) m)
-lie-behind zero n len m h l = subst (λ k. Lie k len m) (sym (sub-zero n)) l
+lie-behind : (r n len : ℕ) (m : List ℕ) → r ≤ n → RecordsFollow n len m → RecordsFollow (n - r) (lengthIn r len m) (drop (sizesIn r m) m)
+lie-behind zero n len m h l = subst (λ k. RecordsFollow k len m) (sym (sub-zero n)) l
 lie-behind (suc r) zero len m h l = absurd (omega arith)
 lie-behind (suc r) (suc n) len m h l =
-    subst₂ (λ k d. Lie k (lengthIn (suc r) len m) d) (omega arith) (drop-drop (sizesIn r (drop (sizeOf m) m)) (sizeOf m) m) (lie-behind r n (targetOf m) (drop (sizeOf m) m) (omega arith) (lie-rest n len m l))
+    subst₂ (λ k d. RecordsFollow k (lengthIn (suc r) len m) d) (omega arith) (drop-drop (sizesIn r (drop (sizeOf m) m)) (sizeOf m) m) (lie-behind r n (targetOf m) (drop (sizeOf m) m) (omega arith) (lie-rest n len m l))
 
 edits-behind : (r n : ℕ) (m : List ℕ) → r ≤ n → editsIn (n - r) (drop (sizesIn r m) m) ≡ drop r (editsIn n m)
 unfolding editsIn
@@ -40,7 +40,7 @@ edits-behind (suc r) (suc n) m h =
 -- ---- a log that can be read
 
 module _ (l : List ℕ) (r : ℕ) (s : Scan) (f : Found l r s) where
-  all-lie : Lie (countOf l) (startOf l) (drop recordsStart l)
+  all-lie : RecordsFollow (countOf l) (startOf l) (drop recordsStart l)
   all-lie = record { reads = reads l (f .reads) .records }
 
   pub log-small : s .size ≤ 2 ^ 50
@@ -54,9 +54,9 @@ module _ (l : List ℕ) (r : ℕ) (s : Scan) (f : Found l r s) where
     pub from-inside : s .at ≤ length l
     from-inside = omega (arith, f .place h, place-inside l (f .reads) r h)
 
-    pub lie-from : (len : ℕ) → len ≡ lengthAt r l → Lie n len (drop (s .at) l)
+    pub lie-from : (len : ℕ) → len ≡ lengthAt r l → RecordsFollow n len (drop (s .at) l)
     unfolding lengthAt
-    lie-from len p = subst (λ k. Lie n k (drop (s .at) l)) (sym p) (subst₂ (λ k d. Lie k (lengthAt r l) d) (sym e) (sym from-is) (lie-behind r (countOf l) (startOf l) (drop recordsStart l) h all-lie))
+    lie-from len p = subst (λ k. RecordsFollow n k (drop (s .at) l)) (sym p) (subst₂ (λ k d. RecordsFollow k (lengthAt r l) d) (sym e) (sym from-is) (lie-behind r (countOf l) (startOf l) (drop recordsStart l) h all-lie))
 
     pub edits-from : editsIn n (drop (s .at) l) ≡ drop r (revisions l)
     unfolding revisions

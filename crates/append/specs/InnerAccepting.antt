@@ -11,7 +11,7 @@ use Rattle.answers.specs.declared.WrittenPair.the-variants as written
 use Rattle.record.specs.Layout.{baseOf}
 use Rattle.record.specs.Record.{recordFault, ops}
 use Rattle.log.specs.declared.core.Scan.{Scan}
-use Rattle.log.specs.Log.{countOf, lengthAt, revisions, encodeAll, maxRevisions}
+use Rattle.log.specs.Log.{countOf, lengthAt, maxRevisions, revisions, encodeAll}
 use Rattle.log.specs.InnerScan.{Found}
 use Rattle.session.specs.Rows.{rebase}
 use Rattle.session.specs.Session.{acceptCall}

@@ -33,7 +33,7 @@ pub fn append(log: &mut [u8], s: Scan, rec: &[u8], size: usize)
 }
 
 // Against the newest revision the edit is appended as it is.
-pub fn newest(edit: &[u8], r: u64, log: &mut [u8], s: Scan, out: &mut [u8]) -> WrittenPair
+pub fn append_unmoved(edit: &[u8], r: u64, log: &mut [u8], s: Scan, out: &mut [u8]) -> WrittenPair
     requires { ⌜ Admitted (now edit) r (now log) s × (r ≡ countOf (now log)) ⌝ }
     ensures { λ x. ⌜ Accepts (now (edit .entry)) r (now (log .entry)) (now (out .entry)) x (now (log .exit)) (now (out .exit)) ⌝ }
 {
@@ -46,7 +46,7 @@ pub fn newest(edit: &[u8], r: u64, log: &mut [u8], s: Scan, out: &mut [u8]) -> W
 }
 
 // The edit's record at the front of a buffer.
-pub fn lay(cur: &mut [u8], edit: &[u8])
+pub fn load_edit(cur: &mut [u8], edit: &[u8])
     requires { ⌜ (recordFault (now edit) ≡ 0) × (sizeOf (now edit) ≤ length (now cur)) ⌝ }
     ensures { λ _. ⌜ Holds (ops (now (edit .entry))) (now (cur .exit)) × (sizeOf (now (edit .entry)) ≤ length (now (cur .exit))) ⌝ }
 {

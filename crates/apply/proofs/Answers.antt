@@ -16,7 +16,7 @@ use Rattle.characters.specs.declared.Form.{Form}
 use Rattle.characters.specs.declared.Form.the-variants as form
 use Rattle.characters.specs.InnerPassed.{formOf}
 use Rattle.characters.proofs.Passed.{form-ill, form-well, form-num}
-use Rattle.answers.specs.Answer.{needs, first, refused, gives, number, factOf, settle}
+use Rattle.answers.specs.Answer.{needs, orElse, refused, success, number, factOf, unlessRefused}
 use Rattle.answers.specs.declared.Refusal.{Refusal}
 use Rattle.answers.specs.declared.Fact.{Fact}
 use Rattle.answers.specs.declared.Fact.the-variants as fact
@@ -32,7 +32,7 @@ use Rattle.apply.proofs.Playing.{played-most}
 -- ---- apply
 
 abbrev faultOf : List ℕ → List ℕ → ℕ
-faultOf r t = first (textFault r t) (needs (eqb (numChars t) (baseOf r)) 8 0)
+faultOf r t = orElse (textFault r t) (needs (eqb (numChars t) (baseOf r)) 8 0)
 
 -- the answer is a refusal, and the output is as it was
 pub stopped : (r t o : List ℕ) {o₁ : List ℕ} (n : ℕ) → o₁ ≡ o → refused n ≡ applyCall r t o .answer → (refused n ≡ applyCall r t o .answer) × (o₁ ≡ applyCall r t o .out)
@@ -50,12 +50,12 @@ module _ (r t o : List ℕ) (z : recordFault r ≡ 0) (w : T (wellFormed t)) (a 
 
   -- there is room
   module _ (room : length (played r t) ≤ length o) where
-    whole : record { answer = gives (length (played r t) ∷ []); out = atFront (played r t) o } ≡ applyCall r t o
+    whole : record { answer = success (length (played r t) ∷ []); out = atFront (played r t) o } ≡ applyCall r t o
     unfolding applyCall played
     whole = writing-goes (faultOf r t) (played r t) o no-fault room
 
-    gives-size : (k : ℕ) → k ≡ length (played r t) → gives (k ∷ []) ≡ applyCall r t o .answer
-    gives-size k p = ap (λ i. gives (i ∷ [])) p ∙ ap (λ x. x .answer) whole
+    gives-size : (k : ℕ) → k ≡ length (played r t) → success (k ∷ []) ≡ applyCall r t o .answer
+    gives-size k p = ap (λ i. success (i ∷ [])) p ∙ ap (λ x. x .answer) whole
 
     gives-out : (c : List ℕ) → c ≡ over 0 (played r t) o → c ≡ applyCall r t o .out
     gives-out c p = p ∙ over-front (played r t) o room ∙ ap (λ x. x .out) whole
@@ -65,7 +65,7 @@ module _ (r t o : List ℕ) (z : recordFault r ≡ 0) (w : T (wellFormed t)) (a 
     ample : length (played r t) ≤ length o
     ample = omega (arith, played-most r t z w)
 
-    pub once-0 : (k : ℕ) → k ≡ length (played r t) → gives (k ∷ []) ≡ applyCall r t o .answer
+    pub once-0 : (k : ℕ) → k ≡ length (played r t) → success (k ∷ []) ≡ applyCall r t o .answer
     once-0 = gives-size ample
 
     pub once-out : (c : List ℕ) → c ≡ over 0 (played r t) o → c ≡ applyCall r t o .out
@@ -84,7 +84,7 @@ module _ (r t o : List ℕ) (z : recordFault r ≡ 0) (w : T (wellFormed t)) (a 
       room : length (played r t) ≤ length o
       room = omega (arith, ap length same)
 
-      pub apply-0 : (k : ℕ) → k ≡ length (played r t) → gives (k ∷ []) ≡ applyCall r t o .answer
+      pub apply-0 : (k : ℕ) → k ≡ length (played r t) → success (k ∷ []) ≡ applyCall r t o .answer
       apply-0 = gives-size room
 
       pub apply-out : (c : List ℕ) → c ≡ over 0 (played r t) (e ++ o) → c ≡ applyCall r t o .out
@@ -94,9 +94,9 @@ module _ (r t o : List ℕ) (z : recordFault r ≡ 0) (w : T (wellFormed t)) (a 
 module _ (r t o : List ℕ) (f : Fact) (p : factOf f ≡ checkCall r) where
   pub apply-refused : (x : Refusal) → f ≡ fact.Refused x → refused (number x) ≡ applyCall r t o .answer
   unfolding applyCall played
-  apply-refused x q = go (recordFault r) refl (same-refusal r f p x (gives []) q)
+  apply-refused x q = go (recordFault r) refl (same-refusal r f p x (success []) q)
     where
-      go : (k : ℕ) → recordFault r ≡ k → refused (number x) ≡ settle k refused (gives []) → refused (number x) ≡ applyCall r t o .answer
+      go : (k : ℕ) → recordFault r ≡ k → refused (number x) ≡ unlessRefused k refused (success []) → refused (number x) ≡ applyCall r t o .answer
       go zero z e = absurd (let y : _≡_ {A = ℕ} 0 1 = cc e in omega arith)
       go (suc k) z e = e ∙ writing-stops (faultOf r t) (played r t) o k (rw z)
 

@@ -28,13 +28,13 @@ use Rattle.record.specs.Record.{inBytes, inserted, text, ops, recordFault}
 use Rattle.record.proofs.Records.{ops-text, ops-base, ops-good}
 use Rattle.record.proofs.Sequences.{fits-limits}
 use Rattle.reader.proofs.Fronts.{Begins, begins-none, begins-retain, begins-delete, load-room, begins-well, begins-insert, place-start, ops-start}
-use Rattle.apply.specs.declared.core.State.{State}
+use Rattle.apply.specs.declared.core.Progress.{Progress}
 use Rattle.apply.specs.InnerSteps.{played, Stage, Steps, TakesRest}
 
 -- ---- one step
 
 -- the records ahead begin with o, whose characters the text has up to `end`
-module _ (r t : List ℕ) (s : State) (g : Stage r t s) (o : Op Char) (to end : ℕ) (b : Begins r (s .k) (s .from) o to) (v : Passes t (s .at) (takes o) end) where
+module _ (r t : List ℕ) (s : Progress) (g : Stage r t s) (o : Op Char) (to end : ℕ) (b : Begins r (s .k) (s .from) o to) (v : Passes t (s .at) (takes o) end) where
   -- o gives the bytes y
   moves : (y : List ℕ) (len : ℕ) (d e : List ℕ) → y ≡ bytes (writes o (chars (drop (s .at) t))) → len ≡ s .len + length y → e ≡ over (s .len) y d
       → Steps r t s d (record { k = s .k + 1; from = to; at = end; len = len }) e
@@ -70,7 +70,7 @@ module _ (r t : List ℕ) (s : State) (g : Stage r t s) (o : Op Char) (to end : 
       }
 
 -- the record at k, as the code finds it
-module _ (r t : List ℕ) (n : ℕ) (s : State) (kind count : ℕ) (g : Stage r t s) (p : n ≡ recordsOf r) (h : s .k < n) (q : kind ≡ kindAt r (s .k)) (c : count ≡ countAt r (s .k)) (small : count < 65536) where
+module _ (r t : List ℕ) (n : ℕ) (s : Progress) (kind count : ℕ) (g : Stage r t s) (p : n ≡ recordsOf r) (h : s .k < n) (q : kind ≡ kindAt r (s .k)) (c : count ≡ countAt r (s .k)) (small : count < 65536) where
   module _ (e : kind ≡ 2) where
     pub insert-room : s .from + count ≤ length r
     insert-room = load-room r n (s .k) (s .from) kind count p (g .place) h q c small e
@@ -170,7 +170,7 @@ stage-start r t n from z w e p q =
       left = unfold played in ap (λ q. bytes (apply q (chars t))) (sym a);
     }
 
-pub stage-end : (r t : List ℕ) (n : ℕ) (s : State) → n ≡ recordsOf r → Stage r t s → n ≤ s .k → s .len ≡ length (played r t)
+pub stage-end : (r t : List ℕ) (n : ℕ) (s : Progress) → n ≡ recordsOf r → Stage r t s → n ≤ s .k → s .len ≡ length (played r t)
 unfolding bytes
 stage-end r t n s p g h =
     let e : drop (s .len) (played r t) ≡ [] = g .left ∙ ap (λ q. bytes (apply q (chars (drop (s .at) t)))) (begins-none r n (s .k) (s .from) p h) in

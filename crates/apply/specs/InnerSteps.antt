@@ -12,7 +12,7 @@ use Rattle.edits.specs.Apply.{apply}
 use Rattle.edits.specs.Op.{base}
 use Rattle.record.specs.Record.{ops}
 use Rattle.record.specs.InnerFront.{opsLeft, Place}
-use Rattle.apply.specs.declared.core.State.{State}
+use Rattle.apply.specs.declared.core.Progress.{Progress}
 
 -- the text after the edit
 unfoldable pub played : List ℕ → List ℕ → List ℕ
@@ -20,7 +20,7 @@ unfolding ops chars bytes
 played r t = bytes (apply (ops r) (chars t))
 
 -- of it, `len` bytes were given, and the records from k on make the others of what lies ahead in the text
-pub record Stage (r t : List ℕ) (s : State) : Type 0 where
+pub record Stage (r t : List ℕ) (s : Progress) : Type 0 where
   pub place : Place r (s .k) (s .from)
   pub inside : s .at ≤ length t
   pub well : T (wellFormed (drop (s .at) t))
@@ -34,7 +34,7 @@ pub record TakesRest (t : List ℕ) (at count left : ℕ) : Type 0 where
   pub rest : left ≡ 1 → count ≡ numChars (drop at t)
 
 -- one step from `s` to `u`: the bytes between are laid over the output
-pub record Steps (r t : List ℕ) (s : State) (o : List ℕ) (u : State) (o′ : List ℕ) : Type 0 where
+pub record Steps (r t : List ℕ) (s : Progress) (o : List ℕ) (u : Progress) (o′ : List ℕ) : Type 0 where
   pub stage : Stage r t u
   pub next : u .k ≡ s .k + 1
   pub forth : s .len ≤ u .len

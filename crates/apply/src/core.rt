@@ -16,7 +16,7 @@ ghost use Rattle.apply.specs.InnerSteps.{TakesRest, Stage, Steps, played
 
 // How far the record and the text were gone through: the next record, the places of the next insert's text and of the next
 // character, and how many bytes were given.
-pub(crate) struct State {
+pub(crate) struct Progress {
     pub k: usize,
     pub from: usize,
     pub at: usize,
@@ -24,7 +24,7 @@ pub(crate) struct State {
 }
 
 // The place `count` characters behind `at`, in a text that has `chars` characters and at least so many from there on.
-fn behind(text: &[u8], chars: usize, at: usize, count: usize) -> usize
+fn skip_chars(text: &[u8], chars: usize, at: usize, count: usize) -> usize
     requires { ⌜ (chars ≡ numChars (now text)) × (at ≤ length (now text)) × T (wellFormed (drop at (now text))) × (count < 65536) × (count ≤ numChars (drop at (now text))) ⌝ }
     ensures { λ end. ⌜ Passes (now (text .entry)) at count end ⌝ }
 {
@@ -42,11 +42,18 @@ fn end_of(text: &[u8], chars: usize, at: usize, count: usize, left: usize) -> us
     if left == 1 {
         return text.len();
     }
-    behind(text, chars, at, count)
+    skip_chars(text, chars, at, count)
 }
 
 // One operation: retain copies, delete skips, insert writes.
-fn step(out: &mut [u8], rec: &[u8], n: usize, text: &[u8], chars: usize, s: State) -> State
+fn apply_op(
+    out: &mut [u8],
+    rec: &[u8],
+    n: usize,
+    text: &[u8],
+    chars: usize,
+    s: Progress,
+) -> Progress
     requires { ⌜ (recordFault (now rec) ≡ 0) × (n ≡ recordsOf (now rec)) × (chars ≡ numChars (now text)) × Stage (now rec) (now text) s × (s .k < n) ⌝ }
     ensures { λ r. ⌜ Steps (now (rec .entry)) (now (text .entry)) s (now (out .entry)) r (now (out .exit)) ⌝ }
 {
@@ -59,7 +66,7 @@ fn step(out: &mut [u8], rec: &[u8], n: usize, text: &[u8], chars: usize, s: Stat
     if kind == INSERT {
         let to = from + count;
         buffers::core::copy_short(out, len, rec, from, to);
-        return State {
+        return Progress {
             k: k + 1,
             from: to,
             at,
@@ -69,14 +76,14 @@ fn step(out: &mut [u8], rec: &[u8], n: usize, text: &[u8], chars: usize, s: Stat
     let end = end_of(text, chars, at, count, n - k);
     if kind == RETAIN {
         buffers::core::copy_short(out, len, text, at, end);
-        return State {
+        return Progress {
             k: k + 1,
             from,
             at: end,
             len: len + (end - at),
         };
     }
-    State {
+    Progress {
         k: k + 1,
         from,
         at: end,
@@ -85,21 +92,21 @@ fn step(out: &mut [u8], rec: &[u8], n: usize, text: &[u8], chars: usize, s: Stat
 }
 
 // How many bytes the text after the edit has, of which those that have a place are written.
-pub fn run(out: &mut [u8], rec: &[u8], text: &[u8]) -> usize
+pub fn apply_into(out: &mut [u8], rec: &[u8], text: &[u8]) -> usize
     requires { ⌜ (recordFault (now rec) ≡ 0) × T (wellFormed (now text)) × (numChars (now text) ≡ baseOf (now rec)) ⌝ }
     ensures { λ r. ⌜ (r ≡ length (played (now (rec .entry)) (now (text .entry)))) × (now (out .exit) ≡ over 0 (played (now (rec .entry)) (now (text .entry))) (now (out .entry))) ⌝ }
 {
     let n = reader::core::records(rec);
     let chars = reader::core::base(rec);
     let from = layout::core::text_start(n);
-    let mut s = State {
+    let mut s = Progress {
         k: 0,
         from,
         at: 0,
         len: 0,
     };
     while s.k < n {
-        s = step(out, rec, n, text, chars, s);
+        s = apply_op(out, rec, n, text, chars, s);
     }
     s.len
 }

@@ -41,11 +41,11 @@ fn write(rec: &[u8], text: &[u8], out: &mut [u8]) -> Written
 {
     let inserted = reader::core::text_bytes(rec);
     if text.len() + inserted <= out.len() {
-        return Written::Bytes(core::run(out, rec, text));
+        return Written::Bytes(core::apply_into(out, rec, text));
     }
-    let size = core::run(&mut out[..0], rec, text);
+    let size = core::apply_into(&mut out[..0], rec, text);
     if out.len() < size {
         return Written::Refused(Refusal::Room);
     }
-    Written::Bytes(core::run(out, rec, text))
+    Written::Bytes(core::apply_into(out, rec, text))
 }

@@ -3,7 +3,7 @@ ghost use mathlib.Core.Path.{_≡_};
 ghost use Prim.Native.Nat.{_≤_, _-_, _+_};
 ghost use lib.ListN.{length};
 ghost use Rattle.characters.specs.Form.{within};
-ghost use Rattle.characters.specs.InnerBlock.{bitOf, maskOf, Tells, dueOf, neverOf, outsideOf, offOf, Goes, heldOf, before, OnlyIf, Window, StandWell};
+ghost use Rattle.characters.specs.InnerBlock.{bitOf, maskOf, Tells, dueOf, invalidByteOf, outsideOf, misplacedOf, Goes, pendingOf, before, OnlyIf, Window, StandWell};
 ghost use Rattle.characters.specs.Chars.{isCont};
 ghost use Rattle.characters.specs.InnerPassed.{Passed};
 ghost use Rattle.characters.specs.InnerAscii.{Runs};
@@ -27,7 +27,7 @@ fn bit(b: bool) -> u8
 }
 
 // How far b is above `most`.
-fn over(b: u8, most: u8) -> u8
+fn saturating_sub(b: u8, most: u8) -> u8
     ensures { λ r. ⌜ r ≡ b - most ⌝ }
 {
     if most < b { b - most } else { 0 }
@@ -43,14 +43,14 @@ fn mask(b: bool) -> u8
 fn due(p3: u8, p2: u8, p1: u8) -> u8
     ensures { λ r. ⌜ Tells r (dueOf p3 p2 p1) ⌝ }
 {
-    over(p1, 0xBF) | over(p2, 0xDF) | over(p3, 0xEF)
+    saturating_sub(p1, 0xBF) | saturating_sub(p2, 0xDF) | saturating_sub(p3, 0xEF)
 }
 
 // Not 0 where b neither begins a character nor continues one.
-fn never(b: u8) -> u8
-    ensures { λ r. ⌜ Tells r (neverOf b) ⌝ }
+fn invalid_byte(b: u8) -> u8
+    ensures { λ r. ⌜ Tells r (invalidByteOf b) ⌝ }
 {
-    mask(b & 0xFE == 0xC0) | over(b, 0xF4)
+    mask(b & 0xFE == 0xC0) | saturating_sub(b, 0xF4)
 }
 
 // Not 0 where the second byte is outside of the range that the first asks for.
@@ -66,10 +66,10 @@ fn outside(p: u8, b: u8) -> u8
 }
 
 // 0 only where b may stand behind the three bytes.
-fn off(p3: u8, p2: u8, p1: u8, b: u8) -> u8
-    ensures { λ r. ⌜ Tells r (offOf p3 p2 p1 b) ⌝ }
+fn misplaced(p3: u8, p2: u8, p1: u8, b: u8) -> u8
+    ensures { λ r. ⌜ Tells r (misplacedOf p3 p2 p1 b) ⌝ }
 {
-    mask(counting::core::is_cont(b) == (due(p3, p2, p1) == 0)) | never(b) | outside(p1, b)
+    mask(counting::core::is_cont(b) == (due(p3, p2, p1) == 0)) | invalid_byte(b) | outside(p1, b)
 }
 
 // Whether b is a continuation, by its two highest bits.
@@ -85,7 +85,7 @@ struct Found {
     conts: u8,
 }
 
-fn seen(text: &[u8], at: usize) -> Found
+fn check16(text: &[u8], at: usize) -> Found
     requires { ⌜ (3 ≤ at) × (at + 16 ≤ length (now text)) ⌝ }
     ensures { λ s. ⌜ Goes (now (text .entry)) at (at + 16) (s .bad) (s .conts) ⌝ }
 {
@@ -95,7 +95,7 @@ fn seen(text: &[u8], at: usize) -> Found
     while k < 16 {
         let i = at + k;
         let b = text[i];
-        bad = bad | off(text[i - 3], text[i - 2], text[i - 1], b);
+        bad = bad | misplaced(text[i - 3], text[i - 2], text[i - 1], b);
         conts += cont_bit(b);
         k += 1;
     }
@@ -103,9 +103,9 @@ fn seen(text: &[u8], at: usize) -> Found
 }
 
 // How many bytes before i belong to a character that is to go on.
-fn held(text: &[u8], i: usize) -> u8
+fn pending(text: &[u8], i: usize) -> u8
     requires { ⌜ (3 ≤ i) × (i ≤ length (now text)) ⌝ }
-    ensures { λ r. ⌜ (r ≡ before heldOf (now (text .entry)) i) × (r ≤ 6) ⌝ }
+    ensures { λ r. ⌜ (r ≡ before pendingOf (now (text .entry)) i) × (r ≤ 6) ⌝ }
 {
     bit(0xC0 <= text[i - 1]) + 2 * bit(0xE0 <= text[i - 2]) + 3 * bit(0xF0 <= text[i - 3])
 }
@@ -113,7 +113,7 @@ fn held(text: &[u8], i: usize) -> u8
 // Whether blocks may begin at the end of a character: three bytes stand before it, nineteen in all, and nothing is held.
 fn begins(text: &[u8], at: usize) -> bool
     requires { ⌜ at ≤ length (now text) ⌝ }
-    ensures { λ r. ⌜ OnlyIf r ((3 ≤ at) × (19 ≤ length (now (text .entry))) × (before heldOf (now (text .entry)) at ≡ 0)) ⌝ }
+    ensures { λ r. ⌜ OnlyIf r ((3 ≤ at) × (19 ≤ length (now (text .entry))) × (before pendingOf (now (text .entry)) at ≡ 0)) ⌝ }
 {
     if at < 3 {
         return false;
@@ -121,7 +121,7 @@ fn begins(text: &[u8], at: usize) -> bool
     if text.len() < 19 {
         return false;
     }
-    held(text, at) == 0
+    pending(text, at) == 0
 }
 
 // Over blocks that go on well, as long as sixteen bytes are left.
@@ -133,7 +133,7 @@ fn pass(text: &[u8], from: usize, passed: usize) -> Spot
     let mut conts = passed;
     while 16 <= text.len() - i {
         if ascii::core::plain(text, i) {
-            if held(text, i) != 0 {
+            if pending(text, i) != 0 {
                 return Spot { at: i, conts };
             }
             i += 16;
@@ -141,7 +141,7 @@ fn pass(text: &[u8], from: usize, passed: usize) -> Spot
                 i = ascii::core::bulk(text, i + 64);
             }
         } else {
-            let s = seen(text, i);
+            let s = check16(text, i);
             if s.bad != 0 {
                 return Spot { at: i, conts };
             }
@@ -157,7 +157,7 @@ fn back(text: &[u8], w: Spot) -> Spot
     requires { ⌜ Window (now text) (w .at) (w .conts) ⌝ }
     ensures { λ s. ⌜ Passed (now (text .entry)) (s .at) (s .conts) ⌝ }
 {
-    let n = held(text, w.at) as usize;
+    let n = pending(text, w.at) as usize;
     if n == 0 {
         return w;
     }
@@ -170,7 +170,7 @@ fn back(text: &[u8], w: Spot) -> Spot
 // Whether only ASCII is left, told by the last eight bytes, and nothing is held.
 fn ends_ascii(text: &[u8], at: usize) -> bool
     requires { ⌜ (3 ≤ at) × (at ≤ length (now text)) × (8 ≤ length (now text)) ⌝ }
-    ensures { λ r. ⌜ OnlyIf r (Runs (now (text .entry)) at (length (now (text .entry))) × (before heldOf (now (text .entry)) at ≡ 0)) ⌝ }
+    ensures { λ r. ⌜ OnlyIf r (Runs (now (text .entry)) at (length (now (text .entry))) × (before pendingOf (now (text .entry)) at ≡ 0)) ⌝ }
 {
     if 8 < text.len() - at {
         return false;
@@ -178,19 +178,19 @@ fn ends_ascii(text: &[u8], at: usize) -> bool
     if !ascii::core::eight(text, text.len() - 8) {
         return false;
     }
-    held(text, at) == 0
+    pending(text, at) == 0
 }
 
 // Whether the last sixteen bytes go on well, and nothing is held behind them.
 fn ends_well(text: &[u8]) -> bool
     requires { ⌜ 19 ≤ length (now text) ⌝ }
-    ensures { λ r. ⌜ OnlyIf r (StandWell (now (text .entry)) (length (now (text .entry)) - 16) (length (now (text .entry))) × (before heldOf (now (text .entry)) (length (now (text .entry))) ≡ 0)) ⌝ }
+    ensures { λ r. ⌜ OnlyIf r (StandWell (now (text .entry)) (length (now (text .entry)) - 16) (length (now (text .entry))) × (before pendingOf (now (text .entry)) (length (now (text .entry))) ≡ 0)) ⌝ }
 {
-    let s = seen(text, text.len() - 16);
+    let s = check16(text, text.len() - 16);
     if s.bad != 0 {
         return false;
     }
-    held(text, text.len()) == 0
+    pending(text, text.len()) == 0
 }
 
 // To the end of the text where its last bytes tell that it ends well, else back.

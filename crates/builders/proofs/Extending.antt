@@ -31,7 +31,7 @@ use Rattle.record.proofs.Faults.{limits, faultless}
 use Rattle.record.proofs.Sequences.{fits-limits}
 use Rattle.operational_transform.specs.Calls.{deliver}
 use Rattle.emitter.specs.declared.core.Emitter.{Emitter}
-use Rattle.emitter.specs.InnerEmit.{one, flushed, textsOf, laid, group, settled, Done, headed, judged}
+use Rattle.emitter.specs.InnerEmit.{one, flushed, textsOf, laid, group, relocated, Done, headed, limitsThenRoom}
 use Rattle.emitter.proofs.Emitting.{flushed-few, group-text, group-length, lay-group}
 use Rattle.emitter.proofs.Delivering.{text-ahead}
 use Rattle.emitter.proofs.Giving.{gives-refused, gives-written, text-refused, no-text, gives-limit}
@@ -51,7 +51,7 @@ module _ (f : Emitter) where
 module _ (r : List ℕ) (p : Op Char) (u : List ℕ) (f : Emitter) (a : Grown r p u f) where
   -- the buffer, all but the sizes
   abbrev laidOut : ℕ → List ℕ → List ℕ
-  laidOut n o = flushed n f (over (textStart n + textBytesOf r) u (settled (recordsOf r) n (f .records) (textBytesOf r) r o))
+  laidOut n o = flushed n f (over (textStart n + textBytesOf r) u (relocated (recordsOf r) n (f .records) (textBytesOf r) r o))
 
   grown-done : (n : ℕ) (o : List ℕ) → Done n (extend (ops r) p) o (closedOf f) (laidOut n o)
   unfolding extend
@@ -74,23 +74,23 @@ module _ (r : List ℕ) (p : Op Char) (u : List ℕ) (f : Emitter) (a : Grown r 
             ∙ ap (λ s. laid n s (textsOf s) o) twice;
       }
 
-  module _ (g : Emitter) (e : g ≡ closedOf f) (o : List ℕ) (v : Written) (j : v ≡ judged g (length o)) where
+  module _ (g : Emitter) (e : g ≡ closedOf f) (o : List ℕ) (v : Written) (j : v ≡ limitsThenRoom g (length o)) where
     pub more-refused : (y : Refusal) → v ≡ written.Refused y → Gives (deliver 0 (extend (ops r) p) o) (written.Refused y) o
-    more-refused y q = gives-refused (extend (ops r) p) o (closedOf f) o (laidOut 0 o) (grown-done 0 o) v (j ∙ ap (λ h. judged h (length o)) e) y q
+    more-refused y q = gives-refused (extend (ops r) p) o (closedOf f) o (laidOut 0 o) (grown-done 0 o) v (j ∙ ap (λ h. limitsThenRoom h (length o)) e) y q
 
     pub text-written : (k m t : ℕ) {o₁ o₂ : List ℕ} → v ≡ written.Bytes k → m ≡ recordsOf r → t ≡ textBytesOf r
-        → o₁ ≡ over (textStart (g .records) + t) u (settled m (g .records) (f .records) t r o) → o₂ ≡ headed g (flushed (g .records) f o₁)
+        → o₁ ≡ over (textStart (g .records) + t) u (relocated m (g .records) (f .records) t r o) → o₂ ≡ headed g (flushed (g .records) f o₁)
         → Gives (deliver 0 (extend (ops r) p) o) (written.Bytes k) o₂
     text-written k m t {o₁} {o₂} q mp tp p₁ p₂ =
         let n = g .records in
-        let same : o₁ ≡ over (textStart n + textBytesOf r) u (settled (recordsOf r) n (f .records) (textBytesOf r) r o) = p₁ ∙ (λ i. over (textStart n + tp i) u (settled (mp i) n (f .records) (tp i) r o)) in
+        let same : o₁ ≡ over (textStart n + textBytesOf r) u (relocated (recordsOf r) n (f .records) (textBytesOf r) r o) = p₁ ∙ (λ i. over (textStart n + tp i) u (relocated (mp i) n (f .records) (tp i) r o)) in
         let d : Done n (extend (ops r) p) o g (laidOut n o) = rw e (grown-done (closedOf f .records) o) in
         gives-written (extend (ops r) p) o g o (laidOut n o) d v j k o₂ q (record { emitter = g; before = laidOut n o; done = d; is = p₂ ∙ ap (λ x. headed g (flushed n f x)) same })
 
 -- where no text is put in
-pub more-written : (r : List ℕ) (p : Op Char) (f : Emitter) (a : Grown r p [] f) (g : Emitter) (e : g ≡ closedOf f) (o : List ℕ) (v : Written) → v ≡ judged g (length o)
+pub more-written : (r : List ℕ) (p : Op Char) (f : Emitter) (a : Grown r p [] f) (g : Emitter) (e : g ≡ closedOf f) (o : List ℕ) (v : Written) → v ≡ limitsThenRoom g (length o)
     → (k m t : ℕ) {o₁ o₂ : List ℕ} → v ≡ written.Bytes k → m ≡ recordsOf r → t ≡ textBytesOf r
-    → o₁ ≡ settled m (g .records) (f .records) t r o → o₂ ≡ headed g (flushed (g .records) f o₁)
+    → o₁ ≡ relocated m (g .records) (f .records) t r o → o₂ ≡ headed g (flushed (g .records) f o₁)
     → Gives (deliver 0 (extend (ops r) p) o) (written.Bytes k) o₂
 more-written r p f a g e o v j k m t q mp tp p₁ p₂ = text-written r p [] f a g e o v j k m t q mp tp (p₁ ∙ sym (over-nil _ _)) p₂
 
@@ -104,7 +104,7 @@ pub before-few : (r : List ℕ) (p : Op Char) (u : List ℕ) (f : Emitter) → G
 before-few r p u f a k e = omega (arith, a .few)
 
 -- `settle_with`
-pub settles-with : (m n k t at : ℕ) (r u o : List ℕ) {o₁ o₂ : List ℕ} → at ≡ textStart n → o₁ ≡ settled m n k t r o → o₂ ≡ over (at + t) (take (length u - 0) (drop 0 u)) o₁ → o₂ ≡ over (textStart n + t) u (settled m n k t r o)
+pub settles-with : (m n k t at : ℕ) (r u o : List ℕ) {o₁ o₂ : List ℕ} → at ≡ textStart n → o₁ ≡ relocated m n k t r o → o₂ ≡ over (at + t) (take (length u - 0) (drop 0 u)) o₁ → o₂ ≡ over (textStart n + t) u (relocated m n k t r o)
 settles-with m n k t at r u o p q w =
     let z = take-all (length u - 0) u (omega arith) in
     w ∙ (λ i. over (p i + t) (z i) (q i))

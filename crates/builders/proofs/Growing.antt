@@ -23,7 +23,7 @@ use Rattle.record.specs.Layout.{kindAt, countAt, recordsOf, textBytesOf, baseOf
 use Rattle.record.proofs.Sequences.{inBytes-size}
 use Rattle.record.proofs.Records.{Bytes, ops-base, ops-target}
 use Rattle.record.proofs.Faults.{limits, faultless}
-use Rattle.emitter.specs.InnerEmit.{one, group, textsOf, laid, settled}
+use Rattle.emitter.specs.InnerEmit.{one, group, textsOf, laid, relocated}
 use Rattle.emitter.proofs.Emitting.{some-is, group-text, lay-text}
 use Rattle.emitter.proofs.Parts.{At, at-before, kind-last, count-last, at-end, text-at, text-long, kinds-at, counts-at}
 use Rattle.emitter.proofs.Loops.{add-text, add-bytes, add-base, add-target}
@@ -188,7 +188,7 @@ module _ (r : List ℕ) (b : Bytes r) (z : recordFault r ≡ 0) where
       → ins ≤ 2 ^ 38 → del ≤ 2 ^ 38 → ret ≤ 2 ^ 38 → t ≤ 2 ^ 38 → g ≤ 2 ^ 38 → h ≤ 2 ^ 38
       → t ≡ textBytesOf r + length u → g ≡ baseOf r + takes p → h ≡ targetOf r + gives p
       → Grown r p u (record { ins = ins; del = del; ret = ret; records = j; text = t; base = g; target = h })
-  unfolding settled laid textOf extend
+  unfolding relocated laid textOf extend
   grows p u j done held ins del ret t g h up jl a is ip il dl rl tl gl hl tp gp hp =
       let l = limits r .0 (faultless r .0 z .in-limits) in
       let e : textsOf back ++ u ≡ textsOf done ++ bytes held =
@@ -207,7 +207,7 @@ module _ (r : List ℕ) (b : Bytes r) (z : recordFault r ≡ 0) where
         base-is = gp ∙ sym (add-base back p ∙ ap (λ s. base s + takes p) (reverse-reverse (ops r)) ∙ ap (λ k. k + takes p) (ops-base r z));
         target-is = hp ∙ sym (add-target back p ∙ ap (λ s. target s + gives p) (reverse-reverse (ops r)) ∙ ap (λ k. k + gives p) (ops-target r z));
         wrote = λ n o few.
-            let s : settled (recordsOf r) n j (textBytesOf r) r o ≡ laid n done (textsOf back) o =
+            let s : relocated (recordsOf r) n j (textBytesOf r) r o ≡ laid n done (textsOf back) o =
             λ i. over kindsStart (kinds-at r z b j done a i) (over (countsStart n) (counts-at r z b j done a i) (over (textStart n) (text-at r z i) o)) in
             ap (over (textStart n + textBytesOf r) u) s
             ∙ ap (λ k. over (textStart n + k) u (laid n done (textsOf back) o)) (sym m)

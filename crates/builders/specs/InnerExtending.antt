@@ -13,7 +13,7 @@ use Rattle.edits.specs.Build.{add, extend}
 use Rattle.record.specs.Layout.{kindAt, countAt, recordsOf, textBytesOf, textStart}
 use Rattle.record.specs.Record.{ops}
 use Rattle.emitter.specs.declared.core.Emitter.{Emitter}
-use Rattle.emitter.specs.InnerEmit.{flushedRecords, Under, textsOf, laid, group, settled}
+use Rattle.emitter.specs.InnerEmit.{flushedRecords, Under, textsOf, laid, group, relocated}
 
 -- the count of the record before record k, where it is of this kind; else 0
 unfoldable pub lastCount : List ℕ → ℕ → ℕ → ℕ
@@ -39,4 +39,4 @@ pub record Grown (r : List ℕ) (p : Op Char) (u : List ℕ) (f : Emitter) : Typ
   pub base-is : f .base ≡ base (extend (ops r) p)
   pub target-is : f .target ≡ target (extend (ops r) p)
   pub wrote : (n : ℕ) (o : List ℕ) → f .records ≤ n
-      → over (textStart n + textBytesOf r) u (settled (recordsOf r) n (f .records) (textBytesOf r) r o) ≡ laid n done (textsOf done ++ bytes held) o
+      → over (textStart n + textBytesOf r) u (relocated (recordsOf r) n (f .records) (textBytesOf r) r o) ≡ laid n done (textsOf done ++ bytes held) o

@@ -24,10 +24,10 @@ ghost use Rattle.edits.specs.Op.{retain, delete, insert};
 ghost use Rattle.edits.specs.Build.{extend};
 ghost use Rattle.answers.specs.InnerGiven.{Gives};
 ghost use Rattle.answers.specs.Answer.{writtenOf};
-ghost use Rattle.record.specs.Layout.{recordsOf, textStart, maxOps, maxSize};
+ghost use Rattle.record.specs.Layout.{recordsOf, maxOps, maxSize, textStart};
 ghost use Rattle.record.specs.Record.{recordFault, ops};
 ghost use Rattle.operational_transform.specs.Calls.{deliver, retainCall, deleteCall, insertCall};
-ghost use Rattle.emitter.specs.InnerEmit.{one, Under, settled, flushed, headed};
+ghost use Rattle.emitter.specs.InnerEmit.{one, Under, relocated, flushed, headed};
 ghost use Rattle.builders.specs.InnerExtending.{lastCount, closedOf, Grown};
 
 // The limit of a count, for counts of 64 bits.
@@ -141,9 +141,9 @@ fn settle_with(
     more: &[u8],
 )
     requires { ⌜ (n ≤ 2 ^ 40) × (records ≤ 2 ^ 40) × (k ≤ records) × (bytes ≤ 2 ^ 40) × (textStart records + bytes ≤ length (now rec)) ⌝ }
-    ensures { λ _. ⌜ now (out .exit) ≡ over (textStart n + bytes) (now (more .entry)) (settled records n k bytes (now (rec .entry)) (now (out .entry))) ⌝ }
+    ensures { λ _. ⌜ now (out .exit) ≡ over (textStart n + bytes) (now (more .entry)) (relocated records n k bytes (now (rec .entry)) (now (out .entry))) ⌝ }
 {
-    emitter::core::settle(out, n, rec, records, k, bytes);
+    emitter::core::relocate(out, n, rec, records, k, bytes);
     let at = layout::core::text_start(n) + bytes;
     buffers::core::copy(out, at, more, 0, more.len());
 }
@@ -154,7 +154,7 @@ fn finish(out: &mut [u8], f: Emitter, g: Emitter)
     ensures { λ _. ⌜ now (out .exit) ≡ headed g (flushed (g .records) f (now (out .entry))) ⌝ }
 {
     emitter::core::flush(out, g.records, f.records, f.ins, f.del, f.ret);
-    emitter::core::header(out, g);
+    emitter::core::write_header(out, g);
 }
 
 // Of a record that was checked, and a count within the limits.
@@ -165,11 +165,11 @@ fn retained(rec: &[u8], k: usize, out: &mut [u8]) -> Written
     let records = reader::core::records(rec);
     let f = retain_more(rec, records, k);
     let g = closed(f);
-    match emitter::core::judge(g, out.len()) {
+    match emitter::core::limits_then_room(g, out.len()) {
         Written::Refused(y) => Written::Refused(y),
         Written::Bytes(b) => {
             let bytes = reader::core::text_bytes(rec);
-            emitter::core::settle(out, g.records, rec, records, f.records, bytes);
+            emitter::core::relocate(out, g.records, rec, records, f.records, bytes);
             finish(out, f, g);
             Written::Bytes(b)
         }
@@ -183,11 +183,11 @@ fn deleted(rec: &[u8], k: usize, out: &mut [u8]) -> Written
     let records = reader::core::records(rec);
     let f = delete_more(rec, records, k);
     let g = closed(f);
-    match emitter::core::judge(g, out.len()) {
+    match emitter::core::limits_then_room(g, out.len()) {
         Written::Refused(y) => Written::Refused(y),
         Written::Bytes(b) => {
             let bytes = reader::core::text_bytes(rec);
-            emitter::core::settle(out, g.records, rec, records, f.records, bytes);
+            emitter::core::relocate(out, g.records, rec, records, f.records, bytes);
             finish(out, f, g);
             Written::Bytes(b)
         }
@@ -202,7 +202,7 @@ fn inserted(rec: &[u8], text: &[u8], num: usize, out: &mut [u8]) -> Written
     let f = insert_more(rec, records, text, num);
     let g = closed(f);
     let room = out.len();
-    match emitter::core::judge(g, room) {
+    match emitter::core::limits_then_room(g, room) {
         Written::Refused(y) => Written::Refused(y),
         Written::Bytes(b) => {
             let bytes = reader::core::text_bytes(rec);

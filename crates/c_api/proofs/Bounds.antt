@@ -11,7 +11,7 @@ use Rattle.buffers.proofs.Tests.{both}
 use Rattle.characters.specs.Order.{order}
 use Rattle.edits.specs.Transform.{transform}
 use Rattle.edits.specs.Sequence.{Seq}
-use Rattle.answers.specs.Answer.{settle, gives, refused, needs, first, pairOf}
+use Rattle.answers.specs.Answer.{unlessRefused, success, refused, needs, orElse, pairOf}
 use Rattle.answers.specs.Output.{Outs, writingBoth}
 use Rattle.answers.specs.declared.WrittenPair.{WrittenPair}
 use Rattle.answers.proofs.Refusals.{first-zero, needs-out}
@@ -27,11 +27,11 @@ use Rattle.session.specs.Session.{movedIn, acceptFault, append, acceptCall}
 use Rattle.session.proofs.Moving.{rebase-length, rebase-good}
 use Rattle.packing.specs.Numbers.{small, most}
 
-settled : (f : ℕ) (g : ℕ → Outs) (x : Outs) → ((n : ℕ) → T (small (g n .answer))) → (f ≡ 0 → T (small (x .answer))) → T (small (settle f g x .answer))
+settled : (f : ℕ) (g : ℕ → Outs) (x : Outs) → ((n : ℕ) → T (small (g n .answer))) → (f ≡ 0 → T (small (x .answer))) → T (small (unlessRefused f g x .answer))
 settled zero g x p q = q refl
 settled (suc n) g x p q = p (suc n)
 
-two : (m n : ℕ) → m ≤ most → n ≤ most → T (small (gives (m ∷ n ∷ [])))
+two : (m n : ℕ) → m ≤ most → n ≤ most → T (small (success (m ∷ n ∷ [])))
 two m n p q = both (leb m most) (leb n most) .1 (le→leb m most p, le→leb n most q)
 
 -- ---- transform: two records
@@ -39,9 +39,9 @@ two m n p q = both (leb m most) (leb n most) .1 (le→leb m most p, le→leb n m
 writing-small : (fault : ℕ) (p q x y : List ℕ) → (fault ≡ 0 → (length p ≤ most) × (length q ≤ most)) → T (small (writingBoth fault p q x y .answer))
 unfolding writingBoth
 writing-small fault p q x y h =
-    settled (first fault (needs (leb (length p) (length x) && leb (length q) (length y)) 10 0))
+    settled (orElse fault (needs (leb (length p) (length x) && leb (length q) (length y)) 10 0))
     (λ n. record { answer = refused n; outA = x; outB = y })
-    (record { answer = gives (length p ∷ length q ∷ []); outA = atFront p x; outB = atFront q y }) (λ n. tt)
+    (record { answer = success (length p ∷ length q ∷ []); outA = atFront p x; outB = atFront q y }) (λ n. tt)
     (λ z. let b = h (first-zero fault _ z .0) in two (length p) (length q) (b .0) (b .1))
 
 pub transform-small : (a b x y : List ℕ) → T (small (transformCall a b x y .answer))
@@ -49,7 +49,7 @@ unfolding transformCall
 transform-small a b x y =
     let s = transform order (ops a) (ops b) in
     writing-small
-    (first (recordsFault a b) (needs (eqb (baseOf a) (baseOf b)) 8 (needs (fits (s .left) && fits (s .right)) 9 0)))
+    (orElse (recordsFault a b) (needs (eqb (baseOf a) (baseOf b)) 8 (needs (fits (s .left) && fits (s .right)) 9 0)))
     (encode (s .left)) (encode (s .right)) x y
     (λ z.
     let (e, z₁) = first-zero (recordsFault a b) _ z in
@@ -76,7 +76,7 @@ accept-small edit r log out =
     let vs = drop r (revisions log) in
     let m = rebase (ops edit) vs in
     settled (acceptFault edit r log out) (λ n. record { answer = refused n; outA = log; outB = out })
-    (record { answer = gives (length (encode (m .edit)) ∷ length (encodeAll (m .counterparts)) ∷ []); outA = append log (encode (m .edit)); outB = atFront (encodeAll (m .counterparts)) out })
+    (record { answer = success (length (encode (m .edit)) ∷ length (encodeAll (m .counterparts)) ∷ []); outA = append log (encode (m .edit)); outB = atFront (encodeAll (m .counterparts)) out })
     (λ n. tt)
     (λ z.
     let (a, z₁) = first-zero (recordFault edit) _ z in

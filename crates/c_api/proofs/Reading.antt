@@ -20,7 +20,7 @@ use Rattle.edits.specs.Compose.{compose}
 use Rattle.edits.specs.Invert.{invert}
 use Rattle.answers.specs.declared.Refusal.{Refusal}
 use Rattle.answers.specs.declared.Refusal.the-variants.{Size, Entry, Utf8, Neighbours, Sums, Log, Revision, IncompatibleLengths, Limit, Room}
-use Rattle.answers.specs.Answer.{number, Answer, gives, refused, settle, needs, first}
+use Rattle.answers.specs.Answer.{number, Answer, success, refused, unlessRefused, needs, orElse}
 use Rattle.answers.specs.Output.{Out, writing}
 use Rattle.answers.proofs.Refusals.{needs-out, first-zero}
 use Rattle.record.specs.Layout.{baseOf, targetOf, sizeOf}
@@ -31,7 +31,7 @@ use Rattle.operational_transform.specs.Calls.{transformCall, recordsFault, text
 use Rattle.log.specs.Log.{startOf, revisions}
 use Rattle.log.specs.Open.{openCall}
 use Rattle.session.specs.Session.{acceptCall, summaryFault, summaryCall, played, playFault, playCall}
-use Rattle.session.specs.Rows.{still, composeAll}
+use Rattle.session.specs.Rows.{retainAll, composeAll}
 use Rattle.packing.specs.Numbers.{packed, readTwo, most, small, readOne}
 use Rattle.c_api.proofs.Bounds.{transform-small, accept-small}
 
@@ -59,16 +59,16 @@ less n = omega arith
 
 pub two : (a : Answer) → T (small a) → readTwo (packed a) ≡ a
 unfolding readTwo
-two (gives []) h = absurd h
-two (gives (m ∷ [])) h = absurd h
-two (gives (m ∷ n ∷ [])) h =
+two (success []) h = absurd h
+two (success (m ∷ [])) h = absurd h
+two (success (m ∷ n ∷ [])) h =
     let (p, q) = both (leb m most) (leb n most) .0 h in
     let i = leb→le m most p in
     let j = leb→le n most q in
     let low : (m + 2 ^ 32 * n) % 2 ^ 32 ≡ m = omega arith in
     let high : (m + 2 ^ 32 * n) / 2 ^ 32 ≡ n = omega arith in
-    rw (lt-leb (2 ^ 63) (m + 2 ^ 32 * n) (omega arith)) (ap₂ (λ x y. gives (x ∷ y ∷ [])) low high)
-two (gives (m ∷ n ∷ k ∷ ns)) h = absurd h
+    rw (lt-leb (2 ^ 63) (m + 2 ^ 32 * n) (omega arith)) (ap₂ (λ x y. success (x ∷ y ∷ [])) low high)
+two (success (m ∷ n ∷ k ∷ ns)) h = absurd h
 two (refused n) h = rw (is-set n) (ap refused (less n))
 
 pub transform-read : (a b x y : List ℕ) → let r = transformCall a b x y .answer in readTwo (packed r) ≡ r
@@ -79,7 +79,7 @@ accept-read edit r log out = two (acceptCall edit r log out .answer) (accept-sma
 
 -- ---- one result: a fact, or the size of what was written
 
-one : (n : ℕ) → n < 2 ^ 63 → readOne n ≡ gives (n ∷ [])
+one : (n : ℕ) → n < 2 ^ 63 → readOne n ≡ success (n ∷ [])
 unfolding readOne
 one n h = rw (lt-leb (2 ^ 63) n h)
 
@@ -87,7 +87,7 @@ none : (n : ℕ) → readOne (2 ^ 63 + n) ≡ refused n
 unfolding readOne
 none n = rw (is-set n) (ap refused (less n))
 
-told : (f n : ℕ) → (f ≡ 0 → n < 2 ^ 63) → let a = settle f refused (gives (n ∷ [])) in readOne (packed a) ≡ a
+told : (f n : ℕ) → (f ≡ 0 → n < 2 ^ 63) → let a = unlessRefused f refused (success (n ∷ [])) in readOne (packed a) ≡ a
 told zero n h = one n (h refl)
 told (suc f) n h = none (suc f)
 
@@ -120,10 +120,10 @@ module _ (r : List ℕ) where
 
 written : (f : ℕ) (w o : List ℕ) → length o < 2 ^ 63 → let a = writing f w o .answer in readOne (packed a) ≡ a
 unfolding writing
-written f w o h = go (first f (needs (leb (length w) (length o)) 10 0)) (λ z. leb→le (length w) (length o) (needs-out (leb (length w) (length o)) 9 0 (first-zero f _ z .1) .0))
+written f w o h = go (orElse f (needs (leb (length w) (length o)) 10 0)) (λ z. leb→le (length w) (length o) (needs-out (leb (length w) (length o)) 9 0 (first-zero f _ z .1) .0))
   where
     result : ℕ → Out
-    result k = settle k (λ n. record { answer = refused n; out = o }) (record { answer = gives (length w ∷ []); out = atFront w o })
+    result k = unlessRefused k (λ n. record { answer = refused n; out = o }) (record { answer = success (length w ∷ []); out = atFront w o })
 
     go : (k : ℕ) → (k ≡ 0 → length w ≤ length o) → readOne (packed (result k .answer)) ≡ result k .answer
     go zero p = one (length w) (omega (arith, p refl))
@@ -132,7 +132,7 @@ written f w o h = go (first f (needs (leb (length w) (length o)) 10 0)) (λ z. l
 module _ (o : List ℕ) (h : length o < 2 ^ 63) where
   delivered : (f : ℕ) (s : Seq) → let a = deliver f s o .answer in readOne (packed a) ≡ a
   unfolding deliver
-  delivered f s = written (first f (needs (fits s) 9 0)) (encode s) o h
+  delivered f s = written (orElse f (needs (fits s) 9 0)) (encode s) o h
 
   module _ (r : List ℕ) where
     pub retain-read : (n : ℕ) → let a = retainCall r n o .answer in readOne (packed a) ≡ a
@@ -149,7 +149,7 @@ module _ (o : List ℕ) (h : length o < 2 ^ 63) where
 
     pub apply-read : (t : List ℕ) → let a = applyCall r t o .answer in readOne (packed a) ≡ a
     unfolding applyCall
-    apply-read t = written (first (textFault r t) (needs (eqb (numChars t) (baseOf r)) 8 0)) (bytes (apply (ops r) (chars t))) o h
+    apply-read t = written (orElse (textFault r t) (needs (eqb (numChars t) (baseOf r)) 8 0)) (bytes (apply (ops r) (chars t))) o h
 
     pub invert-read : (t : List ℕ) → let a = invertCall r t o .answer in readOne (packed a) ≡ a
     unfolding invertCall
@@ -157,7 +157,7 @@ module _ (o : List ℕ) (h : length o < 2 ^ 63) where
 
     pub compose-read : (s : List ℕ) → let a = composeCall r s o .answer in readOne (packed a) ≡ a
     unfolding composeCall
-    compose-read s = delivered (first (recordsFault r s) (needs (eqb (targetOf r) (baseOf s)) 8 0)) (compose (ops r) (ops s))
+    compose-read s = delivered (orElse (recordsFault r s) (needs (eqb (targetOf r) (baseOf s)) 8 0)) (compose (ops r) (ops s))
 
   pub open-read : (n : ℕ) → let a = openCall n o .answer in readOne (packed a) ≡ a
   unfolding openCall
@@ -165,7 +165,7 @@ module _ (o : List ℕ) (h : length o < 2 ^ 63) where
 
   pub summary-read : (log : List ℕ) → let a = summaryCall log o .answer in readOne (packed a) ≡ a
   unfolding summaryCall
-  summary-read log = written (summaryFault log) (encode (composeAll (still (startOf log)) (revisions log))) o h
+  summary-read log = written (summaryFault log) (encode (composeAll (retainAll (startOf log)) (revisions log))) o h
 
   pub play-read : (log t : List ℕ) (x y : ℕ) → let a = playCall log t x y o .answer in readOne (packed a) ≡ a
   unfolding playCall

@@ -10,7 +10,7 @@ use borrow.Author.Tests.{eqb-true, not-true, eq-eqb, lt-ltb, le-ltb, ne-eqb, leb
 use Rattle.buffers.proofs.Tests.{beq-true, known, or-split}
 use Rattle.characters.specs.Form.{within, leadOf, rows, leadIn}
 use Rattle.characters.specs.Chars.{isCont}
-use Rattle.characters.specs.InnerBlock.{bitOf, Tells, maskOf, dueOf, neverOf, outsideOf, offOf}
+use Rattle.characters.specs.InnerBlock.{bitOf, Tells, maskOf, dueOf, invalidByteOf, outsideOf, misplacedOf}
 use Rattle.characters.specs.declared.Lead.the-variants.{Of, Bad}
 use Rattle.characters.specs.declared.Lead.{Lead}
 use Rattle.characters.proofs.Leads.{le-or-lt, within-bounds}
@@ -83,8 +83,8 @@ pub told-due : (p3 p2 p1 : ℕ) {x y z : ℕ} → x ≡ p1 - 0xBF → y ≡ p2 -
 unfolding dueOf
 told-due p3 p2 p1 {x} {y} {z} e f g = tells-or (tells-or (tells-over x p1 0xBF e) (tells-over y p2 0xDF f)) (tells-over z p3 0xEF g)
 
-pub told-never : (b : ℕ) {x y : ℕ} → x ≡ maskOf (eqb (bitAnd b 0xFE) 0xC0) → y ≡ b - 0xF4 → b < 256 → Tells (bitOr x y) (neverOf b)
-unfolding neverOf
+pub told-never : (b : ℕ) {x y : ℕ} → x ≡ maskOf (eqb (bitAnd b 0xFE) 0xC0) → y ≡ b - 0xF4 → b < 256 → Tells (bitOr x y) (invalidByteOf b)
+unfolding invalidByteOf
 told-never b {x} {y} e f h = tells-or (tells-mask x (within 0xC0 0xC1 b) (e ∙ ap maskOf (pair b h))) (tells-over y b 0xF4 f)
 
 module _ (p b : ℕ) where
@@ -103,8 +103,8 @@ module _ (p b : ℕ) where
       (tells-and z m (eqb p 0xF0) lowest k d))
       (tells-and w (255 - m) (eqb p 0xF4) (not lowest) n (mask-not m lowest d))
 
-  pub told-off : (p3 p2 : ℕ) {m n o d : ℕ} {u : Bool} → u ≡ isCont b → Tells d (dueOf p3 p2 p) → m ≡ maskOf (Bool·beq u (eqb d 0)) → Tells n (neverOf b) → Tells o (outsideOf p b) → Tells (bitOr (bitOr m n) o) (offOf p3 p2 p b)
-  unfolding offOf
+  pub told-off : (p3 p2 : ℕ) {m n o d : ℕ} {u : Bool} → u ≡ isCont b → Tells d (dueOf p3 p2 p) → m ≡ maskOf (Bool·beq u (eqb d 0)) → Tells n (invalidByteOf b) → Tells o (outsideOf p b) → Tells (bitOr (bitOr m n) o) (misplacedOf p3 p2 p b)
+  unfolding misplacedOf
   told-off p3 p2 {m} e f g h i = tells-or (tells-or (tells-mask m (not (Bool·beq (isCont b) (dueOf p3 p2 p))) (g ∙ ap₂ (λ x y. maskOf (Bool·beq x y)) e (f .zero) ∙ ap maskOf (unlike (isCont b) (dueOf p3 p2 p)))) h) i
     where
       unlike : (x y : Bool) → Bool·beq x (not y) ≡ not (Bool·beq x y)
@@ -127,14 +127,14 @@ opens p b Bad = false
 opens p b (Of n lo hi) = eqb n (suc (bitOf (leb 0xE0 p) + bitOf (leb 0xF0 p))) && within lo hi b
 
 fits : ℕ → ℕ → Bool
-fits p b = neverOf p || outsideOf p b || opens p b (leadOf p)
+fits p b = invalidByteOf p || outsideOf p b || opens p b (leadOf p)
 
 all-fit : each (λ p. each (fits p) 0x80 64) 0xC0 53 ≡ true
-unfolding leadOf leadIn rows within neverOf outsideOf opens fits
+unfolding leadOf leadIn rows within invalidByteOf outsideOf opens fits
 all-fit = refl
 
-pub opened : (p b : ℕ) → isCont b ≡ true → outsideOf p b ≡ false → neverOf p ≡ false → 0xC0 ≤ p → Opened p b
-unfolding isCont opens fits neverOf
+pub opened : (p b : ℕ) → isCont b ≡ true → outsideOf p b ≡ false → invalidByteOf p ≡ false → 0xC0 ≤ p → Opened p b
+unfolding isCont opens fits invalidByteOf
 opened p b c o e h =
     let (lo, hi) = within-bounds 0x80 0xBF b (known c) in
     let most = leb-false 0xF5 p (or-split (within 0xC0 0xC1 p) (leb 0xF5 p) e .1) in

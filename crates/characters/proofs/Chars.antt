@@ -11,7 +11,7 @@ use lib.Dec.{T}
 use Rattle.buffers.specs.Lists.{allOf, concat}
 use Rattle.characters.specs.Chars.{isCont, loose, charsOf, numChars}
 use Rattle.characters.specs.declared.Lead.the-variants.{Bad, Of}
-use Rattle.characters.specs.Form.{rest, wellFormed, within, leadOf, whole, wellChar}
+use Rattle.characters.specs.Form.{wellFormedFrom, wellFormed, within, leadOf, whole, wellChar}
 use Rattle.characters.specs.declared.Lead.{Lead}
 use Rattle.characters.proofs.Leads.{sane, sane-lead, in-range, cont-bad}
 
@@ -128,35 +128,35 @@ concat-append (a ∷ xs) bs = rw (concat-append xs bs, append-assoc)
 
 -- ---- well-formed text
 
-pub rest-bad : (bs : List ℕ) → rest bs Bad ≡ false
+pub rest-bad : (bs : List ℕ) → wellFormedFrom bs Bad ≡ false
 rest-bad [] = refl
 rest-bad (b ∷ bs) = refl
 
-pub any-range : (bs : List ℕ) (lo hi : ℕ) → rest bs (Of 0 lo hi) ≡ wellFormed bs
+pub any-range : (bs : List ℕ) (lo hi : ℕ) → wellFormedFrom bs (Of 0 lo hi) ≡ wellFormed bs
 any-range [] lo hi = refl
 any-range (b ∷ bs) lo hi = refl
 
-rest-append : (xs bs : List ℕ) (x : Lead) → rest xs x ≡ true → rest (xs ++ bs) x ≡ wellFormed bs
+rest-append : (xs bs : List ℕ) (x : Lead) → wellFormedFrom xs x ≡ true → wellFormedFrom (xs ++ bs) x ≡ wellFormed bs
 rest-append [] bs Bad e = absurd (false≢true e)
 rest-append [] bs (Of zero lo hi) e = any-range bs lo hi
 rest-append [] bs (Of (suc n) lo hi) e = absurd (false≢true e)
 rest-append (a ∷ xs) bs Bad e = absurd (false≢true e)
 rest-append (a ∷ xs) bs (Of zero lo hi) e = rest-append xs bs (leadOf a) e
 rest-append (a ∷ xs) bs (Of (suc n) lo hi) e =
-    let h = split (within lo hi a) (rest xs (Of n 0x80 0xBF)) e in rw (h .0) (rest-append xs bs (Of n 0x80 0xBF) (h .1))
+    let h = split (within lo hi a) (wellFormedFrom xs (Of n 0x80 0xBF)) e in rw (h .0) (rest-append xs bs (Of n 0x80 0xBF) (h .1))
 
 -- behind a well-formed text, all is as well-formed as what follows
 pub well-append : (xs bs : List ℕ) → wellFormed xs ≡ true → wellFormed (xs ++ bs) ≡ wellFormed bs
 well-append xs bs e = rest-append xs bs (Of 0 0x80 0xBF) e
 
-rest-chars : (bs : List ℕ) (x : Lead) → T (sane x) → rest bs x ≡ (whole (loose bs) x && allOf wellChar (charsOf bs))
+rest-chars : (bs : List ℕ) (x : Lead) → T (sane x) → wellFormedFrom bs x ≡ (whole (loose bs) x && allOf wellChar (charsOf bs))
 rest-chars [] Bad s = refl
 rest-chars [] (Of zero lo hi) s = refl
 rest-chars [] (Of (suc n) lo hi) s = refl
 rest-chars (b ∷ bs) x s = go (isCont b) refl x s (rest-chars bs)
   where
-    go : (t : Bool) → isCont b ≡ t → (x : Lead) → T (sane x) → ((y : Lead) → T (sane y) → rest bs y ≡ (whole (loose bs) y && allOf wellChar (charsOf bs)))
-        → rest (b ∷ bs) x ≡ (whole (cond t (b ∷ loose bs) []) x && allOf wellChar (cond t (charsOf bs) ((b ∷ loose bs) ∷ charsOf bs)))
+    go : (t : Bool) → isCont b ≡ t → (x : Lead) → T (sane x) → ((y : Lead) → T (sane y) → wellFormedFrom bs y ≡ (whole (loose bs) y && allOf wellChar (charsOf bs)))
+        → wellFormedFrom (b ∷ bs) x ≡ (whole (cond t (b ∷ loose bs) []) x && allOf wellChar (cond t (charsOf bs) ((b ∷ loose bs) ∷ charsOf bs)))
     go true e Bad s ih = refl
     go true e (Of zero lo hi) s ih = rw (cont-bad b e) (rest-bad bs)
     go true e (Of (suc n) lo hi) s ih = rw (ih (Of n 0x80 0xBF) tt, and-assoc)
@@ -175,14 +175,14 @@ well-all bs e = let h = split (whole (loose bs) (Of 0 0x80 0xBF)) (allOf wellCha
     none [] h = refl
     none (x ∷ l) h = absurd (false≢true h)
 
-whole-rest : (bs : List ℕ) (x : Lead) → whole bs x ≡ true → rest bs x ≡ true
+whole-rest : (bs : List ℕ) (x : Lead) → whole bs x ≡ true → wellFormedFrom bs x ≡ true
 whole-rest [] Bad e = e
 whole-rest [] (Of zero lo hi) e = e
 whole-rest [] (Of (suc n) lo hi) e = e
 whole-rest (b ∷ bs) Bad e = e
 whole-rest (b ∷ bs) (Of zero lo hi) e = absurd (false≢true e)
 whole-rest (b ∷ bs) (Of (suc n) lo hi) e =
-    let h = split (within lo hi b) (whole bs (Of n 0x80 0xBF)) e in both (within lo hi b) (rest bs (Of n 0x80 0xBF)) (h .0) (whole-rest bs (Of n 0x80 0xBF) (h .1))
+    let h = split (within lo hi b) (whole bs (Of n 0x80 0xBF)) e in both (within lo hi b) (wellFormedFrom bs (Of n 0x80 0xBF)) (h .0) (whole-rest bs (Of n 0x80 0xBF) (h .1))
 
 -- RFC 3629's UTF8-octets = *( UTF8-char )
 pub well-concat : (cs : List (List ℕ)) → allOf wellChar cs ≡ true → wellFormed (concat cs) ≡ true

@@ -13,7 +13,7 @@ use lib.Pow as Pow
 use Rattle.characters.specs.InnerAscii.{wordOf}
 use Rattle.characters.specs.Form.{within}
 use Rattle.characters.specs.Chars.{isCont, numChars}
-use Rattle.characters.specs.InnerMarks.{marksOf, told}
+use Rattle.characters.specs.InnerMarks.{marksOf, countMod255}
 use Rattle.characters.proofs.Runs.{Bytes, bytes-take}
 use Rattle.characters.proofs.Bytes.{each-at}
 use Rattle.characters.proofs.Chars.{num-append, num-le}
@@ -89,33 +89,33 @@ word-num : (t : List ℕ) (at : ℕ) → numChars (drop at t) ≡ numChars (take
 word-num t at = ap numChars (sym (take-append-drop 8 (drop at t))) ∙ num-append (take 8 (drop at t)) (drop 8 (drop at t)) ∙ ap (λ l. numChars (take 8 (drop at t)) + numChars l) (drop-drop 8 at t)
 
 module _ (t : List ℕ) where
-  pub told-word : (at sum m : ℕ) → m ≡ marksOf (take 8 (drop at t)) → told t (at + 8) (sum + m) ≡ told t at sum
-  unfolding told
+  pub told-word : (at sum m : ℕ) → m ≡ marksOf (take 8 (drop at t)) → countMod255 t (at + 8) (sum + m) ≡ countMod255 t at sum
+  unfolding countMod255
   told-word at sum m e =
       let q = over-255 (take 8 (drop at t)) in
       let x : sum + m + numChars (drop (at + 8) t) ≡ 255 * q + (sum + numChars (drop at t)) = omega (arith, sum-255 (take 8 (drop at t)), word-num t at) in
       ap (λ z. z % 255) x ∙ omega arith
 
-  pub told-two : (at sum m n : ℕ) → m ≡ marksOf (take 8 (drop at t)) → n ≡ marksOf (take 8 (drop (at + 8) t)) → told t (at + 16) (sum + m + n) ≡ told t at sum
+  pub told-two : (at sum m n : ℕ) → m ≡ marksOf (take 8 (drop at t)) → n ≡ marksOf (take 8 (drop (at + 8) t)) → countMod255 t (at + 16) (sum + m + n) ≡ countMod255 t at sum
   told-two at sum m n p q =
       let e : at + 8 + 8 ≡ at + 16 = omega arith in
-      ap (λ i. told t i (sum + m + n)) (sym e) ∙ told-word (at + 8) (sum + m) n q ∙ told-word at sum m p
+      ap (λ i. countMod255 t i (sum + m + n)) (sym e) ∙ told-word (at + 8) (sum + m) n q ∙ told-word at sum m p
 
   pub told-four : (at m n o p : ℕ) → m ≡ marksOf (take 8 (drop at t)) → n ≡ marksOf (take 8 (drop (at + 8) t)) → o ≡ marksOf (take 8 (drop (at + 16) t)) → p ≡ marksOf (take 8 (drop (at + 24) t))
-      → told t (at + 32) (m + n + o + p) ≡ told t at 0
+      → countMod255 t (at + 32) (m + n + o + p) ≡ countMod255 t at 0
   told-four at m n o p e f g h =
       let x : at + 16 + 8 ≡ at + 24 = omega arith in
       let y : at + 16 + 16 ≡ at + 32 = omega arith in
       let z : 0 + m + n ≡ m + n = omega arith in
-      (λ i. told t (sym y i) (sym z i + o + p)) ∙ told-two (at + 16) (0 + m + n) o p g (h ∙ ap (λ i. marksOf (take 8 (drop i t))) (sym x)) ∙ told-two at 0 m n e f
+      (λ i. countMod255 t (sym y i) (sym z i + o + p)) ∙ told-two (at + 16) (0 + m + n) o p g (h ∙ ap (λ i. marksOf (take 8 (drop i t))) (sym x)) ∙ told-two at 0 m n e f
 
   -- the end: nothing is left, or what the last marks tell of
-  pub told-end : (at sum : ℕ) → length t - at ≡ 0 → sum % 255 ≡ told t at sum
-  unfolding told
+  pub told-end : (at sum : ℕ) → length t - at ≡ 0 → sum % 255 ≡ countMod255 t at sum
+  unfolding countMod255
   told-end at sum h = let l : length t ≤ at = omega arith in let e = ap numChars (drop-of-length-le t l) in ap (λ n. n % 255) (omega arith)
 
-  pub told-last : (at sum n m : ℕ) → at ≤ length t → n ≡ length t - at → m ≡ marksOf (drop (length t - n) t) → (sum + m) % 255 ≡ told t at sum
-  unfolding told
+  pub told-last : (at sum n m : ℕ) → at ≤ length t → n ≡ length t - at → m ≡ marksOf (drop (length t - n) t) → (sum + m) % 255 ≡ countMod255 t at sum
+  unfolding countMod255
   told-last at sum n m h e p =
       let l = drop at t in
       let x : length t - n ≡ at = omega arith in
@@ -123,8 +123,8 @@ module _ (t : List ℕ) where
       ap (λ z. z % 255) y ∙ omega arith
 
   -- all of them
-  pub told-all : (from r : ℕ) → length t - from < 64 → r % 255 ≡ told t from 0 → (r % 255 ≡ numChars (drop from t)) × (r % 255 ≤ length t - from)
-  unfolding told
+  pub told-all : (from r : ℕ) → length t - from < 64 → r % 255 ≡ countMod255 t from 0 → (r % 255 ≡ numChars (drop from t)) × (r % 255 ≤ length t - from)
+  unfolding countMod255
   told-all from r h e =
       let l = length-drop from t in
       let n = num-le (drop from t) in

@@ -10,7 +10,7 @@ use borrow.Author.Tests.{not-true, not-false}
 use Rattle.buffers.specs.Lists.{concat}
 use Rattle.buffers.proofs.Tests.{known, holds}
 use Rattle.characters.specs.declared.Form.the-variants.{Chars, IllFormed}
-use Rattle.characters.specs.Form.{wellFormed, leadOf, rest, whole}
+use Rattle.characters.specs.Form.{wellFormed, leadOf, wellFormedFrom, whole}
 use Rattle.characters.specs.Chars.{numChars, takeChars, charsOf}
 use Rattle.characters.specs.InnerPassed.{formOf, Passed, spans}
 use Rattle.characters.specs.declared.Form.{Form}
@@ -81,7 +81,7 @@ well-ascii t i r e = form-well t (Chars i) (all-ascii t i r e) refl
 
 module _ (t : List ℕ) (i conts : ℕ) (x : Lead) (s : Passed t i conts) (h : i < length t) (e : x ≡ leadOf (getD t i 0)) where
   pub lead-bad : x ≡ Bad → IllFormed ≡ formOf t
-  lead-bad f = is-ill t (sym (s .well) ∙ rest-lead t i h 0 0x80 0xBF refl ∙ ap (rest (drop (i + 1) t)) (sym e ∙ f) ∙ rest-bad (drop (i + 1) t))
+  lead-bad f = is-ill t (sym (s .well) ∙ rest-lead t i h 0 0x80 0xBF refl ∙ ap (wellFormedFrom (drop (i + 1) t)) (sym e ∙ f) ∙ rest-bad (drop (i + 1) t))
 
   module _ {more lo hi : ℕ} (f : x ≡ Of more lo hi) where
     pub lead-few : more ≤ 3
@@ -138,5 +138,5 @@ pub skip-char : (t : List ℕ) (i k n : ℕ) → i < length t → T (wellFormed 
 skip-char t i k n h w v l = go (leadOf (getD t i 0)) refl v
   where
     go : (x : Lead) → leadOf (getD t i 0) ≡ x → T (spans x n) → Skips t i k (i + n)
-    go Bad f v = absurd (false≢true (sym (rest-lead t i h 0 0x80 0xBF refl ∙ ap (rest (drop (i + 1) t)) f ∙ rest-bad (drop (i + 1) t)) ∙ holds (wellFormed (drop i t)) w))
+    go Bad f v = absurd (false≢true (sym (rest-lead t i h 0 0x80 0xBF refl ∙ ap (wellFormedFrom (drop (i + 1) t)) f ∙ rest-bad (drop (i + 1) t)) ∙ holds (wellFormed (drop i t)) w))
     go (Of more lo hi) f v = rw (eqb→eq n (suc more) v) (skip-first t i k h w f l)

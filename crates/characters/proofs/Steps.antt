@@ -9,13 +9,13 @@ use borrow.Author.Tests.{not-true, not-false}
 use mathlib.Core.Logic.{⊎-elim}
 use lib.Seq.{drop-drop}
 use Rattle.characters.specs.declared.Lead.the-variants.{Of}
-use Rattle.characters.specs.Form.{within, rest, wellFormed, whole, leadOf}
+use Rattle.characters.specs.Form.{within, wellFormedFrom, wellFormed, whole, leadOf}
 use Rattle.characters.specs.Chars.{isCont, numChars, loose, charsOf}
 use Rattle.characters.proofs.Chars.{any-range, length-chars, conts-loose, conts-chars, whole-conts}
 use Rattle.characters.proofs.Walk.{next, rest-lead}
 use Rattle.characters.proofs.Leads.{le-or-lt, sane-lead, cont-bad}
 
-rest-whole : (l : List ℕ) (n lo hi : ℕ) → rest l (Of n lo hi) ≡ (whole (take n l) (Of n lo hi) && wellFormed (drop n l))
+rest-whole : (l : List ℕ) (n lo hi : ℕ) → wellFormedFrom l (Of n lo hi) ≡ (whole (take n l) (Of n lo hi) && wellFormed (drop n l))
 rest-whole l zero lo hi = any-range l lo hi
 rest-whole [] (suc n) lo hi = refl
 rest-whole (b ∷ l) (suc n) lo hi = ap (λ z. within lo hi b && z) (rest-whole l n 0x80 0xBF) ∙ sym (and-assoc (within lo hi b) (whole (take n l) (Of n 0x80 0xBF)) (wellFormed (drop n l)))
@@ -75,7 +75,7 @@ module _ (t : List ℕ) (i : ℕ) (h : i < length t) {more lo hi : ℕ} (f : lea
   pub first-due : wellFormed (drop i t) ≡ (whole (take more (drop (i + 1) t)) (Of more lo hi) && wellFormed (drop (i + 1 + more) t))
   first-due =
       rest-lead t i h 0 0x80 0xBF refl
-      ∙ ap (rest (drop (i + 1) t)) f
+      ∙ ap (wellFormedFrom (drop (i + 1) t)) f
       ∙ rest-whole (drop (i + 1) t) more lo hi
       ∙ ap (λ l. whole (take more (drop (i + 1) t)) (Of more lo hi) && wellFormed l) (drop-drop more (i + 1) t)
 

@@ -7,7 +7,7 @@ use lib.ListN.{length, getD, drop, drop-of-length-le}
 use lib.Seq.{drop-cons, take-nil}
 use mathlib.Core.Bool.{true, false}
 use Rattle.characters.specs.declared.Lead.the-variants.{Of}
-use Rattle.characters.specs.Form.{leadOf, rest}
+use Rattle.characters.specs.Form.{leadOf, wellFormedFrom}
 use Rattle.characters.specs.Chars.{isCont, numChars, takeChars}
 
 pub next : (s : List ℕ) (i : ℕ) → i < length s → drop i s ≡ getD s i 0 ∷ drop (i + 1) s
@@ -20,7 +20,7 @@ module _ (s : List ℕ) (i : ℕ) (h : i < length s) where
   pub num-start : isCont (getD s i 0) ≡ false → numChars (drop i s) ≡ suc (numChars (drop (i + 1) s))
   num-start e = rw (next s i h, e)
 
-  pub rest-lead : (n lo hi : ℕ) → n ≡ 0 → rest (drop i s) (Of n lo hi) ≡ rest (drop (i + 1) s) (leadOf (getD s i 0))
+  pub rest-lead : (n lo hi : ℕ) → n ≡ 0 → wellFormedFrom (drop i s) (Of n lo hi) ≡ wellFormedFrom (drop (i + 1) s) (leadOf (getD s i 0))
   rest-lead n lo hi z = rw (z, next s i h)
 
 pub take-end : (s : List ℕ) (i k : ℕ) → length s ≤ i → length (takeChars k (drop i s)) ≡ 0

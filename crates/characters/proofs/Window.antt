@@ -10,10 +10,10 @@ use mathlib.Core.List.{List, _∷_}
 use lib.ListN.{getD, length, drop, drop-of-length-le}
 use lib.Bits.{bitOr}
 use Rattle.buffers.proofs.Tests.{beq-true, or-split, known}
-use Rattle.characters.specs.InnerBlock.{OnlyIf, bitOf, neverOf, outsideOf, dueOf, asking, offOf, heldOf, asked, before, Window, Tells, StandWell, Goes}
+use Rattle.characters.specs.InnerBlock.{OnlyIf, bitOf, invalidByteOf, outsideOf, dueOf, asking, misplacedOf, pendingOf, asked, before, Window, Tells, StandWell, Goes}
 use Rattle.characters.specs.Chars.{isCont, numChars}
 use Rattle.characters.specs.declared.Lead.the-variants.{Of}
-use Rattle.characters.specs.Form.{leadOf, rows, rest, wellFormed}
+use Rattle.characters.specs.Form.{leadOf, rows, wellFormedFrom, wellFormed}
 use Rattle.characters.specs.InnerPassed.{Passed}
 use Rattle.characters.specs.InnerAscii.{Runs}
 use Rattle.characters.proofs.Leads.{le-or-lt, within-bounds, under, inside, lead-row}
@@ -54,7 +54,7 @@ module _ (m p : ℕ) where
 -- b may stand behind p3 p2 p1
 record Fine (p3 p2 p1 b : ℕ) : Type 0 where
   due : bitOf (isCont b) ≡ bitOf (leb 0xC0 p1) + bitOf (leb 0xE0 p2) + bitOf (leb 0xF0 p3)
-  begins : neverOf b ≡ false
+  begins : invalidByteOf b ≡ false
   fits : outsideOf p1 b ≡ false
 
 -- where one at most asks, it is told by whether any does
@@ -63,12 +63,12 @@ any-of true y z h = omega arith
 any-of false true z h = omega arith
 any-of false false z h = omega arith
 
-fine : (p3 p2 p1 b : ℕ) → asking p3 p2 p1 ≤ 1 → offOf p3 p2 p1 b ≡ false → Fine p3 p2 p1 b
-unfolding offOf dueOf asking
+fine : (p3 p2 p1 b : ℕ) → asking p3 p2 p1 ≤ 1 → misplacedOf p3 p2 p1 b ≡ false → Fine p3 p2 p1 b
+unfolding misplacedOf dueOf asking
 fine p3 p2 p1 b h e =
     let x = Bool·beq (isCont b) (dueOf p3 p2 p1) in
-    let (f, o) = or-split (not x || neverOf b) (outsideOf p1 b) e in
-    let (d, n) = or-split (not x) (neverOf b) f in
+    let (f, o) = or-split (not x || invalidByteOf b) (outsideOf p1 b) e in
+    let (d, n) = or-split (not x) (invalidByteOf b) f in
     record {
       due = ap bitOf (beq-true (isCont b) (dueOf p3 p2 p1) (not-false x d)) ∙ any-of (leb 0xC0 p1) (leb 0xE0 p2) (leb 0xF0 p3) h;
       begins = n;
@@ -79,8 +79,8 @@ cont-bounds : (b : ℕ) → isCont b ≡ true → (0x80 ≤ b) × (b ≤ 0xBF)
 unfolding isCont
 cont-bounds b c = within-bounds 0x80 0xBF b (known c)
 
-never-low : (b : ℕ) → b < 0xC0 → neverOf b ≡ false
-unfolding neverOf
+never-low : (b : ℕ) → b < 0xC0 → invalidByteOf b ≡ false
+unfolding invalidByteOf
 never-low b h = rw (under 0xC0 0xC1 b h) (lt-leb 0xF5 b (omega arith))
 
 -- ---- what three bytes ask for
@@ -94,14 +94,14 @@ module _ (p3 p2 p1 : ℕ) where
   unfolding asked
   asked-some h n e = rw (lt-leb 0xC0 p1 h, e)
 
-  asked-none : heldOf p3 p2 p1 ≡ 0 → asked p3 p2 p1 ≡ Of 0 0x80 0xBF
-  unfolding heldOf
+  asked-none : pendingOf p3 p2 p1 ≡ 0 → asked p3 p2 p1 ≡ Of 0 0x80 0xBF
+  unfolding pendingOf
   asked-none e = asked-some (bit-under 0xC0 p1 (omega arith)) 0 (omega (arith, bit-mono 0xF0 p2 0xE0 (omega arith)))
 
 -- ---- one byte more
 
 module _ (p3 p2 p1 b : ℕ) (f : Fine p3 p2 p1 b) where
-  on-cont : neverOf p1 ≡ false → isCont b ≡ true → (l : List ℕ) → rest (b ∷ l) (asked p3 p2 p1) ≡ rest l (asked p2 p1 b)
+  on-cont : invalidByteOf p1 ≡ false → isCont b ≡ true → (l : List ℕ) → wellFormedFrom (b ∷ l) (asked p3 p2 p1) ≡ wellFormedFrom l (asked p2 p1 b)
   unfolding isCont
   on-cont g c l =
       let d = f .due in
@@ -112,25 +112,25 @@ module _ (p3 p2 p1 b : ℕ) (f : Fine p3 p2 p1 b) where
       (λ h.
       let o = opened p1 b c (f .fits) g h in
       let n = bitOf (leb 0xE0 p1) + bitOf (leb 0xF0 p1) in
-      ap (rest (b ∷ l)) (asked-lead p3 p2 p1 h ∙ o .lead)
-      ∙ ap (λ v. v && rest l (Of n 0x80 0xBF)) (o .fits)
-      ∙ ap (rest l) (sym (asked-some p2 p1 b (omega arith) n (omega (arith, bit-yes 0xC0 p1 h)))))
+      ap (wellFormedFrom (b ∷ l)) (asked-lead p3 p2 p1 h ∙ o .lead)
+      ∙ ap (λ v. v && wellFormedFrom l (Of n 0x80 0xBF)) (o .fits)
+      ∙ ap (wellFormedFrom l) (sym (asked-some p2 p1 b (omega arith) n (omega (arith, bit-yes 0xC0 p1 h)))))
       (λ h.
       let n = bitOf (leb 0xF0 p2) in
-      ap (rest (b ∷ l)) (asked-some p3 p2 p1 h (suc n) (omega (arith, bit-no 0xC0 p1 h)))
-      ∙ ap (λ v. v && rest l (Of n 0x80 0xBF)) c
-      ∙ ap (rest l) (sym (asked-some p2 p1 b (omega arith) n (omega (arith, bit-no 0xE0 p1 (omega arith), bit-no 0xF0 p1 (omega arith))))))
+      ap (wellFormedFrom (b ∷ l)) (asked-some p3 p2 p1 h (suc n) (omega (arith, bit-no 0xC0 p1 h)))
+      ∙ ap (λ v. v && wellFormedFrom l (Of n 0x80 0xBF)) c
+      ∙ ap (wellFormedFrom l) (sym (asked-some p2 p1 b (omega arith) n (omega (arith, bit-no 0xE0 p1 (omega arith), bit-no 0xF0 p1 (omega arith))))))
       (le-or-lt 0xC0 p1)
 
-  on-start : isCont b ≡ false → (l : List ℕ) → rest (b ∷ l) (asked p3 p2 p1) ≡ rest l (asked p2 p1 b)
+  on-start : isCont b ≡ false → (l : List ℕ) → wellFormedFrom (b ∷ l) (asked p3 p2 p1) ≡ wellFormedFrom l (asked p2 p1 b)
   unfolding isCont rows
   on-start c l =
       let d = f .due in
       let e : bitOf (isCont b) ≡ 0 = ap bitOf c in
       let m = bit-mono 0xF0 p2 0xE0 (omega arith) in
       let h = bit-under 0xC0 p1 (omega arith) in
-      ap (rest (b ∷ l)) (asked-some p3 p2 p1 h 0 (omega arith))
-      ∙ ap (rest l) (⊎-elim
+      ap (wellFormedFrom (b ∷ l)) (asked-some p3 p2 p1 h 0 (omega arith))
+      ∙ ap (wellFormedFrom l) (⊎-elim
       (λ k. sym (asked-lead p2 p1 b k))
       (λ k.
       let z : b < 0x80 = ⊎-elim (λ y. absurd (let n : _≡_ {A = ℕ} 0 1 = cc (inside 0x80 0xBF b y (omega arith)) in omega arith)) (λ y. y) (le-or-lt 0x80 b) in
@@ -138,10 +138,10 @@ module _ (p3 p2 p1 b : ℕ) (f : Fine p3 p2 p1 b) where
       ∙ sym (asked-some p2 p1 b k 0 (omega (arith, bit-no 0xE0 p1 (omega arith), bit-no 0xF0 p1 (omega arith)))))
       (le-or-lt 0xC0 b))
 
-  rests : neverOf p1 ≡ false → (l : List ℕ) → rest (b ∷ l) (asked p3 p2 p1) ≡ rest l (asked p2 p1 b)
+  rests : invalidByteOf p1 ≡ false → (l : List ℕ) → wellFormedFrom (b ∷ l) (asked p3 p2 p1) ≡ wellFormedFrom l (asked p2 p1 b)
   rests g l = go (isCont b) refl
     where
-      go : (c : Bool) → isCont b ≡ c → rest (b ∷ l) (asked p3 p2 p1) ≡ rest l (asked p2 p1 b)
+      go : (c : Bool) → isCont b ≡ c → wellFormedFrom (b ∷ l) (asked p3 p2 p1) ≡ wellFormedFrom l (asked p2 p1 b)
       go true e = on-cont g e l
       go false e = on-start e l
 
@@ -158,14 +158,14 @@ module _ (p3 p2 p1 b : ℕ) (f : Fine p3 p2 p1 b) where
   single-on = omega (arith, f .due, apart, bit-mono 0xE0 p1 0xC0 (omega arith), bit-mono 0xF0 p2 0xE0 (omega arith))
 
   -- the character ends behind b, or goes on
-  held-on : (heldOf p2 p1 b ≡ 0) ⊎ ((heldOf p2 p1 b ≡ suc (heldOf p3 p2 p1)) × (heldOf p3 p2 p1 ≡ heldOf p3 p2 p1 - 1 + bitOf (isCont b)))
-  unfolding heldOf
+  held-on : (pendingOf p2 p1 b ≡ 0) ⊎ ((pendingOf p2 p1 b ≡ suc (pendingOf p3 p2 p1)) × (pendingOf p3 p2 p1 ≡ pendingOf p3 p2 p1 - 1 + bitOf (isCont b)))
+  unfolding pendingOf
   held-on =
       let d = f .due in
       let x = apart in
       let y = bit-mono 0xE0 p1 0xC0 (omega arith) in
       let z = bit-mono 0xF0 p2 0xE0 (omega arith) in
-      ⊎-elim (λ h. inr (omega arith, omega arith)) (λ h. inl (omega arith)) (le-or-lt 1 (heldOf p2 p1 b))
+      ⊎-elim (λ h. inr (omega arith, omega arith)) (λ h. inl (omega arith)) (le-or-lt 1 (pendingOf p2 p1 b))
 
 -- ---- a window
 
@@ -188,10 +188,10 @@ num-bit t i h = go (isCont (getD t i 0)) refl
 
 module _ (t : List ℕ) (i conts : ℕ) where
   -- at the end of a character
-  pub window-first : (r : ℕ) → Passed t i conts → 3 ≤ i → r ≡ before heldOf t i → r ≡ 0 → Window t i conts
-  unfolding heldOf asking
+  pub window-first : (r : ℕ) → Passed t i conts → 3 ≤ i → r ≡ before pendingOf t i → r ≡ 0 → Window t i conts
+  unfolding pendingOf asking
   window-first r s h e z =
-      let none : before heldOf t i ≡ 0 = omega arith in
+      let none : before pendingOf t i ≡ 0 = omega arith in
       let l = bit-under 0xC0 (getD t (i - 1) 0) (omega arith) in
       record {
         three = h;
@@ -201,23 +201,23 @@ module _ (t : List ℕ) (i conts : ℕ) where
         begins = never-low (getD t (i - 1) 0) l;
         single = omega arith;
         enough = omega arith;
-        ahead = ap (rest (drop i t)) (asked-none (getD t (i - 3) 0) (getD t (i - 2) 0) (getD t (i - 1) 0) none) ∙ s .well;
+        ahead = ap (wellFormedFrom (drop i t)) (asked-none (getD t (i - 3) 0) (getD t (i - 2) 0) (getD t (i - 1) 0) none) ∙ s .well;
         behind = λ n q. passed-same t s (omega arith) (omega arith);
       }
 
   module _ (w : Window t i conts) where
     -- back to the end of the last character
-    pub window-back : (r : ℕ) → r ≡ before heldOf t i → Passed t (i - r) (conts - (r - 1))
+    pub window-back : (r : ℕ) → r ≡ before pendingOf t i → Passed t (i - r) (conts - (r - 1))
     window-back r e = w .behind r e
 
-    pub window-end : (r : ℕ) → r ≡ before heldOf t i → r ≡ 0 → Passed t i conts
+    pub window-end : (r : ℕ) → r ≡ before pendingOf t i → r ≡ 0 → Passed t i conts
     window-end r e z = passed-same t (window-back r e) (omega arith) (omega arith)
 
-    pub window-room : (r : ℕ) → r ≡ before heldOf t i → r ≤ i
-    unfolding heldOf asking
+    pub window-room : (r : ℕ) → r ≡ before pendingOf t i → r ≤ i
+    unfolding pendingOf asking
     window-room r e = let l = w .three in let s = w .single in omega arith
 
-    module _ (h : i < length t) (e : before offOf t i (getD t i 0) ≡ false) where
+    module _ (h : i < length t) (e : before misplacedOf t i (getD t i 0) ≡ false) where
       window-on : Window t (i + 1) (conts + bitOf (isCont (getD t i 0)))
       window-on =
           let p3 = getD t (i - 3) 0 in
@@ -229,18 +229,18 @@ module _ (t : List ℕ) (i conts : ℕ) where
           let u = bit-le (isCont b) in
           let n : i + 1 + numChars (drop (i + 1) t) ≡ conts + bitOf (isCont b) + numChars t = omega (arith, w .num, num-bit t i h) in
           let z : i + 1 - 1 ≡ i = omega arith in
-          let held = shift heldOf t i l in
+          let held = shift pendingOf t i l in
           let on = held-on p3 p2 p1 b f in
-          let a : rest (drop (i + 1) t) (before asked t (i + 1)) ≡ wellFormed t =
-          ap (rest (drop (i + 1) t)) (shift asked t i l)
-          ∙ sym (ap (λ x. rest x (asked p3 p2 p1)) (next t i h) ∙ rests p3 p2 p1 b f (w .begins) (drop (i + 1) t))
+          let a : wellFormedFrom (drop (i + 1) t) (before asked t (i + 1)) ≡ wellFormed t =
+          ap (wellFormedFrom (drop (i + 1) t)) (shift asked t i l)
+          ∙ sym (ap (λ x. wellFormedFrom x (asked p3 p2 p1)) (next t i h) ∙ rests p3 p2 p1 b f (w .begins) (drop (i + 1) t))
           ∙ w .ahead in
           record {
             three = omega arith;
             below = omega arith;
             few = omega (arith, w .few);
             num = n;
-            begins = ap (λ j. neverOf (getD t j 0)) z ∙ f .begins;
+            begins = ap (λ j. invalidByteOf (getD t j 0)) z ∙ f .begins;
             single = rw (shift asking t i l) (single-on p3 p2 p1 b f);
             enough = ⊎-elim (λ x. omega (arith, held)) (λ x. omega (arith, held, w .enough)) on;
             ahead = a;
@@ -248,20 +248,20 @@ module _ (t : List ℕ) (i conts : ℕ) where
                 ⊎-elim
                 (λ x. passed-same
                 t
-                (record { below = omega arith; few = omega (arith, w .few); well = sym (ap (rest (drop (i + 1) t)) (shift asked t i l ∙ asked-none p2 p1 b x)) ∙ a; num = n })
+                (record { below = omega arith; few = omega (arith, w .few); well = sym (ap (wellFormedFrom (drop (i + 1) t)) (shift asked t i l ∙ asked-none p2 p1 b x)) ∙ a; num = n })
                 (omega (arith, held))
                 (omega (arith, held)))
-                (λ x. passed-same t (w .behind (heldOf p3 p2 p1) refl) (omega (arith, held)) (omega (arith, held, w .enough)))
+                (λ x. passed-same t (w .behind (pendingOf p3 p2 p1) refl) (omega (arith, held)) (omega (arith, held, w .enough)))
                 on;
           }
 
 -- over ASCII bytes, where nothing is held
-pub window-run : (t : List ℕ) (i j conts r : ℕ) → Window t i conts → r ≡ before heldOf t i → r ≡ 0 → Runs t i j → i + 3 ≤ j → Window t j conts
-unfolding heldOf
+pub window-run : (t : List ℕ) (i j conts r : ℕ) → Window t i conts → r ≡ before pendingOf t i → r ≡ 0 → Runs t i j → i + 3 ≤ j → Window t j conts
+unfolding pendingOf
 window-run t i j conts r w e z run h =
     let low : (k m : ℕ) → j - 3 ≤ k → k < j → 0x80 ≤ m → bitOf (leb m (getD t k 0)) ≡ 0 =
     λ k m l u g. bit-no m (getD t k 0) (omega (arith, runs-byte t i j k run (omega arith) u)) in
-    let none : 0 ≡ before heldOf t j =
+    let none : 0 ≡ before pendingOf t j =
     omega (arith, low (j - 1) 0xC0 (omega arith) (omega arith) (omega arith), low (j - 2) 0xE0 (omega arith) (omega arith) (omega arith), low (j - 3) 0xF0 (omega arith) (omega arith) (omega arith)) in
     window-first t j conts 0 (passed-run t i j conts (window-end t i conts w r e z) run) (omega arith) none refl
 
@@ -292,7 +292,7 @@ module _ (t : List ℕ) where
         let z : at + 0 ≡ at = omega arith in
         record { few = omega arith; below = omega arith; num = omega (arith, ap (λ j. numChars (drop j t)) z); well = λ y. record { each = λ k l u. absurd (omega arith) } }
 
-    pub goes-more : (k bad more r c : ℕ) → Goes t at (at + k) bad more → at + k < length t → Tells r (before offOf t (at + k) (getD t (at + k) 0)) → c ≡ bitOf (isCont (getD t (at + k) 0)) → Goes t at (at + (k + 1)) (bitOr bad r) (more + c)
+    pub goes-more : (k bad more r c : ℕ) → Goes t at (at + k) bad more → at + k < length t → Tells r (before misplacedOf t (at + k) (getD t (at + k) 0)) → c ≡ bitOf (isCont (getD t (at + k) 0)) → Goes t at (at + (k + 1)) (bitOr bad r) (more + c)
     goes-more k bad more r c g h e p =
         let z : at + k + 1 ≡ at + (k + 1) = omega arith in
         record {
@@ -309,7 +309,7 @@ module _ (t : List ℕ) where
       goes-on to bad more g e = window-to at to conts (conts + more) w (omega (arith, g .few)) (g .below) (g .well e) (omega (arith, g .num, w .num))
 
       -- to the end, where the last bytes tell of it
-      pub window-all : (n : ℕ) → StandWell t (length t - 16) (length t) → before heldOf t (length t) ≡ 0 → length t - at < 16 → n ≡ numChars (drop at t) → n ≤ length t - at → Passed t (length t) (conts + (length t - at - n))
+      pub window-all : (n : ℕ) → StandWell t (length t - 16) (length t) → before pendingOf t (length t) ≡ 0 → length t - at < 16 → n ≡ numChars (drop at t) → n ≤ length t - at → Passed t (length t) (conts + (length t - at - n))
       window-all n s z h e l =
           let c = conts + (length t - at - n) in
           let b = w .below in

@@ -44,17 +44,17 @@ unfolding rows leadIn
 leadOf b = leadIn rows b
 
 -- what is left of a text: with `Of n lo hi` n bytes are due, the next from lo to hi, and then whole characters
-abbrev pub rest : List ℕ → Lead → Bool
-rest [] Bad = false
-rest [] (Of zero lo hi) = true
-rest [] (Of (suc n) lo hi) = false
-rest (b ∷ bs) Bad = false
-rest (b ∷ bs) (Of zero lo hi) = rest bs (leadOf b)
-rest (b ∷ bs) (Of (suc n) lo hi) = within lo hi b && rest bs (Of n 0x80 0xBF)
+abbrev pub wellFormedFrom : List ℕ → Lead → Bool
+wellFormedFrom [] Bad = false
+wellFormedFrom [] (Of zero lo hi) = true
+wellFormedFrom [] (Of (suc n) lo hi) = false
+wellFormedFrom (b ∷ bs) Bad = false
+wellFormedFrom (b ∷ bs) (Of zero lo hi) = wellFormedFrom bs (leadOf b)
+wellFormedFrom (b ∷ bs) (Of (suc n) lo hi) = within lo hi b && wellFormedFrom bs (Of n 0x80 0xBF)
 
 -- at the start of a text no byte is due
 abbrev pub wellFormed : List ℕ → Bool
-wellFormed bs = rest bs (Of 0 0x80 0xBF)
+wellFormed bs = wellFormedFrom bs (Of 0 0x80 0xBF)
 
 -- exactly the bytes that are due, and nothing behind them
 abbrev pub whole : List ℕ → Lead → Bool

@@ -5,7 +5,7 @@ use mathlib.Core.Path.{_≡_}
 use lib.Dec.{eqb, leb}
 use mathlib.Core.List.{List}
 use lib.ListN.{getD, length, drop}
-use Rattle.characters.specs.Form.{within, leadOf, rest, wellFormed}
+use Rattle.characters.specs.Form.{within, leadOf, wellFormedFrom, wellFormed}
 use Rattle.characters.specs.Chars.{isCont, numChars}
 use Rattle.characters.specs.declared.Lead.{Lead}
 use Rattle.characters.specs.declared.Lead.the-variants.{Of}
@@ -36,12 +36,12 @@ unfoldable pub asking : ℕ → ℕ → ℕ → ℕ
 asking p3 p2 p1 = bitOf (leb 0xC0 p1) + bitOf (leb 0xE0 p2) + bitOf (leb 0xF0 p3)
 
 -- how many bytes before belong to a character that is to go on
-unfoldable pub heldOf : ℕ → ℕ → ℕ → ℕ
-heldOf p3 p2 p1 = bitOf (leb 0xC0 p1) + 2 * bitOf (leb 0xE0 p2) + 3 * bitOf (leb 0xF0 p3)
+unfoldable pub pendingOf : ℕ → ℕ → ℕ → ℕ
+pendingOf p3 p2 p1 = bitOf (leb 0xC0 p1) + 2 * bitOf (leb 0xE0 p2) + 3 * bitOf (leb 0xF0 p3)
 
 -- b is in no text
-unfoldable pub neverOf : ℕ → Bool
-neverOf b = within 0xC0 0xC1 b || leb 0xF5 b
+unfoldable pub invalidByteOf : ℕ → Bool
+invalidByteOf b = within 0xC0 0xC1 b || leb 0xF5 b
 
 -- the continuation b is outside of the range that p asks for
 unfoldable pub outsideOf : ℕ → ℕ → Bool
@@ -49,8 +49,8 @@ outsideOf p b =
     eqb p 0xE0 && within 0x80 0x9F b || eqb p 0xED && not (within 0x80 0x9F b) || eqb p 0xF0 && within 0x80 0x8F b || eqb p 0xF4 && not (within 0x80 0x8F b)
 
 -- b may not stand behind p3 p2 p1
-unfoldable pub offOf : ℕ → ℕ → ℕ → ℕ → Bool
-offOf p3 p2 p1 b = not (Bool·beq (isCont b) (dueOf p3 p2 p1)) || neverOf b || outsideOf p1 b
+unfoldable pub misplacedOf : ℕ → ℕ → ℕ → ℕ → Bool
+misplacedOf p3 p2 p1 b = not (Bool·beq (isCont b) (dueOf p3 p2 p1)) || invalidByteOf b || outsideOf p1 b
 
 -- what p3 p2 p1 ask for
 unfoldable pub asked : ℕ → ℕ → ℕ → Lead
@@ -67,15 +67,15 @@ pub record Window (t : List ℕ) (i conts : ℕ) : Type 0 where
   pub below : i ≤ length t
   pub few : conts ≤ i
   pub num : i + numChars (drop i t) ≡ conts + numChars t
-  pub begins : neverOf (getD t (i - 1) 0) ≡ false
+  pub begins : invalidByteOf (getD t (i - 1) 0) ≡ false
   pub single : before asking t i ≤ 1
-  pub enough : before heldOf t i ≤ conts + 1
-  pub ahead : rest (drop i t) (before asked t i) ≡ wellFormed t
-  pub behind : (n : ℕ) → n ≡ before heldOf t i → Passed t (i - n) (conts - (n - 1))
+  pub enough : before pendingOf t i ≤ conts + 1
+  pub ahead : wellFormedFrom (drop i t) (before asked t i) ≡ wellFormed t
+  pub behind : (n : ℕ) → n ≡ before pendingOf t i → Passed t (i - n) (conts - (n - 1))
 
 -- each byte from `at` to `to` may stand behind the three before it
 pub record StandWell (t : List ℕ) (at to : ℕ) : Type 0 where
-  pub each : (k : ℕ) → at ≤ k → k < to → before offOf t k (getD t k 0) ≡ false
+  pub each : (k : ℕ) → at ≤ k → k < to → before misplacedOf t k (getD t k 0) ≡ false
 
 -- the bytes from `at` to `to`, `more` of them continuations; they may stand there where `bad` is 0
 pub record Goes (t : List ℕ) (at to bad more : ℕ) : Type 0 where

@@ -12,11 +12,11 @@ marksOf [] = 0
 marksOf (b ∷ bs) = marksOf bs * 256 + cond (isCont b) 0 1
 
 -- how many characters are marked and how many begin from `at` on, by 255
-unfoldable pub told : List ℕ → ℕ → ℕ → ℕ
-told t at marks = (marks + numChars (drop at t)) % 255
+unfoldable pub countMod255 : List ℕ → ℕ → ℕ → ℕ
+countMod255 t at marks = (marks + numChars (drop at t)) % 255
 
 -- marked from `at` on to `to`, where fewer than n bytes are left
 pub record Further (t : List ℕ) (at sum to marks n : ℕ) : Type 0 where
-  pub same : told t to marks ≡ told t at sum
+  pub same : countMod255 t to marks ≡ countMod255 t at sum
   pub below : to ≤ length t
   pub few : length t - to < n

@@ -11,7 +11,7 @@ use Rattle.edits.specs.Op.{base, target}
 use Rattle.edits.specs.Compose.{composeTurn, made, compose}
 use Rattle.edits.specs.Sequence.{Seq}
 use Rattle.edits.proofs.Theorems.{compose-base, compose-target}
-use Rattle.answers.specs.Answer.{needs, first, number, factOf}
+use Rattle.answers.specs.Answer.{needs, orElse, number, factOf}
 use Rattle.answers.specs.declared.Refusal.{Refusal}
 use Rattle.answers.specs.declared.Written.the-variants as written
 use Rattle.answers.specs.InnerGiven.{Gives}
@@ -26,7 +26,7 @@ use Rattle.record.proofs.Records.{ops-base, ops-target}
 use Rattle.record.proofs.Checked.{stopped}
 use Rattle.operational_transform.specs.Calls.{recordsFault, composeCall, deliver}
 use Rattle.emitter.specs.declared.core.Emitter.{Emitter}
-use Rattle.emitter.specs.InnerEmit.{Done, Finishes, Under, Writes, Staged, headed, judged}
+use Rattle.emitter.specs.InnerEmit.{Done, Finishes, Under, Writes, Staged, headed, limitsThenRoom}
 use Rattle.emitter.proofs.Loops.{compose-runs}
 use Rattle.emitter.proofs.Giving.{refuses, gives-refused, gives-written}
 use Rattle.steps.specs.InnerSteps.{liveIs}
@@ -77,7 +77,7 @@ module _ (a b : List ℕ) (z : Sizes) where
 
 -- what stands in front of 9 and 10
 abbrev faults : List ℕ → List ℕ → ℕ
-faults a b = first (recordsFault a b) (needs (eqb (targetOf a) (baseOf b)) 8 0)
+faults a b = orElse (recordsFault a b) (needs (eqb (targetOf a) (baseOf b)) 8 0)
 
 fault-is : (a b o : List ℕ) (x : Refusal) (k : ℕ) → number x ≡ suc k → faults a b ≡ suc k → Gives (composeCall a b o) (written.Refused x) o
 unfolding composeCall
@@ -87,7 +87,7 @@ module _ (a b o : List ℕ) (za : recordFault a ≡ 0) (zb : recordFault b ≡ 0
   pub composes-lengths : (t ≡ s → ⊥) → Gives (composeCall a b o) (written.Refused IncompatibleLengths) o
   composes-lengths h = fault-is a b o IncompatibleLengths 7 refl (rw (za, zb, ne-eqb (targetOf a) (baseOf b) (λ z. h (pt ∙ z ∙ sym ps))))
 
-module _ (a b o : List ℕ) (za : recordFault a ≡ 0) (zb : recordFault b ≡ 0) (h : targetOf a ≡ baseOf b) (e : Emitter) {n : ℕ} (m q : List ℕ) (d : Done n (compose (ops a) (ops b)) m e q) (v : Written) (j : v ≡ judged e (length o)) where
+module _ (a b o : List ℕ) (za : recordFault a ≡ 0) (zb : recordFault b ≡ 0) (h : targetOf a ≡ baseOf b) (e : Emitter) {n : ℕ} (m q : List ℕ) (d : Done n (compose (ops a) (ops b)) m e q) (v : Written) (j : v ≡ limitsThenRoom e (length o)) where
   passes : (w : Written) (o′ : List ℕ) → Gives (deliver 0 (compose (ops a) (ops b)) o) w o′ → Gives (composeCall a b o) w o′
   unfolding composeCall
   passes w o′ g = rw (za, zb, eq-eqb (targetOf a) (baseOf b) h) g

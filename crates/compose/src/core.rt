@@ -30,13 +30,13 @@ pub struct Sizes {
 }
 
 // All of compose, for a result of n records.
-fn run(a: &[u8], na: usize, b: &[u8], nb: usize, out: &mut [u8], n: usize) -> Sizes
+fn compose_into(a: &[u8], na: usize, b: &[u8], nb: usize, out: &mut [u8], n: usize) -> Sizes
     requires { ⌜ (na ≡ recordsOf (now a)) × (na ≤ maxOps) × (nb ≡ recordsOf (now b)) × (nb ≤ maxOps) × (n ≤ 2 ^ 40) × (recordFault (now a) ≡ 0) × (recordFault (now b) ≡ 0) × (targetOf (now a) ≡ baseOf (now b)) ⌝ }
     ensures { λ r. ⌜ Done n (composeOf (ops (now (a .entry))) (ops (now (b .entry)))) (now (out .entry)) (between (now (a .entry)) (now (b .entry)) r) (now (out .exit)) ⌝ }
 {
     let mut s = steps::core::begin(a, na, b, nb);
     while steps::core::goes_on(s) {
-        s = compose_steps::core::turn(a, na, b, nb, out, n, s);
+        s = compose_steps::core::step(a, na, b, nb, out, n, s);
     }
     let last = s.e;
     let e = emitter::core::finish(out, n, last);
@@ -67,9 +67,9 @@ fn write(a: &[u8], na: usize, b: &[u8], nb: usize, out: &mut [u8], n: usize)
     requires { ⌜ (na ≡ recordsOf (now a)) × (na ≤ maxOps) × (nb ≡ recordsOf (now b)) × (nb ≤ maxOps) × (n ≤ 2 ^ 40) × (recordFault (now a) ≡ 0) × (recordFault (now b) ≡ 0) × (targetOf (now a) ≡ baseOf (now b)) ⌝ }
     ensures { λ _. ⌜ Writes n (composeOf (ops (now (a .entry))) (ops (now (b .entry)))) (now (out .entry)) (now (out .exit)) ⌝ }
 {
-    let z = run(a, na, b, nb, out, n);
+    let z = compose_into(a, na, b, nb, out, n);
     let e = sized(a, b, z);
-    emitter::core::header(out, e);
+    emitter::core::write_header(out, e);
 }
 
 // From a stage, if all of the result has a place there; else by a run of its own.
@@ -86,12 +86,12 @@ fn place(
     requires { ⌜ (na ≡ recordsOf (now a)) × (na ≤ maxOps) × (nb ≡ recordsOf (now b)) × (nb ≤ maxOps) × (recordFault (now a) ≡ 0) × (recordFault (now b) ≡ 0) × (slots ≤ 2048) × (targetOf (now a) ≡ baseOf (now b)) × Under (2 ^ 40) e × Staged slots (composeOf (ops (now a)) (ops (now b))) e (now stage) ⌝ }
     ensures { λ _. ⌜ Writes (e .records) (composeOf (ops (now (a .entry))) (ops (now (b .entry)))) (now (out .entry)) (now (out .exit)) ⌝ }
 {
-    if !emitter::core::has_place(e, slots, stage.len()) {
+    if !emitter::core::fits_stage(e, slots, stage.len()) {
         write(a, na, b, nb, out, e.records);
         return;
     }
-    emitter::core::settle(out, e.records, stage, slots, e.records, e.text);
-    emitter::core::header(out, e);
+    emitter::core::relocate(out, e.records, stage, slots, e.records, e.text);
+    emitter::core::write_header(out, e);
 }
 
 // Of two records whose lengths agree: written to a stage, judged, and moved to the output.
@@ -108,9 +108,9 @@ fn staged(
     ensures { λ r. ⌜ Gives (composeCall (now (a .entry)) (now (b .entry)) (now (out .entry))) r (now (out .exit)) ⌝ }
 {
     // made anew, since a slice that is handed on as it came is copied, and the copy waits for its bytes
-    let z = run(&a[..], na, &b[..], nb, stage, slots);
+    let z = compose_into(&a[..], na, &b[..], nb, stage, slots);
     let e = sized(a, b, z);
-    match emitter::core::judge(e, out.len()) {
+    match emitter::core::limits_then_room(e, out.len()) {
         Written::Refused(x) => Written::Refused(x),
         Written::Bytes(k) => {
             place(a, na, b, nb, stage, slots, e, out);
@@ -121,7 +121,7 @@ fn staged(
 
 // With stages of several lengths: what is cleared is paid for. (The answer is taken apart because one that is handed on whole is
 // copied, and the copy waits for the bytes.)
-fn small(a: &[u8], na: usize, b: &[u8], nb: usize, out: &mut [u8]) -> Written
+fn in_small_stage(a: &[u8], na: usize, b: &[u8], nb: usize, out: &mut [u8]) -> Written
     requires { ⌜ (na ≡ recordsOf (now a)) × (na ≤ maxOps) × (nb ≡ recordsOf (now b)) × (nb ≤ maxOps) × (recordFault (now a) ≡ 0) × (recordFault (now b) ≡ 0) × (targetOf (now a) ≡ baseOf (now b)) ⌝ }
     ensures { λ r. ⌜ Gives (composeCall (now (a .entry)) (now (b .entry)) (now (out .entry))) r (now (out .exit)) ⌝ }
 {
@@ -132,7 +132,7 @@ fn small(a: &[u8], na: usize, b: &[u8], nb: usize, out: &mut [u8]) -> Written
     }
 }
 
-fn medium(a: &[u8], na: usize, b: &[u8], nb: usize, out: &mut [u8]) -> Written
+fn in_medium_stage(a: &[u8], na: usize, b: &[u8], nb: usize, out: &mut [u8]) -> Written
     requires { ⌜ (na ≡ recordsOf (now a)) × (na ≤ maxOps) × (nb ≡ recordsOf (now b)) × (nb ≤ maxOps) × (recordFault (now a) ≡ 0) × (recordFault (now b) ≡ 0) × (targetOf (now a) ≡ baseOf (now b)) ⌝ }
     ensures { λ r. ⌜ Gives (composeCall (now (a .entry)) (now (b .entry)) (now (out .entry))) r (now (out .exit)) ⌝ }
 {
@@ -143,7 +143,7 @@ fn medium(a: &[u8], na: usize, b: &[u8], nb: usize, out: &mut [u8]) -> Written
     }
 }
 
-fn large(a: &[u8], na: usize, b: &[u8], nb: usize, slots: usize, out: &mut [u8]) -> Written
+fn in_large_stage(a: &[u8], na: usize, b: &[u8], nb: usize, slots: usize, out: &mut [u8]) -> Written
     requires { ⌜ (na ≡ recordsOf (now a)) × (na ≤ maxOps) × (nb ≡ recordsOf (now b)) × (nb ≤ maxOps) × (recordFault (now a) ≡ 0) × (recordFault (now b) ≡ 0) × (slots ≤ 2048) × (targetOf (now a) ≡ baseOf (now b)) ⌝ }
     ensures { λ r. ⌜ Gives (composeCall (now (a .entry)) (now (b .entry)) (now (out .entry))) r (now (out .exit)) ⌝ }
 {
@@ -165,16 +165,16 @@ pub fn composed(a: &[u8], b: &[u8], out: &mut [u8]) -> Written
     let nb = reader::core::records(b);
     // a result of more than 1,024 is refused
     if MAX_OPS < na + nb {
-        return large(a, na, b, nb, MAX_OPS, out);
+        return in_large_stage(a, na, b, nb, MAX_OPS, out);
     }
     let most = layout::core::text_start(na + nb)
         + reader::core::text_bytes(a)
         + reader::core::text_bytes(b);
     if MEDIUM_STAGE < most {
-        return large(a, na, b, nb, na + nb, out);
+        return in_large_stage(a, na, b, nb, na + nb, out);
     }
     if SMALL_STAGE < most {
-        return medium(a, na, b, nb, out);
+        return in_medium_stage(a, na, b, nb, out);
     }
-    small(a, na, b, nb, out)
+    in_small_stage(a, na, b, nb, out)
 }

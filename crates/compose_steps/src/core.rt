@@ -28,7 +28,7 @@ fn delete_first(a: &[u8], na: usize, b: &[u8], out: &mut [u8], n: usize, s: Stat
     let e = s.e;
     let k = x.left;
     let i = x.to;
-    let f = emitter::core::part(out, n, e, a, x, k, i);
+    let f = emitter::core::push(out, n, e, a, x, k, i);
     let g = reader::core::rest(a, na, x, k, i);
     State { x: g, y, e: f }
 }
@@ -47,7 +47,7 @@ fn text_of_second(
     ensures { λ r. ⌜ Adds n (cut k (frontOp (now (b .entry)) f) ∷ []) e (now (out .entry)) r (now (out .exit)) ⌝ }
 {
     let from = f.from;
-    emitter::core::spill(out, n, e);
+    emitter::core::flush_if_closed(out, n, e);
     buffers::core::copy_short(out, layout::core::text_start(n) + e.text, b, from, mid);
     emitter::core::inserted(e, mid - from, k)
 }
@@ -65,7 +65,7 @@ fn text_of_first(
     ensures { λ r. ⌜ Adds n (cut k (frontOp (now (a .entry)) f) ∷ []) e (now (out .entry)) r (now (out .exit)) ⌝ }
 {
     let from = f.from;
-    emitter::core::spill(out, n, e);
+    emitter::core::flush_if_closed(out, n, e);
     buffers::core::copy_short(out, layout::core::text_start(n) + e.text, a, from, mid);
     emitter::core::inserted(e, mid - from, k)
 }
@@ -95,7 +95,7 @@ fn only_second(a: &[u8], b: &[u8], nb: usize, out: &mut [u8], n: usize, s: State
     let e = s.e;
     let k = y.left;
     let j = y.to;
-    let f = emitter::core::part(out, n, e, b, y, k, j);
+    let f = emitter::core::push(out, n, e, b, y, k, j);
     let h = reader::core::rest(b, nb, y, k, j);
     State { x, y: h, e: f }
 }
@@ -110,7 +110,7 @@ fn only_first(a: &[u8], na: usize, b: &[u8], out: &mut [u8], n: usize, s: State)
     let e = s.e;
     let k = x.left;
     let i = x.to;
-    let f = emitter::core::part(out, n, e, a, x, k, i);
+    let f = emitter::core::push(out, n, e, a, x, k, i);
     let g = reader::core::rest(a, na, x, k, i);
     State { x: g, y, e: f }
 }
@@ -126,7 +126,7 @@ fn retained(a: &[u8], na: usize, b: &[u8], nb: usize, out: &mut [u8], n: usize, 
     let i = x.to;
     let j = y.to;
     let k = buffers::core::lesser(x.left, y.left);
-    let f = emitter::core::part(out, n, e, b, y, k, j);
+    let f = emitter::core::push(out, n, e, b, y, k, j);
     let g = reader::core::rest(a, na, x, k, i);
     let h = reader::core::rest(b, nb, y, k, j);
     State { x: g, y: h, e: f }
@@ -180,7 +180,7 @@ fn insert_delete(
     State { x: g, y: h, e }
 }
 
-fn together(a: &[u8], na: usize, b: &[u8], nb: usize, out: &mut [u8], n: usize, s: State) -> State
+fn step_both(a: &[u8], na: usize, b: &[u8], nb: usize, out: &mut [u8], n: usize, s: State) -> State
     requires { ⌜ (na ≡ recordsOf (now a)) × (nb ≡ recordsOf (now b)) × (n ≤ 2 ^ 40) × Under (2 ^ 38) (s .e) × Stands (now a) (s .x) × Stands (now b) (s .y) × Chooses composeTurn (now a) (now b) (s .x) (s .y) Together ⌝ }
     ensures { λ r. ⌜ Went composeTurn made n (now (a .entry)) (now (b .entry)) s (now (out .entry)) r (now (out .exit)) ⌝ }
 {
@@ -196,7 +196,7 @@ fn together(a: &[u8], na: usize, b: &[u8], nb: usize, out: &mut [u8], n: usize, 
 }
 
 // One step. A delete of the first goes before an insert of the second.
-pub fn turn(a: &[u8], na: usize, b: &[u8], nb: usize, out: &mut [u8], n: usize, s: State) -> State
+pub fn step(a: &[u8], na: usize, b: &[u8], nb: usize, out: &mut [u8], n: usize, s: State) -> State
     requires { ⌜ (na ≡ recordsOf (now a)) × (nb ≡ recordsOf (now b)) × (n ≤ 2 ^ 40) × Under (2 ^ 38) (s .e) × Stands (now a) (s .x) × Stands (now b) (s .y) × (liveIs (s .x) (s .y) ≡ true) ⌝ }
     ensures { λ r. ⌜ Went composeTurn made n (now (a .entry)) (now (b .entry)) s (now (out .entry)) r (now (out .exit)) ⌝ }
 {
@@ -214,5 +214,5 @@ pub fn turn(a: &[u8], na: usize, b: &[u8], nb: usize, out: &mut [u8], n: usize, 
     if y.kind == AT_END {
         return only_first(a, na, b, out, n, s);
     }
-    together(a, na, b, nb, out, n, s)
+    step_both(a, na, b, nb, out, n, s)
 }

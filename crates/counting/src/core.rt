@@ -3,7 +3,7 @@ ghost use mathlib.Core.Path.{_≡_};
 ghost use Prim.Native.Nat.{_≤_, _-_, _+_, _<_, _%_};
 ghost use lib.ListN.{length, take, drop};
 ghost use Rattle.characters.specs.Chars.{isCont, numChars};
-ghost use Rattle.characters.specs.InnerMarks.{marksOf, Further, told};
+ghost use Rattle.characters.specs.InnerMarks.{marksOf, Further, countMod255};
 
 pub fn is_cont(b: u8) -> bool
     ensures { λ r. ⌜ r ≡ isCont b ⌝ }
@@ -12,7 +12,7 @@ pub fn is_cont(b: u8) -> bool
 }
 
 // The number of bytes that aren't continuations. A count in one byte is what makes this fast.
-pub fn few(text: &[u8]) -> u8
+pub fn count_block(text: &[u8]) -> u8
     requires { ⌜ length (now text) ≤ 224 ⌝ }
     ensures { λ r. ⌜ (r ≡ numChars (now (text .entry))) × (r ≤ length (now (text .entry))) ⌝ }
 {
@@ -125,7 +125,7 @@ fn eight(text: &[u8], at: usize, sum: u64) -> Sum
 
 fn rest(text: &[u8], at: usize, sum: u64) -> u64
     requires { ⌜ (8 ≤ length (now text)) × (at ≤ length (now text)) × (length (now text) - at < 8) × (sum ≤ 0x0707_0707_0707_0707) ⌝ }
-    ensures { λ r. ⌜ r % 255 ≡ told (now (text .entry)) at sum ⌝ }
+    ensures { λ r. ⌜ r % 255 ≡ countMod255 (now (text .entry)) at sum ⌝ }
 {
     let n = text.len() - at;
     if n == 0 {
@@ -143,7 +143,7 @@ pub fn tail(text: &[u8], from: usize) -> usize
         return 0;
     }
     if text.len() < 8 {
-        return few(text) as usize;
+        return count_block(text) as usize;
     }
     let a = thirty_two(text, from);
     let b = sixteen(text, a.at, a.marks);

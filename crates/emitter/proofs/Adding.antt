@@ -25,7 +25,7 @@ use Rattle.record.specs.Record.{inBytes, inserted}
 use Rattle.record.specs.declared.core.Front.{Front}
 use Rattle.record.specs.InnerFront.{frontText, frontOp, Stands, Cut}
 use Rattle.reader.proofs.Fronts.{op-retain, op-insert, op-delete, Kinds, retains, inserts, deletes, kinds}
-use Rattle.emitter.specs.InnerEmit.{nothing, textsOf, laid, first, Rep, Under, Adds, group, Fresh, later-insert, later-delete, flushedRecords, flushed, opens, spilled, deletedBy, insertedBy, Retains}
+use Rattle.emitter.specs.InnerEmit.{nothing, textsOf, laid, first, Rep, Under, Adds, group, Fresh, later-insert, later-delete, flushedRecords, flushed, opens, flushedIfClosed, deletedBy, insertedBy, Retains}
 use Rattle.emitter.specs.declared.core.Emitter.{Emitter}
 use Rattle.emitter.proofs.Growing.{total-reverse}
 use Rattle.emitter.proofs.Loops.{add-base, add-target}
@@ -239,7 +239,7 @@ opened-same e h = sym (opens-same e (omega arith))
 opened-again : (e : Emitter) → 0 < e .ret → opens e ≡ record { ins = 0; del = 0; ret = 0; records = flushedRecords e; text = e .text; base = e .base; target = e .target }
 opened-again e h = sym (opens-again e (λ z. absurd (omega arith)) refl refl refl)
 
-pub adds-deletes : (n k : ℕ) (e : Emitter) (o : List ℕ) {r : Emitter} {o′ : List ℕ} → k ≤ 65536 → (k ≡ 0 → ⊥) → r ≡ deletedBy k e → o′ ≡ spilled n e o → Adds n (delete k ∷ []) e o r o′
+pub adds-deletes : (n k : ℕ) (e : Emitter) (o : List ℕ) {r : Emitter} {o′ : List ℕ} → k ≤ 65536 → (k ≡ 0 → ⊥) → r ≡ deletedBy k e → o′ ≡ flushedIfClosed n e o → Adds n (delete k ∷ []) e o r o′
 adds-deletes n k e o {r} {o′} kl z q p = rw q (go (leb (e .ret) 0) refl)
   where
     go : (b : Bool) → leb (e .ret) 0 ≡ b → Adds n (delete k ∷ []) e o (deletedBy k e) o′
@@ -317,7 +317,7 @@ module _ (n : ℕ) (y : List Char) (e : Emitter) (o : List ℕ) (k j : ℕ) (kl 
     under = λ m u. omega (arith, few, flushed-few e);
   }
 
-  insert-all : (k ≡ 0 → ⊥) → (o′ : List ℕ) → o′ ≡ over (textStart n + e .text) (bytes y) (spilled n e o) → Adds n (insert y ∷ []) e o (insertedBy k j e) o′
+  insert-all : (k ≡ 0 → ⊥) → (o′ : List ℕ) → o′ ≡ over (textStart n + e .text) (bytes y) (flushedIfClosed n e o) → Adds n (insert y ∷ []) e o (insertedBy k j e) o′
   insert-all kz o′ oe = go (leb (e .ret) 0) refl
     where
       go : (b : Bool) → leb (e .ret) 0 ≡ b → Adds n (insert y ∷ []) e o (insertedBy k j e) o′
@@ -345,7 +345,7 @@ module _ (src : List ℕ) (from to num : ℕ) (room : to ≤ length src) (well :
     pub adds-insert-none : to - from ≡ 0 → Adds n (insert (chars (take (to - from) (drop from src))) ∷ []) e o e o
     adds-insert-none z = adds-none n (insert (chars part)) e o (omega (arith, part-bytes, bytes-length (chars part)))
 
-    pub adds-inserts : to - from ≤ 2 ^ 18 → (to - from ≡ 0 → ⊥) → {at : ℕ} {r : Emitter} {o₁ o′ : List ℕ} → r ≡ insertedBy (to - from) num e → at ≡ textStart n → o₁ ≡ spilled n e o → o′ ≡ over (at + e .text) (take (to - from) (drop from src)) o₁
+    pub adds-inserts : to - from ≤ 2 ^ 18 → (to - from ≡ 0 → ⊥) → {at : ℕ} {r : Emitter} {o₁ o′ : List ℕ} → r ≡ insertedBy (to - from) num e → at ≡ textStart n → o₁ ≡ flushedIfClosed n e o → o′ ≡ over (at + e .text) (take (to - from) (drop from src)) o₁
         → Adds n (insert (chars (take (to - from) (drop from src))) ∷ []) e o r o′
     adds-inserts lw z {at} {r} {o₁} {o′} q a p oe =
         rw q
@@ -389,17 +389,17 @@ module _ (r : List ℕ) (f : Front) (k mid : ℕ) (s : Stands r f) (h : k ≤ f 
     pub part-retain : f .kind ≡ 1 → Retains k e e′ → Adds n (cut k (frontOp r f) ∷ []) e o e′ o
     part-retain z a = rw (op-retain r f z) (a .adds n o)
 
-    pub part-inserts : 0 < k → f .kind ≡ 2 → {at : ℕ} {o₁ : List ℕ} → e′ ≡ insertedBy (mid - f .from) k e → at ≡ textStart n → o₁ ≡ spilled n e o
+    pub part-inserts : 0 < k → f .kind ≡ 2 → {at : ℕ} {o₁ : List ℕ} → e′ ≡ insertedBy (mid - f .from) k e → at ≡ textStart n → o₁ ≡ flushedIfClosed n e o
         → o′ ≡ over (at + e .text) (take (mid - f .from) (drop (f .from) r)) o₁ → Adds n (cut k (frontOp r f) ∷ []) e o e′ o′
     part-inserts l z w a p q =
         rw (op-insert r f z)
         (rw (part-text z, chars-bytes) at (adds-inserts r (f .from) mid k part-room (part-well z) (part-count z) n e o (part-small z) (part-some l z) w a p q))
 
-    pub part-deletes : 0 < k → (f .kind ≡ 1 → ⊥) → (f .kind ≡ 2 → ⊥) → e′ ≡ deletedBy k e → o′ ≡ spilled n e o → Adds n (cut k (frontOp r f) ∷ []) e o e′ o′
+    pub part-deletes : 0 < k → (f .kind ≡ 1 → ⊥) → (f .kind ≡ 2 → ⊥) → e′ ≡ deletedBy k e → o′ ≡ flushedIfClosed n e o → Adds n (cut k (frontOp r f) ∷ []) e o e′ o′
     part-deletes l y z w p = rw (op-delete r f y z) (adds-deletes n k e o (omega (arith, s .small)) (λ v. absurd (omega arith)) w p)
 
     -- where there is no place for text
-    pub mark-inserts : 0 < k → f .kind ≡ 2 → length o ≤ textStart n → e′ ≡ insertedBy (mid - f .from) k e → o′ ≡ spilled n e o → length o′ ≡ length o → Adds n (cut k (frontOp r f) ∷ []) e o e′ o′
+    pub mark-inserts : 0 < k → f .kind ≡ 2 → length o ≤ textStart n → e′ ≡ insertedBy (mid - f .from) k e → o′ ≡ flushedIfClosed n e o → length o′ ≡ length o → Adds n (cut k (frontOp r f) ∷ []) e o e′ o′
     mark-inserts l z m w p q = part-inserts l z w refl p (over-behind (textStart n + e .text) (take (mid - f .from) (drop (f .from) r)) o′ (omega arith))
 
 -- cut behind its last character, it is whole

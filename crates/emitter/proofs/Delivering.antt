@@ -20,7 +20,7 @@ use Rattle.edits.specs.Build.{addAll, build}
 use Rattle.answers.specs.declared.Refusal.the-variants.{Limit, Room}
 use Rattle.answers.specs.declared.Written.the-variants.{Bytes, Refused}
 use Rattle.answers.specs.declared.Refusal.{Refusal}
-use Rattle.answers.specs.Answer.{number, gives, refused, writtenOf}
+use Rattle.answers.specs.Answer.{number, success, refused, writtenOf}
 use Rattle.answers.specs.Output.{writing}
 use Rattle.answers.specs.declared.Written.{Written}
 use Rattle.record.specs.Record.{inBytes, code, inserted, text, encode, fits}
@@ -28,7 +28,7 @@ use Rattle.record.specs.Layout.{kindsStart, countsStart, textStart}
 use Rattle.record.proofs.Sequences.{Limits, fits-limits}
 use Rattle.record.proofs.Records.{encode-length}
 use Rattle.operational_transform.specs.Calls.{deliver}
-use Rattle.emitter.specs.InnerEmit.{kindsOf, countsOf, textsOf, flushedRecords, flushed, Under, laid, Finishes, one, nothing, Adds, Done, within, sizeIn, judged, headed, Sizes}
+use Rattle.emitter.specs.InnerEmit.{kindsOf, countsOf, textsOf, flushedRecords, flushed, Under, laid, Finishes, one, nothing, Adds, Done, withinLimits, sizeIn, limitsThenRoom, headed, Sizes}
 use Rattle.emitter.specs.declared.core.Emitter.{Emitter}
 use Rattle.emitter.proofs.Growing.{total-reverse}
 use Rattle.emitter.proofs.Adding.{full, full-length, full-text, full-wrote, rep-start}
@@ -104,45 +104,45 @@ pub record Inside (e : Emitter) : Type 0 where
   pub target : e .target ≤ 32768
 
 module _ (e : Emitter) where
-  pub within-inside : T (within e) → Inside e
+  pub within-inside : T (withinLimits e) → Inside e
   within-inside h =
       let (a, h₁) = le-and (e .records) 1024 _ .0 h in
       let (b, h₂) = le-and (e .text) 32768 _ .0 h₁ in
       let (c, d) = le-and (e .base) 32768 _ .0 h₂ in
       record { records = a; text = b; base = c; target = leb→le (e .target) 32768 d }
 
-  pub limits-no : (1024 < e .records) ⊎ ((32768 < e .text) ⊎ (32768 < e .base)) → false ≡ within e
-  limits-no f = go (within e) refl f
+  pub limits-no : (1024 < e .records) ⊎ ((32768 < e .text) ⊎ (32768 < e .base)) → false ≡ withinLimits e
+  limits-no f = go (withinLimits e) refl f
     where
-      go : (t : Bool) → within e ≡ t → (1024 < e .records) ⊎ ((32768 < e .text) ⊎ (32768 < e .base)) → false ≡ t
+      go : (t : Bool) → withinLimits e ≡ t → (1024 < e .records) ⊎ ((32768 < e .text) ⊎ (32768 < e .base)) → false ≡ t
       go true p (inl h) = absurd (omega (arith, within-inside (known p)))
       go true p (inr (inl h)) = absurd (omega (arith, within-inside (known p)))
       go true p (inr (inr h)) = absurd (omega (arith, within-inside (known p)))
       go false p h = refl
 
-  pub limits-records : 1024 < e .records → false ≡ within e
+  pub limits-records : 1024 < e .records → false ≡ withinLimits e
   limits-records h = limits-no (inl h)
 
-  pub limits-text : 32768 < e .text → false ≡ within e
+  pub limits-text : 32768 < e .text → false ≡ withinLimits e
   limits-text h = limits-no (inr (inl h))
 
-  pub limits-base : 32768 < e .base → false ≡ within e
+  pub limits-base : 32768 < e .base → false ≡ withinLimits e
   limits-base h = limits-no (inr (inr h))
 
-  pub limits-last : e .records ≤ 1024 → e .text ≤ 32768 → e .base ≤ 32768 → leb (e .target) 32768 ≡ within e
+  pub limits-last : e .records ≤ 1024 → e .text ≤ 32768 → e .base ≤ 32768 → leb (e .target) 32768 ≡ withinLimits e
   limits-last a b c = rw (le-leb (e .records) 1024 a, le-leb (e .text) 32768 b, le-leb (e .base) 32768 c)
 
-  module _ (room : ℕ) (v : Bool) (p : v ≡ within e) where
-    pub judge-limit : not v ≡ true → Refused Limit ≡ judged e room
-    unfolding judged
+  module _ (room : ℕ) (v : Bool) (p : v ≡ withinLimits e) where
+    pub judge-limit : not v ≡ true → Refused Limit ≡ limitsThenRoom e room
+    unfolding limitsThenRoom
     judge-limit h = rw (sym p ∙ not-true v h)
 
-    pub judge-room : (k : ℕ) → not v ≡ false → k ≡ sizeIn e → room < k → Refused Room ≡ judged e room
-    unfolding judged
+    pub judge-room : (k : ℕ) → not v ≡ false → k ≡ sizeIn e → room < k → Refused Room ≡ limitsThenRoom e room
+    unfolding limitsThenRoom
     judge-room k h z l = rw (sym p ∙ not-false v h, lt-leb (sizeIn e) room (omega arith))
 
-    pub judge-bytes : (k : ℕ) → not v ≡ false → k ≡ sizeIn e → k ≤ room → Bytes k ≡ judged e room
-    unfolding judged
+    pub judge-bytes : (k : ℕ) → not v ≡ false → k ≡ sizeIn e → k ≤ room → Bytes k ≡ limitsThenRoom e room
+    unfolding limitsThenRoom
     judge-bytes k h z l = rw (sym p ∙ not-false v h, le-leb (sizeIn e) room (omega arith), z)
 
 -- ---- the sizes and the parts together are the record
@@ -218,7 +218,7 @@ module _ (s : Seq) (l : Limits s) where
       ∙ over-join 0 sizes z out
 
 module _ (s : Seq) (e : Emitter) (z : Sizes s e) where
-  pub sized-fits : within e ≡ fits s
+  pub sized-fits : withinLimits e ≡ fits s
   unfolding fits
   sized-fits = rw (z .records, z .text-bytes, z .base-is, z .target-is)
 
@@ -239,12 +239,12 @@ written-front s n out e o o′ l r d m w =
 module _ (s : Seq) (e : Emitter) (out : List ℕ) (z : Sizes s e) where
   -- a call is refused, or there is room for the record and it is written
   data Outcome : Type 0 where
-    refuses : (x : Refusal) → judged e (length out) ≡ Refused x → deliver 0 s out ≡ record { answer = refused (number x); out = out } → Outcome
-    writes : Limits s → length (encode s) ≤ length out → judged e (length out) ≡ Bytes (length (encode s))
-        → deliver 0 s out ≡ record { answer = gives (length (encode s) ∷ []); out = atFront (encode s) out } → Outcome
+    refuses : (x : Refusal) → limitsThenRoom e (length out) ≡ Refused x → deliver 0 s out ≡ record { answer = refused (number x); out = out } → Outcome
+    writes : Limits s → length (encode s) ≤ length out → limitsThenRoom e (length out) ≡ Bytes (length (encode s))
+        → deliver 0 s out ≡ record { answer = success (length (encode s) ∷ []); out = atFront (encode s) out } → Outcome
 
-  judged-is : judged e (length out) ≡ cond (fits s) (cond (leb (length (encode s)) (length out)) (Bytes (length (encode s))) (Refused Room)) (Refused Limit)
-  unfolding judged fits
+  judged-is : limitsThenRoom e (length out) ≡ cond (fits s) (cond (leb (length (encode s)) (length out)) (Bytes (length (encode s))) (Refused Room)) (Refused Limit)
+  unfolding limitsThenRoom fits
   judged-is = rw (encode-length s, z .records, z .text-bytes, z .base-is, z .target-is)
 
   outcome : Outcome
@@ -256,14 +256,14 @@ module _ (s : Seq) (e : Emitter) (out : List ℕ) (z : Sizes s e) where
       go true false p q = refuses Room (judged-is ∙ rw (p, q)) (rw (p, q))
       go false b p q = refuses Limit (judged-is ∙ rw p) (rw p)
 
-  pub judged-answer : writtenOf (judged e (length out)) ≡ deliver 0 s out .answer
+  pub judged-answer : writtenOf (limitsThenRoom e (length out)) ≡ deliver 0 s out .answer
   judged-answer = go outcome
     where
-      go : Outcome → writtenOf (judged e (length out)) ≡ deliver 0 s out .answer
+      go : Outcome → writtenOf (limitsThenRoom e (length out)) ≡ deliver 0 s out .answer
       go (refuses x p q) = ap writtenOf p ∙ sym (ap (λ o. o .answer) q)
       go (writes l r p q) = ap writtenOf p ∙ sym (ap (λ o. o .answer) q)
 
-  pub judged-refused : (x : Refusal) → judged e (length out) ≡ Refused x → deliver 0 s out .out ≡ out
+  pub judged-refused : (x : Refusal) → limitsThenRoom e (length out) ≡ Refused x → deliver 0 s out .out ≡ out
   judged-refused x h = go outcome
     where
       go : Outcome → deliver 0 s out .out ≡ out
@@ -271,7 +271,7 @@ module _ (s : Seq) (e : Emitter) (out : List ℕ) (z : Sizes s e) where
       go (writes l r p q) = let z : _≡_ {A = ℕ} 0 1 = cc in absurd (omega arith)
 
   -- `e` is the emitter of the run that finds the sizes, `e′` that of the run that writes
-  pub judged-written : (k : ℕ) → judged e (length out) ≡ Bytes k → (n : ℕ) (e′ : Emitter) (o′ o″ : List ℕ) → Done n s out e′ o′ → n ≡ e .records → o″ ≡ headed e′ o′ → o″ ≡ deliver 0 s out .out
+  pub judged-written : (k : ℕ) → limitsThenRoom e (length out) ≡ Bytes k → (n : ℕ) (e′ : Emitter) (o′ o″ : List ℕ) → Done n s out e′ o′ → n ≡ e .records → o″ ≡ headed e′ o′ → o″ ≡ deliver 0 s out .out
   judged-written k h n e′ o′ o″ d ne w = go outcome
     where
       go : Outcome → o″ ≡ deliver 0 s out .out
@@ -279,7 +279,7 @@ module _ (s : Seq) (e : Emitter) (out : List ℕ) (z : Sizes s e) where
       go (writes l r p q) = written-front s n out e′ o′ o″ l r d (ne ∙ z .records) w ∙ sym (ap (λ o. o .out) q)
 
 -- the same, of the answer `v` as the code finds it
-module _ (s : Seq) (e : Emitter) (out : List ℕ) (z : Sizes s e) (v : Written) (j : v ≡ judged e (length out)) where
+module _ (s : Seq) (e : Emitter) (out : List ℕ) (z : Sizes s e) (v : Written) (j : v ≡ limitsThenRoom e (length out)) where
   pub answered : writtenOf v ≡ deliver 0 s out .answer
   answered = ap writtenOf j ∙ judged-answer s e out z
 

@@ -18,7 +18,7 @@ use Rattle.edits.proofs.Meaning.{ifZero-elim}
 use Rattle.record.specs.Layout.{kindsStart, countsStart, textStart}
 use Rattle.record.specs.Record.{inBytes, code, inserted}
 use Rattle.record.proofs.Sequences.{inBytes-size}
-use Rattle.emitter.specs.InnerEmit.{one, entered, emitted, flushedAt, flushedRecords, flushed, opens, spilled, Under, kindsOf, countsOf, laid, kept, textsOf, group}
+use Rattle.emitter.specs.InnerEmit.{one, writtenOp, writtenOpIfAny, flushedAt, flushedRecords, flushed, opens, flushedIfClosed, Under, kindsOf, countsOf, laid, kept, textsOf, group}
 use Rattle.emitter.specs.declared.core.Emitter.{Emitter}
 use Rattle.emitter.proofs.Loops.{empty-bytes}
 
@@ -36,11 +36,11 @@ one-few (suc c) = omega arith
 -- ---- `enter`, `emit`
 
 module _ (n k kind c : ℕ) (o : List ℕ) where
-  enter-both : {i j : ℕ} {o₁ o₂ : List ℕ} → i ≡ kindsStart + k → j ≡ countsStart n + 2 * k → o₁ ≡ over i (kind ∷ []) o → o₂ ≡ over j (bytes16 c) o₁ → o₂ ≡ entered n k kind c o
+  enter-both : {i j : ℕ} {o₁ o₂ : List ℕ} → i ≡ kindsStart + k → j ≡ countsStart n + 2 * k → o₁ ≡ over i (kind ∷ []) o → o₂ ≡ over j (bytes16 c) o₁ → o₂ ≡ writtenOp n k kind c o
   enter-both f g p q = q ∙ ap₂ (λ j o. over j (bytes16 c) o) g (p ∙ ap (λ i. over i (kind ∷ []) o) f)
 
   -- all three bytes have a place
-  pub enter-in : {i j : ℕ} → i ≡ kindsStart + k → j ≡ countsStart n + 2 * k → set (set (set o i kind) j (c % 256)) (j + 1) (c / 256 % 256) ≡ entered n k kind c o
+  pub enter-in : {i j : ℕ} → i ≡ kindsStart + k → j ≡ countsStart n + 2 * k → set (set (set o i kind) j (c % 256)) (j + 1) (c / 256 % 256) ≡ writtenOp n k kind c o
   enter-in {i} {j} f g = enter-both f g (put-in o i kind) (put16-both j c (set o i kind) (put-in (set o i kind) j (c % 256)) (put-in _ (j + 1) (c / 256 % 256)))
 
   pub enter-low : {j : ℕ} (i : ℕ) → countsStart n + 2 * k + 1 < length o → j ≡ countsStart n + 2 * k → j < length (set o i kind)
@@ -49,22 +49,22 @@ module _ (n k kind c : ℕ) (o : List ℕ) where
   pub enter-high : {j : ℕ} (i v : ℕ) → countsStart n + 2 * k + 1 < length o → j ≡ countsStart n + 2 * k → j + 1 < length (set (set o i kind) j v)
   enter-high {j} i v h g = omega (arith, length-set o i kind, length-set (set o i kind) j v)
 
-  emitted-none : c ≡ 0 → emitted n k kind c o ≡ o
-  unfolding emitted
+  emitted-none : c ≡ 0 → writtenOpIfAny n k kind c o ≡ o
+  unfolding writtenOpIfAny
   emitted-none e = rw e
 
-  emitted-some : 0 < c → emitted n k kind c o ≡ entered n k kind c o
-  unfolding emitted
-  emitted-some h = ifZero-elim (λ q. q ≡ entered n k kind c o) c (λ e. absurd (omega arith)) (λ _. refl)
+  emitted-some : 0 < c → writtenOpIfAny n k kind c o ≡ writtenOp n k kind c o
+  unfolding writtenOpIfAny
+  emitted-some h = ifZero-elim (λ q. q ≡ writtenOp n k kind c o) c (λ e. absurd (omega arith)) (λ _. refl)
 
-  pub emit-none : c ≡ 0 → o ≡ emitted n k kind c o
+  pub emit-none : c ≡ 0 → o ≡ writtenOpIfAny n k kind c o
   emit-none e = sym (emitted-none e)
 
   pub emit-some : {i j : ℕ} {o₁ o₂ : List ℕ} → (c ≡ 0 → ⊥) → i ≡ kindsStart + k → j ≡ countsStart n + 2 * k → o₁ ≡ over i (kind ∷ []) o → o₂ ≡ over j (bytes16 c) o₁
-      → o₂ ≡ emitted n k kind c o
+      → o₂ ≡ writtenOpIfAny n k kind c o
   emit-some z f g p q = enter-both f g p q ∙ sym (emitted-some (omega arith))
 
-  pub emit-in : {i j : ℕ} → (c ≡ 0 → ⊥) → i ≡ kindsStart + k → j ≡ countsStart n + 2 * k → set (set (set o i kind) j (c % 256)) (j + 1) (c / 256 % 256) ≡ emitted n k kind c o
+  pub emit-in : {i j : ℕ} → (c ≡ 0 → ⊥) → i ≡ kindsStart + k → j ≡ countsStart n + 2 * k → set (set (set o i kind) j (c % 256)) (j + 1) (c / 256 % 256) ≡ writtenOpIfAny n k kind c o
   emit-in z f g = enter-in f g ∙ sym (emitted-some (omega arith))
 
 pub set-inside : (o : List ℕ) (i v j : ℕ) → j + 1 < length o → j < length (set o i v)
@@ -82,7 +82,7 @@ module _ (records ins del ret : ℕ) {x y : ℕ} (p : x ≡ records + one ins) (
   pub count-all : {z : ℕ} → z ≡ y + one ret → z ≡ records + one ins + one del + one ret
   count-all r = simp (r, q, p)
 
-  pub flush-all : (n : ℕ) (o : List ℕ) {o₁ o₂ o₃ : List ℕ} → o₁ ≡ emitted n records 2 ins o → o₂ ≡ emitted n x 3 del o₁ → o₃ ≡ emitted n y 1 ret o₂
+  pub flush-all : (n : ℕ) (o : List ℕ) {o₁ o₂ o₃ : List ℕ} → o₁ ≡ writtenOpIfAny n records 2 ins o → o₂ ≡ writtenOpIfAny n x 3 del o₁ → o₃ ≡ writtenOpIfAny n y 1 ret o₂
       → o₃ ≡ flushedAt n records ins del ret o
   unfolding flushedAt
   flush-all n o f g h = simp (h, g, f, q, p)
@@ -90,7 +90,7 @@ module _ (records ins del ret : ℕ) {x y : ℕ} (p : x ≡ records + one ins) (
 -- ---- `close`
 
 -- a record over another at the same place
-enter-again : (n k i c j d : ℕ) (o : List ℕ) → k < n → entered n k i c (entered n k j d o) ≡ entered n k i c o
+enter-again : (n k i c j d : ℕ) (o : List ℕ) → k < n → writtenOp n k i c (writtenOp n k j d o) ≡ writtenOp n k i c o
 enter-again n k i c j d o h =
     let p = kindsStart + k in
     let q = countsStart n + 2 * k in
@@ -98,8 +98,8 @@ enter-again n k i c j d o h =
     ∙ over-again q (bytes16 c) (bytes16 d) (over p (i ∷ []) o) refl
 
 -- so where another follows, a record of count 0 may be written, too
-enter-next : (n k i c j d : ℕ) (o : List ℕ) → k < n → entered n (k + one c) j d (entered n k i c o) ≡ entered n (k + one c) j d (emitted n k i c o)
-unfolding emitted
+enter-next : (n k i c j d : ℕ) (o : List ℕ) → k < n → writtenOp n (k + one c) j d (writtenOp n k i c o) ≡ writtenOp n (k + one c) j d (writtenOpIfAny n k i c o)
+unfolding writtenOpIfAny
 enter-next n k i zero j d o h = rw (add-zero k) (enter-again n k j d i 0 o h)
 enter-next n k i (suc c) j d o h = refl
 
@@ -107,16 +107,16 @@ pub close-count : (records ins del ret : ℕ) {x y : ℕ} → 0 < ret → x ≡ 
 close-count records ins del ret r p q = simp (p, q, one-some ret r)
 
 pub close-all : (n records ins del ret : ℕ) (o : List ℕ) {x y : ℕ} {o₁ o₂ o₃ : List ℕ} → 0 < ret → records + 2 < n → x ≡ one ins → y ≡ one del
-    → o₁ ≡ entered n records 2 ins o → o₂ ≡ entered n (records + x) 3 del o₁ → o₃ ≡ entered n (records + x + y) 1 ret o₂ → o₃ ≡ flushedAt n records ins del ret o
+    → o₁ ≡ writtenOp n records 2 ins o → o₂ ≡ writtenOp n (records + x) 3 del o₁ → o₃ ≡ writtenOp n (records + x + y) 1 ret o₂ → o₃ ≡ flushedAt n records ins del ret o
 unfolding flushedAt
 close-all n records ins del ret o r h p q f g k =
     let x = records + one ins in
-    let u = emitted n records 2 ins o in
-    let v = g ∙ ap₂ (λ i l. entered n (records + i) 3 del l) p f ∙ enter-next n records 2 ins 3 del o (omega arith) in
+    let u = writtenOpIfAny n records 2 ins o in
+    let v = g ∙ ap₂ (λ i l. writtenOp n (records + i) 3 del l) p f ∙ enter-next n records 2 ins 3 del o (omega arith) in
     k
-    ∙ (λ i. entered n (records + p i + q i) 1 ret (v i))
+    ∙ (λ i. writtenOp n (records + p i + q i) 1 ret (v i))
     ∙ enter-next n x 3 del 1 ret u (omega (arith, one-few ins))
-    ∙ sym (emitted-some n (x + one del) 1 ret (emitted n x 3 del u) r)
+    ∙ sym (emitted-some n (x + one del) 1 ret (writtenOpIfAny n x 3 del u) r)
 
 -- ---- `fits`
 
@@ -175,20 +175,20 @@ module _ (e : Emitter) where
   pub opens-less : {x y z : ℕ} → x ≤ 1 → y ≤ 1 → z ≤ 1 → Under (2 ^ 40) e → Under (2 ^ 40 + 3) (again (e .records + x + y + z))
   opens-less p q r u = omega arith
 
-  pub spilled-same : (n : ℕ) (o : List ℕ) → e .ret ≤ 0 → o ≡ spilled n e o
-  unfolding spilled
+  pub spilled-same : (n : ℕ) (o : List ℕ) → e .ret ≤ 0 → o ≡ flushedIfClosed n e o
+  unfolding flushedIfClosed
   spilled-same n o h = let z : e .ret ≡ 0 = omega arith in rw z
 
-  pub spilled-again : (n : ℕ) (o : List ℕ) {o₁ : List ℕ} → 0 < e .ret → o₁ ≡ flushed n e o → o₁ ≡ spilled n e o
-  unfolding spilled
+  pub spilled-again : (n : ℕ) (o : List ℕ) {o₁ : List ℕ} → 0 < e .ret → o₁ ≡ flushed n e o → o₁ ≡ flushedIfClosed n e o
+  unfolding flushedIfClosed
   spilled-again n o h p = p ∙ sym (ifZero-elim (λ w. w ≡ flushed n e o) (e .ret) (λ w. absurd (omega arith)) (λ _. refl))
 
-emitted-over : (n k kind c : ℕ) → emitted n k kind c [] ≡ []
-unfolding emitted
+emitted-over : (n k kind c : ℕ) → writtenOpIfAny n k kind c [] ≡ []
+unfolding writtenOpIfAny
 emitted-over n k kind c = ifZero-elim (λ q. q ≡ []) c (λ _. refl) (λ _. simp over-none)
 
-pub spilled-none : (n : ℕ) (e : Emitter) → spilled n e [] ≡ []
-unfolding spilled flushedAt
+pub spilled-none : (n : ℕ) (e : Emitter) → flushedIfClosed n e [] ≡ []
+unfolding flushedIfClosed flushedAt
 spilled-none n e = ifZero-elim (λ q. q ≡ []) (e .ret) (λ _. refl) (λ _. simp emitted-over)
 
 pub flushed-none : (n : ℕ) (e : Emitter) → flushed n e [] ≡ []
@@ -209,7 +209,7 @@ length-counts (o ∷ r) = omega (arith, length-append (countsOf r) (bytes16 (siz
 
 module _ (n : ℕ) (s : Seq) (t out : List ℕ) where
   -- one record more
-  pub lay-record : (o : Op Char) → length s < n → entered n (length s) (code (inBytes o)) (size (inBytes o)) (laid n s t out) ≡ laid n (o ∷ s) t out
+  pub lay-record : (o : Op Char) → length s < n → writtenOp n (length s) (code (inBytes o)) (size (inBytes o)) (laid n s t out) ≡ laid n (o ∷ s) t out
   unfolding laid kindsOf countsOf
   lay-record o h =
       let k = code (inBytes o) ∷ [] in
@@ -255,11 +255,11 @@ module _ (o : Op Char) (s : Seq) where
       none (delete n) e = refl
 
   lay-kept : (n : ℕ) (t out : List ℕ) → length s + one (size (inBytes o)) ≤ n
-      → emitted n (length s) (code (inBytes o)) (size (inBytes o)) (laid n s t out) ≡ laid n (kept o s) t out
+      → writtenOpIfAny n (length s) (code (inBytes o)) (size (inBytes o)) (laid n s t out) ≡ laid n (kept o s) t out
   lay-kept n t out h =
       let c = size (inBytes o) in
       let k = code (inBytes o) in
-      kept-elim (λ u. emitted n (length s) k c (laid n s t out) ≡ laid n u t out) o s (λ e. emitted-none n (length s) k c _ e)
+      kept-elim (λ u. writtenOpIfAny n (length s) k c (laid n s t out) ≡ laid n u t out) o s (λ e. emitted-none n (length s) k c _ e)
       (λ p. emitted-some n (length s) k c _ p ∙ lay-record n s t out o (omega (arith, one-some c p)))
 
 -- ---- the pending group
@@ -293,8 +293,8 @@ module _ (e : Emitter) (x : List Char) (s : Seq) (p : length s ≡ e .records) (
   pub lay-group : (n : ℕ) (t out o : List ℕ) → flushedRecords e ≤ n → o ≡ laid n s t out → flushed n e o ≡ laid n (group x (e .del) (e .ret) s) t out
   unfolding flushedAt inBytes
   lay-group n t out o h w =
-      let a : emitted n (e .records) 2 (e .ins) o ≡ laid n s₁ t out = rw (w, ← p, ← q) (lay-kept (insert x) s n t out (omega (arith, ap one q))) in
-      let b : emitted n (e .records + one (e .ins)) 3 (e .del) (laid n s₁ t out) ≡ laid n s₂ t out = rw (← length-s₁) (lay-kept (delete (e .del)) s₁ n t out (omega (arith, length-s₁))) in
-      let d : emitted n (e .records + one (e .ins) + one (e .del)) 1 (e .ret) (laid n s₂ t out) ≡ laid n (kept (retain (e .ret)) s₂) t out =
+      let a : writtenOpIfAny n (e .records) 2 (e .ins) o ≡ laid n s₁ t out = rw (w, ← p, ← q) (lay-kept (insert x) s n t out (omega (arith, ap one q))) in
+      let b : writtenOpIfAny n (e .records + one (e .ins)) 3 (e .del) (laid n s₁ t out) ≡ laid n s₂ t out = rw (← length-s₁) (lay-kept (delete (e .del)) s₁ n t out (omega (arith, length-s₁))) in
+      let d : writtenOpIfAny n (e .records + one (e .ins) + one (e .del)) 1 (e .ret) (laid n s₂ t out) ≡ laid n (kept (retain (e .ret)) s₂) t out =
       rw (← length-s₂) (lay-kept (retain (e .ret)) s₂ n t out (omega (arith, length-s₂))) in
       rw (a, b) d

@@ -11,7 +11,7 @@ use Rattle.characters.specs.Form.{wellFormed}
 use Rattle.edits.specs.Sequence.{Seq}
 use Rattle.answers.specs.declared.Written.{Written}
 use Rattle.answers.specs.Output.{Out}
-use Rattle.answers.specs.Answer.{writtenOf, number, refused, factOf, first}
+use Rattle.answers.specs.Answer.{writtenOf, number, refused, factOf, orElse}
 use Rattle.answers.specs.InnerGiven.{Gives}
 use Rattle.answers.specs.declared.Refusal.{Refusal}
 use Rattle.answers.specs.declared.Refusal.the-variants.{Utf8, Limit}
@@ -23,7 +23,7 @@ use Rattle.record.specs.Calls.{checkCall}
 use Rattle.record.proofs.Checked.{stopped}
 use Rattle.operational_transform.specs.Calls.{textFault, deliver}
 use Rattle.emitter.specs.declared.core.Emitter.{Emitter}
-use Rattle.emitter.specs.InnerEmit.{Done, Writes, judged}
+use Rattle.emitter.specs.InnerEmit.{Done, Writes, limitsThenRoom}
 use Rattle.emitter.proofs.Delivering.{answered, left-alone, delivered, writing-refused, deliver-refused}
 
 -- an answer taken apart and handed on
@@ -41,7 +41,7 @@ module _ (s : Seq) (o : List ℕ) where
   gives-limit p = rw p (rw (writing-refused 9 (encode s) o (λ z. absurd (omega arith))) (record { answer = refl; out = refl }))
 
   -- 9 and 10 as judged after a run that finds the sizes, and what is written then
-  module _ (e : Emitter) {n : ℕ} (m q : List ℕ) (d : Done n s m e q) (v : Written) (j : v ≡ judged e (length o)) where
+  module _ (e : Emitter) {n : ℕ} (m q : List ℕ) (d : Done n s m e q) (v : Written) (j : v ≡ limitsThenRoom e (length o)) where
     pub gives-refused : (y : Refusal) → v ≡ written.Refused y → Gives (deliver 0 s o) (written.Refused y) o
     gives-refused y z = record { answer = ap writtenOf (sym z) ∙ answered s e o (d .sizes) v j; out = left-alone s e o (d .sizes) v j y z }
 
@@ -68,6 +68,6 @@ module _ (s : Seq) (o : List ℕ) where
   pub no-text : (r : List ℕ) (w : Written) (o′ : List ℕ) → Gives (deliver (textFault r []) s o) w o′ → Gives (deliver (recordFault r) s o) w o′
   no-text r w o′ g = rw (first-none (recordFault r)) at g
     where
-      first-none : (k : ℕ) → first k 0 ≡ k
+      first-none : (k : ℕ) → orElse k 0 ≡ k
       first-none zero = refl
       first-none (suc k) = refl

@@ -13,7 +13,7 @@ use Rattle.buffers.proofs.Tests.{known, le-and}
 use Rattle.edits.specs.Sequence.{Seq}
 use Rattle.record.specs.Layout.{kindsStart, countsStart, textStart}
 use Rattle.record.specs.Record.{inBytes, text}
-use Rattle.emitter.specs.InnerEmit.{kindsOf, countsOf, laid, textsOf, Under, Sizes, Writes, Marked, headed, settledRecords, Done, Staged, settled}
+use Rattle.emitter.specs.InnerEmit.{kindsOf, countsOf, laid, textsOf, Under, Sizes, Writes, Marked, headed, relocatedOps, Done, Staged, relocated}
 use Rattle.emitter.specs.declared.core.Emitter.{Emitter}
 use Rattle.emitter.proofs.Emitting.{length-kinds, length-counts}
 use Rattle.emitter.proofs.Delivering.{text-ahead}
@@ -67,7 +67,7 @@ text-of s = ap (λ u. text (map inBytes u)) (sym (reverse-reverse s)) ∙ text-a
 
 -- `settle_records` with the text in its place gives what a run of as many places as there are operations writes
 pub marked-writes : (slots : ℕ) (s : Seq) (e : Emitter) (stage t out out′ : List ℕ) → Marked slots s stage → Sizes s e → Under (2 ^ 40) e → e .records ≤ slots → textStart slots ≤ length stage → t ≡ text (map inBytes s)
-    → out′ ≡ headed e (settledRecords slots (e .records) (e .records) stage (over (textStart (e .records)) t out)) → Writes (e .records) s out out′
+    → out′ ≡ headed e (relocatedOps slots (e .records) (e .records) stage (over (textStart (e .records)) t out)) → Writes (e .records) s out out′
 unfolding laid
 marked-writes slots s e stage t out out′ g z u few room tt p =
     let o = g .before in
@@ -81,7 +81,7 @@ marked-writes slots s e stage t out out′ g z u few room tt p =
     let tr = tt ∙ text-of s in
     record {
       emitter = e;
-      before = settledRecords slots (e .records) (e .records) stage (over (textStart (e .records)) t out);
+      before = relocatedOps slots (e .records) (e .records) stage (over (textStart (e .records)) t out);
       done = record {
         small = u;
         sizes = z;
@@ -95,8 +95,8 @@ marks {slots} {s} {o} d l = record { before = o; as-long = l; wrote = λ h. d .w
 
 -- and so does `settle` with the stage's text
 pub staged-writes : (slots : ℕ) (s : Seq) (e : Emitter) (stage out out′ : List ℕ) → Staged slots s e stage → e .records ≤ slots → textStart slots + e .text ≤ length stage
-    → out′ ≡ headed e (settled slots (e .records) (e .records) (e .text) stage out) → Writes (e .records) s out out′
-unfolding settled
+    → out′ ≡ headed e (relocated slots (e .records) (e .records) (e .text) stage out) → Writes (e .records) s out out′
+unfolding relocated
 staged-writes slots s e stage out out′ g few room p =
     let d = g .done in
     let o = g .before in
@@ -122,7 +122,7 @@ module _ (slots : ℕ) (e : Emitter) (stage : List ℕ) (v : Bool) (p : v ≡ (l
   pub has-text : textStart slots + e .text ≤ length stage
   has-text = leb→le (textStart slots + e .text) (length stage) (le-and (e .records) slots _ .0 has .1)
 
-  pub settled-writes : (s : Seq) (out out₁ out₂ : List ℕ) → Staged slots s e stage → out₁ ≡ settled slots (e .records) (e .records) (e .text) stage out → out₂ ≡ headed e out₁ → Writes (e .records) s out out₂
+  pub settled-writes : (s : Seq) (out out₁ out₂ : List ℕ) → Staged slots s e stage → out₁ ≡ relocated slots (e .records) (e .records) (e .text) stage out → out₂ ≡ headed e out₁ → Writes (e .records) s out out₂
   settled-writes s out out₁ out₂ g a b = staged-writes slots s e stage out out₂ g has-records has-text (b ∙ ap (headed e) a)
 
 -- ---- `has_place`, `settle`
@@ -138,7 +138,7 @@ part-is : (p q a b m : ℕ) (s o : List ℕ) → p ≡ q → a ≡ b → over p 
 part-is p q a b m s o x y = let z : a + m - a ≡ m = omega arith in λ i. over (x i) (take (z i) (drop (y i) s)) o
 
 pub settles-records : (slots n k : ℕ) (stage o : List ℕ) {a c d : ℕ} {o₁ o₂ : List ℕ} → a ≡ kindsStart + 0 → c ≡ countsStart slots + 2 * 0 → d ≡ countsStart n + 2 * 0
-    → o₁ ≡ over d (take (c + 2 * k - c) (drop c stage)) o → o₂ ≡ over a (take (a + k - a) (drop a stage)) o₁ → o₂ ≡ settledRecords slots n k stage o
+    → o₁ ≡ over d (take (c + 2 * k - c) (drop c stage)) o → o₂ ≡ over a (take (a + k - a) (drop a stage)) o₁ → o₂ ≡ relocatedOps slots n k stage o
 settles-records slots n k stage o {a} {c} {d} pa pc pd q r =
     let a8 : a ≡ kindsStart = omega arith in
     let cs : c ≡ countsStart slots = omega arith in
@@ -148,7 +148,7 @@ settles-records slots n k stage o {a} {c} {d} pa pc pd q r =
     ∙ ap (over kindsStart (take k (drop kindsStart stage))) (q ∙ part-is d (countsStart n) c (countsStart slots) (2 * k) stage o dn cs)
 
 pub settles : (slots n k t : ℕ) (stage o : List ℕ) {a c f x d : ℕ} {o₁ o₂ o₃ : List ℕ} → a ≡ kindsStart + 0 → c ≡ countsStart slots + 2 * 0 → f ≡ textStart slots → x ≡ textStart n → d ≡ countsStart n + 2 * 0
-    → o₁ ≡ over x (take (f + t - f) (drop f stage)) o → o₂ ≡ over d (take (c + 2 * k - c) (drop c stage)) o₁ → o₃ ≡ over a (take (a + k - a) (drop a stage)) o₂ → o₃ ≡ settled slots n k t stage o
-unfolding settled
+    → o₁ ≡ over x (take (f + t - f) (drop f stage)) o → o₂ ≡ over d (take (c + 2 * k - c) (drop c stage)) o₁ → o₃ ≡ over a (take (a + k - a) (drop a stage)) o₂ → o₃ ≡ relocated slots n k t stage o
+unfolding relocated
 settles slots n k t stage o {a} {c} {f} {x} {d} {o₁} pa pc pf px pd p q r =
-    settles-records slots n k stage o₁ pa pc pd q r ∙ ap (settledRecords slots n k stage) (p ∙ part-is x (textStart n) f (textStart slots) t stage o px pf)
+    settles-records slots n k stage o₁ pa pc pd q r ∙ ap (relocatedOps slots n k stage) (p ∙ part-is x (textStart n) f (textStart slots) t stage o px pf)

@@ -15,7 +15,7 @@ use Rattle.answers.specs.declared.Written.{Written}
 use Rattle.answers.specs.declared.Written.the-variants as written
 use Rattle.answers.specs.declared.WrittenPair.{WrittenPair}
 use Rattle.answers.specs.declared.WrittenPair.the-variants as pair
-use Rattle.record.specs.Layout.{kindsStart, countsStart, textStart, maxOps, maxSize, deleteKind, insertKind, retainKind}
+use Rattle.record.specs.Layout.{kindsStart, countsStart, deleteKind, insertKind, retainKind, textStart, maxOps, maxSize}
 use Rattle.record.specs.Record.{text, inBytes, code, inserted}
 use Rattle.emitter.specs.declared.core.Emitter.{Emitter}
 
@@ -25,21 +25,21 @@ abbrev pub one : ℕ → ℕ
 one c = ifZero c 0 1
 
 -- kind and count of record k of n
-abbrev pub entered : ℕ → ℕ → ℕ → ℕ → List ℕ → List ℕ
-entered n k kind c o = over (countsStart n + 2 * k) (bytes16 c) (over (kindsStart + k) (kind ∷ []) o)
+abbrev pub writtenOp : ℕ → ℕ → ℕ → ℕ → List ℕ → List ℕ
+writtenOp n k kind c o = over (countsStart n + 2 * k) (bytes16 c) (over (kindsStart + k) (kind ∷ []) o)
 
 -- a record is written where its count is not 0
-unfoldable pub emitted : ℕ → ℕ → ℕ → ℕ → List ℕ → List ℕ
+unfoldable pub writtenOpIfAny : ℕ → ℕ → ℕ → ℕ → List ℕ → List ℕ
 unfolding over
-emitted n k kind c o = ifZero c o (entered n k kind c o)
+writtenOpIfAny n k kind c o = ifZero c o (writtenOp n k kind c o)
 
 -- how many records there are once the group is flushed, and the buffer then
 abbrev pub flushedRecords : Emitter → ℕ
 flushedRecords e = e .records + one (e .ins) + one (e .del) + one (e .ret)
 
 unfoldable pub flushedAt : ℕ → ℕ → ℕ → ℕ → ℕ → List ℕ → List ℕ
-unfolding emitted
-flushedAt n records ins del ret o = emitted n (records + one ins + one del) retainKind ret (emitted n (records + one ins) deleteKind del (emitted n records insertKind ins o))
+unfolding writtenOpIfAny
+flushedAt n records ins del ret o = writtenOpIfAny n (records + one ins + one del) retainKind ret (writtenOpIfAny n (records + one ins) deleteKind del (writtenOpIfAny n records insertKind ins o))
 
 abbrev pub flushed : ℕ → Emitter → List ℕ → List ℕ
 flushed n e o = flushedAt n (e .records) (e .ins) (e .del) (e .ret) o
@@ -48,9 +48,9 @@ flushed n e o = flushedAt n (e .records) (e .ins) (e .del) (e .ret) o
 unfoldable pub opens : Emitter → Emitter
 opens e = ifZero (e .ret) e (record { ins = 0; del = 0; ret = 0; records = flushedRecords e; text = e .text; base = e .base; target = e .target })
 
-unfoldable pub spilled : ℕ → Emitter → List ℕ → List ℕ
+unfoldable pub flushedIfClosed : ℕ → Emitter → List ℕ → List ℕ
 unfolding flushedAt
-spilled n e o = ifZero (e .ret) o (flushed n e o)
+flushedIfClosed n e o = ifZero (e .ret) o (flushed n e o)
 
 -- the numbers after an insert of `len` bytes and `num` characters, and after a delete of k characters
 abbrev pub insertedBy : ℕ → ℕ → Emitter → Emitter
@@ -170,27 +170,27 @@ pub record Marked (slots : ℕ) (s : Seq) (stage : List ℕ) : Type 0 where
   pub wrote : length s ≤ slots → stage ≡ laid slots (reverse s) (textsOf (reverse s)) before
 
 -- the first k kinds and counts of a record with places for `slots` operations, at their places in one of n
-abbrev pub settledRecords : ℕ → ℕ → ℕ → List ℕ → List ℕ → List ℕ
-settledRecords slots n k stage o = over kindsStart (take k (drop kindsStart stage)) (over (countsStart n) (take (2 * k) (drop (countsStart slots) stage)) o)
+abbrev pub relocatedOps : ℕ → ℕ → ℕ → List ℕ → List ℕ → List ℕ
+relocatedOps slots n k stage o = over kindsStart (take k (drop kindsStart stage)) (over (countsStart n) (take (2 * k) (drop (countsStart slots) stage)) o)
 
 -- and t bytes of its text
-unfoldable pub settled : ℕ → ℕ → ℕ → ℕ → List ℕ → List ℕ → List ℕ
+unfoldable pub relocated : ℕ → ℕ → ℕ → ℕ → List ℕ → List ℕ → List ℕ
 unfolding over
-settled slots n k t stage o = settledRecords slots n k stage (over (textStart n) (take t (drop (textStart slots) stage)) o)
+relocated slots n k t stage o = relocatedOps slots n k stage (over (textStart n) (take t (drop (textStart slots) stage)) o)
 
 -- ---- the answer of a call that would write a record of these sizes: 9, then 10
 
-abbrev pub within : Emitter → Bool
-within e = leb (e .records) maxOps && (leb (e .text) maxSize && (leb (e .base) maxSize && leb (e .target) maxSize))
+abbrev pub withinLimits : Emitter → Bool
+withinLimits e = leb (e .records) maxOps && (leb (e .text) maxSize && (leb (e .base) maxSize && leb (e .target) maxSize))
 
 abbrev pub sizeIn : Emitter → ℕ
 sizeIn e = textStart (e .records) + e .text
 
-unfoldable pub judged : Emitter → ℕ → Written
-judged e room = cond (within e) (cond (leb (sizeIn e) room) (written.Bytes (sizeIn e)) (written.Refused Room)) (written.Refused Limit)
+unfoldable pub limitsThenRoom : Emitter → ℕ → Written
+limitsThenRoom e room = cond (withinLimits e) (cond (leb (sizeIn e) room) (written.Bytes (sizeIn e)) (written.Refused Room)) (written.Refused Limit)
 
 -- ---- what the functions below `transform` promise each other
 
-unfoldable pub judgedBoth : Emitter → Emitter → ℕ → ℕ → WrittenPair
-judgedBoth e f x y =
-    cond (within e && within f) (cond (leb (sizeIn e) x && leb (sizeIn f) y) (pair.Bytes (sizeIn e) (sizeIn f)) (pair.Refused Room)) (pair.Refused Limit)
+unfoldable pub limitsThenRoomBoth : Emitter → Emitter → ℕ → ℕ → WrittenPair
+limitsThenRoomBoth e f x y =
+    cond (withinLimits e && withinLimits f) (cond (leb (sizeIn e) x && leb (sizeIn f) y) (pair.Bytes (sizeIn e) (sizeIn f)) (pair.Refused Room)) (pair.Refused Limit)

@@ -26,7 +26,7 @@ ghost use Rattle.characters.specs.Text.{chars};
 ghost use Rattle.edits.specs.Op.{delete, insert, cut};
 ghost use Rattle.record.specs.Layout.{countsStart, textStart};
 ghost use Rattle.record.specs.InnerFront.{frontOp, Stands, Cut};
-ghost use Rattle.emitter.specs.InnerEmit.{nothing, one, emitted, entered, flushedAt, spilled, Under, opens, insertedBy, deletedBy, Retains, Adds, Finishes, within, sizeIn, judged, headed, settledRecords, settled};
+ghost use Rattle.emitter.specs.InnerEmit.{nothing, one, writtenOpIfAny, writtenOp, flushedAt, flushedIfClosed, Under, opens, insertedBy, deletedBy, Retains, Adds, Finishes, withinLimits, sizeIn, limitsThenRoom, headed, relocatedOps, relocated};
 
 pub struct Emitter {
     // the pending group: bytes of the insert, characters of the delete and of the retain
@@ -40,7 +40,7 @@ pub struct Emitter {
     pub target: usize,
 }
 
-pub fn start() -> Emitter
+pub fn new_emitter() -> Emitter
     ensures { λ r. ⌜ r ≡ nothing ⌝ }
 {
     Emitter {
@@ -56,9 +56,9 @@ pub fn start() -> Emitter
 
 // One record, unless its count is 0: the number of records afterwards. (Its bytes are written out: with `enter` here the compiler no
 // longer inlines `part`.)
-fn emit(out: &mut [u8], n: usize, records: usize, kind: u8, count: usize) -> usize
+fn write_op_if_any(out: &mut [u8], n: usize, records: usize, kind: u8, count: usize) -> usize
     requires { ⌜ (n ≤ 2 ^ 41) × (records ≤ 2 ^ 41) ⌝ }
-    ensures { λ r. ⌜ (r ≡ records + one count) × (r ≤ records + 1) × (now (out .exit) ≡ emitted n records kind count (now (out .entry))) ⌝ }
+    ensures { λ r. ⌜ (r ≡ records + one count) × (r ≤ records + 1) × (now (out .exit) ≡ writtenOpIfAny n records kind count (now (out .entry))) ⌝ }
 {
     if count == 0 {
         return records;
@@ -77,9 +77,9 @@ fn emit(out: &mut [u8], n: usize, records: usize, kind: u8, count: usize) -> usi
 }
 
 // Kind and count of record k of n, which have their places in the buffer.
-pub fn enter(out: &mut [u8], n: usize, k: usize, kind: u8, count: usize)
+pub fn write_op(out: &mut [u8], n: usize, k: usize, kind: u8, count: usize)
     requires { ⌜ (n ≤ 2 ^ 41) × (k ≤ 2 ^ 41) × (countsStart n + 2 * k + 1 < length (now out)) ⌝ }
-    ensures { λ _. ⌜ now (out .exit) ≡ entered n k kind count (now (out .entry)) ⌝ }
+    ensures { λ _. ⌜ now (out .exit) ≡ writtenOp n k kind count (now (out .entry)) ⌝ }
 {
     let at = layout::core::count_place(n, k);
     out[layout::core::kind_place(k)] = kind;
@@ -88,7 +88,7 @@ pub fn enter(out: &mut [u8], n: usize, k: usize, kind: u8, count: usize)
 }
 
 // Whether a group ends with a retain, and three records have their places.
-fn fits(room: usize, n: usize, records: usize, ret: usize) -> bool
+fn group_fits(room: usize, n: usize, records: usize, ret: usize) -> bool
     requires { ⌜ (n ≤ 2 ^ 40) × (records ≤ 2 ^ 40) ⌝ }
     ensures { λ r. ⌜ r ≡ (leb 1 ret && (leb (records + 3) n && leb (countsStart n + 2 * records + 6) room)) ⌝ }
 {
@@ -102,15 +102,22 @@ fn fits(room: usize, n: usize, records: usize, ret: usize) -> bool
 }
 
 // `flush` for such a group. No count is asked about: a record of count 0 is written, too, and the next one over it.
-fn close(out: &mut [u8], n: usize, records: usize, ins: usize, del: usize, ret: usize) -> usize
+fn write_group(
+    out: &mut [u8],
+    n: usize,
+    records: usize,
+    ins: usize,
+    del: usize,
+    ret: usize,
+) -> usize
     requires { ⌜ (n ≤ 2 ^ 40) × (records ≤ 2 ^ 40) × (0 < ret) × (records + 2 < n) × (countsStart n + 2 * records + 5 < length (now out)) ⌝ }
     ensures { λ r. ⌜ (r ≡ records + one ins + one del + one ret) × (r ≤ records + 3) × (now (out .exit) ≡ flushedAt n records ins del ret (now (out .entry))) ⌝ }
 {
-    enter(out, n, records, INSERT, ins);
-    let x = records + some(ins);
-    enter(out, n, x, DELETE, del);
-    let y = x + some(del);
-    enter(out, n, y, RETAIN, ret);
+    write_op(out, n, records, INSERT, ins);
+    let x = records + one_if_any(ins);
+    write_op(out, n, x, DELETE, del);
+    let y = x + one_if_any(del);
+    write_op(out, n, y, RETAIN, ret);
     y + 1
 }
 
@@ -119,18 +126,18 @@ pub fn flush(out: &mut [u8], n: usize, records: usize, ins: usize, del: usize, r
     requires { ⌜ (n ≤ 2 ^ 40) × (records ≤ 2 ^ 40) ⌝ }
     ensures { λ r. ⌜ (r ≡ records + one ins + one del + one ret) × (r ≤ records + 3) × (now (out .exit) ≡ flushedAt n records ins del ret (now (out .entry))) ⌝ }
 {
-    if fits(out.len(), n, records, ret) {
-        return close(out, n, records, ins, del, ret);
+    if group_fits(out.len(), n, records, ret) {
+        return write_group(out, n, records, ins, del, ret);
     }
-    let x = emit(out, n, records, INSERT, ins);
-    let y = emit(out, n, x, DELETE, del);
-    emit(out, n, y, RETAIN, ret)
+    let x = write_op_if_any(out, n, records, INSERT, ins);
+    let y = write_op_if_any(out, n, x, DELETE, del);
+    write_op_if_any(out, n, y, RETAIN, ret)
 }
 
 // A pending retain closes the group: what is added behind it begins another.
-pub fn spill(out: &mut [u8], n: usize, e: Emitter)
+pub fn flush_if_closed(out: &mut [u8], n: usize, e: Emitter)
     requires { ⌜ (n ≤ 2 ^ 40) × Under (2 ^ 40) e ⌝ }
-    ensures { λ _. ⌜ now (out .exit) ≡ spilled n e (now (out .entry)) ⌝ }
+    ensures { λ _. ⌜ now (out .exit) ≡ flushedIfClosed n e (now (out .entry)) ⌝ }
 {
     if 0 < e.ret {
         flush(out, n, e.records, e.ins, e.del, e.ret);
@@ -138,24 +145,24 @@ pub fn spill(out: &mut [u8], n: usize, e: Emitter)
 }
 
 // The same, by `close` where it can. (With it in `part`, too, compose would be slower.)
-fn spill_close(out: &mut [u8], n: usize, e: Emitter)
+fn write_if_closed(out: &mut [u8], n: usize, e: Emitter)
     requires { ⌜ (n ≤ 2 ^ 40) × Under (2 ^ 40) e ⌝ }
-    ensures { λ _. ⌜ now (out .exit) ≡ spilled n e (now (out .entry)) ⌝ }
+    ensures { λ _. ⌜ now (out .exit) ≡ flushedIfClosed n e (now (out .entry)) ⌝ }
 {
-    if fits(out.len(), n, e.records, e.ret) {
-        close(out, n, e.records, e.ins, e.del, e.ret);
+    if group_fits(out.len(), n, e.records, e.ret) {
+        write_group(out, n, e.records, e.ins, e.del, e.ret);
         return;
     }
-    spill(out, n, e);
+    flush_if_closed(out, n, e);
 }
 
-fn some(c: usize) -> usize
+fn one_if_any(c: usize) -> usize
     ensures { λ r. ⌜ (r ≡ one c) × (r ≤ 1) ⌝ }
 {
     if c == 0 { 0 } else { 1 }
 }
 
-fn opened(e: Emitter) -> Emitter
+fn reopened(e: Emitter) -> Emitter
     requires { ⌜ Under (2 ^ 40) e ⌝ }
     ensures { λ r. ⌜ (r ≡ opens e) × Under (2 ^ 40 + 3) r ⌝ }
 {
@@ -166,7 +173,7 @@ fn opened(e: Emitter) -> Emitter
         ins: 0,
         del: 0,
         ret: 0,
-        records: e.records + some(e.ins) + some(e.del) + some(e.ret),
+        records: e.records + one_if_any(e.ins) + one_if_any(e.del) + one_if_any(e.ret),
         text: e.text,
         base: e.base,
         target: e.target,
@@ -178,7 +185,7 @@ pub fn inserted(e: Emitter, len: usize, num: usize) -> Emitter
     requires { ⌜ (len ≤ 2 ^ 18) × (num ≤ 2 ^ 18) × Under (2 ^ 40) e ⌝ }
     ensures { λ r. ⌜ r ≡ insertedBy len num e ⌝ }
 {
-    let g = opened(e);
+    let g = reopened(e);
     Emitter {
         ins: g.ins + len,
         del: g.del,
@@ -195,7 +202,7 @@ fn deleted(e: Emitter, k: usize) -> Emitter
     requires { ⌜ (k ≤ 65536) × Under (2 ^ 40) e ⌝ }
     ensures { λ r. ⌜ r ≡ deletedBy k e ⌝ }
 {
-    let g = opened(e);
+    let g = reopened(e);
     Emitter {
         ins: g.ins,
         del: g.del + k,
@@ -229,7 +236,7 @@ pub fn delete(out: &mut [u8], n: usize, e: Emitter, k: usize) -> Emitter
     if k == 0 {
         return e;
     }
-    spill(out, n, e);
+    flush_if_closed(out, n, e);
     deleted(e, k)
 }
 
@@ -250,13 +257,13 @@ pub fn insert(
     if len == 0 {
         return e;
     }
-    spill(out, n, e);
+    flush_if_closed(out, n, e);
     buffers::core::copy(out, layout::core::text_start(n) + e.text, src, from, to);
     inserted(e, len, num)
 }
 
 // The first k characters of the front's operation, whose text ends at `mid`.
-pub fn part(
+pub fn push(
     out: &mut [u8],
     n: usize,
     e: Emitter,
@@ -272,7 +279,7 @@ pub fn part(
     if kind == AT_RETAIN {
         return retain(e, k);
     }
-    spill(out, n, e);
+    flush_if_closed(out, n, e);
     if kind == AT_INSERT {
         let from = f.from;
         buffers::core::copy(out, layout::core::text_start(n) + e.text, src, from, mid);
@@ -282,7 +289,7 @@ pub fn part(
 }
 
 // The same where the buffer has no place for text: none is copied.
-pub fn mark(
+pub fn push_without_text(
     out: &mut [u8],
     n: usize,
     e: Emitter,
@@ -298,7 +305,7 @@ pub fn mark(
     if kind == AT_RETAIN {
         return retain(e, k);
     }
-    spill_close(out, n, e);
+    write_if_closed(out, n, e);
     if kind == AT_INSERT {
         return inserted(e, mid - f.from, k);
     }
@@ -324,7 +331,7 @@ pub fn finish(out: &mut [u8], n: usize, e: Emitter) -> Emitter
 
 // Whether what was emitted keeps the limits.
 pub fn keeps_limits(e: Emitter) -> bool
-    ensures { λ r. ⌜ r ≡ within e ⌝ }
+    ensures { λ r. ⌜ r ≡ withinLimits e ⌝ }
 {
     if MAX_OPS < e.records {
         return false;
@@ -347,9 +354,9 @@ pub fn size(e: Emitter) -> usize
 }
 
 // The answer of a call that would write what was emitted: 9, then 10.
-pub fn judge(e: Emitter, room: usize) -> Written
+pub fn limits_then_room(e: Emitter, room: usize) -> Written
     requires { ⌜ Under (2 ^ 40) e ⌝ }
-    ensures { λ r. ⌜ r ≡ judged e room ⌝ }
+    ensures { λ r. ⌜ r ≡ limitsThenRoom e room ⌝ }
 {
     if !keeps_limits(e) {
         return Written::Refused(Refusal::Limit);
@@ -362,7 +369,7 @@ pub fn judge(e: Emitter, room: usize) -> Written
 }
 
 // The sizes, at the front of the record.
-pub fn header(out: &mut [u8], e: Emitter)
+pub fn write_header(out: &mut [u8], e: Emitter)
     requires { ⌜ Under (2 ^ 40) e ⌝ }
     ensures { λ _. ⌜ now (out .exit) ≡ headed e (now (out .entry)) ⌝ }
 {
@@ -374,7 +381,7 @@ pub fn header(out: &mut [u8], e: Emitter)
 
 // A record may be written before its number of records is known: to a stage that has places for `slots` of them. Whether all of it
 // has a place in a stage of `room` bytes.
-pub fn has_place(e: Emitter, slots: usize, room: usize) -> bool
+pub fn fits_stage(e: Emitter, slots: usize, room: usize) -> bool
     requires { ⌜ (slots ≤ 2 ^ 40) × Under (2 ^ 40) e ⌝ }
     ensures { λ r. ⌜ r ≡ (leb (e .records) slots && leb (textStart slots + e .text) room) ⌝ }
 {
@@ -385,9 +392,9 @@ pub fn has_place(e: Emitter, slots: usize, room: usize) -> bool
 }
 
 // From a record with places for `slots` records the first k counts and kinds go to their places in one of n.
-pub fn settle_records(out: &mut [u8], n: usize, stage: &[u8], slots: usize, k: usize)
+pub fn relocate_ops(out: &mut [u8], n: usize, stage: &[u8], slots: usize, k: usize)
     requires { ⌜ (n ≤ 2 ^ 40) × (slots ≤ 2 ^ 40) × (k ≤ slots) × (textStart slots ≤ length (now stage)) ⌝ }
-    ensures { λ _. ⌜ now (out .exit) ≡ settledRecords slots n k (now (stage .entry)) (now (out .entry)) ⌝ }
+    ensures { λ _. ⌜ now (out .exit) ≡ relocatedOps slots n k (now (stage .entry)) (now (out .entry)) ⌝ }
 {
     let kinds = layout::core::kind_place(0);
     let from = layout::core::count_place(slots, 0);
@@ -402,9 +409,9 @@ pub fn settle_records(out: &mut [u8], n: usize, stage: &[u8], slots: usize, k: u
 }
 
 // The text, too. (Written out: what calls this calls nothing below it.)
-pub fn settle(out: &mut [u8], n: usize, stage: &[u8], slots: usize, k: usize, text: usize)
+pub fn relocate(out: &mut [u8], n: usize, stage: &[u8], slots: usize, k: usize, text: usize)
     requires { ⌜ (n ≤ 2 ^ 40) × (slots ≤ 2 ^ 40) × (k ≤ slots) × (textStart slots + text ≤ length (now stage)) ⌝ }
-    ensures { λ _. ⌜ now (out .exit) ≡ settled slots n k text (now (stage .entry)) (now (out .entry)) ⌝ }
+    ensures { λ _. ⌜ now (out .exit) ≡ relocated slots n k text (now (stage .entry)) (now (out .entry)) ⌝ }
 {
     let kinds = layout::core::kind_place(0);
     let counts = layout::core::count_place(slots, 0);

@@ -22,25 +22,25 @@ ghost use Rattle.characters.specs.Text.{chars as charsOf};
 ghost use Rattle.edits.specs.Invert.{invert as invertOf};
 ghost use Rattle.answers.specs.InnerGiven.{Gives};
 ghost use Rattle.answers.specs.Answer.{writtenOf};
-ghost use Rattle.record.specs.Layout.{recordsOf, baseOf, textStart, maxOps, maxSize};
+ghost use Rattle.record.specs.Layout.{recordsOf, maxOps, baseOf, textStart, maxSize};
 ghost use Rattle.record.specs.Record.{ops, recordFault};
 ghost use Rattle.operational_transform.specs.Calls.{deliver, invertCall};
 ghost use Rattle.emitter.specs.InnerEmit.{Under, Adds, Done, Writes};
 ghost use Rattle.invert_in_place.specs.InnerInverting.{taken, undone, lastRetain};
 
 // The place in the text behind what the operation takes from it.
-fn past(text: &[u8], chars: usize, at: usize, f: Front) -> usize
+fn after_taken(text: &[u8], chars: usize, at: usize, f: Front) -> usize
     requires { ⌜ (chars ≡ numChars (now text)) × (at ≤ length (now text)) × T (wellFormed (drop at (now text))) ⌝ }
     ensures { λ to. ⌜ Passes (now (text .entry)) at (taken f) to ⌝ }
 {
     if f.kind == AT_INSERT {
         return at;
     }
-    invert_in_place::core::behind(text, chars, at, f.left)
+    invert_in_place::core::skip_chars(text, chars, at, f.left)
 }
 
 // How many characters text[at..to] has: the k that were to be passed, unless the text ran out.
-fn passed(text: &[u8], at: usize, k: usize, to: usize) -> usize
+fn chars_between(text: &[u8], at: usize, k: usize, to: usize) -> usize
     requires { ⌜ Passes (now text) at k to ⌝ }
     ensures { λ r. ⌜ r ≡ numChars (take (to - at) (drop at (now (text .entry)))) ⌝ }
 {
@@ -51,7 +51,7 @@ fn passed(text: &[u8], at: usize, k: usize, to: usize) -> usize
 }
 
 // What undoes the operation, which takes text[at..to].
-fn give(
+fn emit_inverse(
     text: &[u8],
     out: &mut [u8],
     n: usize,
@@ -70,7 +70,7 @@ fn give(
     if kind == AT_INSERT {
         return emitter::core::delete(out, n, e, f.left);
     }
-    let num = passed(text, at, f.left, to);
+    let num = chars_between(text, at, f.left, to);
     emitter::core::insert(out, n, e, text, at, to, num)
 }
 
@@ -85,20 +85,27 @@ fn is_last_retain(f: Front, records: usize) -> bool
 }
 
 // All of invert, for a result of n records.
-fn run(rec: &[u8], records: usize, text: &[u8], chars: usize, out: &mut [u8], n: usize) -> Emitter
+fn invert_into(
+    rec: &[u8],
+    records: usize,
+    text: &[u8],
+    chars: usize,
+    out: &mut [u8],
+    n: usize,
+) -> Emitter
     requires { ⌜ (recordFault (now rec) ≡ 0) × (records ≡ recordsOf (now rec)) × (records ≤ maxOps) × T (wellFormed (now text)) × (chars ≡ numChars (now text)) × (n ≤ 2 ^ 40) ⌝ }
     ensures { λ r. ⌜ Done n (invertOf (ops (now (rec .entry))) (charsOf (now (text .entry)))) (now (out .entry)) r (now (out .exit)) ⌝ }
 {
-    let mut e = emitter::core::start();
-    let mut f = reader::core::first(rec, records);
+    let mut e = emitter::core::new_emitter();
+    let mut f = reader::core::first_front(rec, records);
     let mut at = 0;
     while f.kind != AT_END {
         if is_last_retain(f, records) {
             let d = emitter::core::retain(e, f.left);
             return emitter::core::finish(out, n, d);
         }
-        let to = past(text, chars, at, f);
-        e = give(text, out, n, e, f, at, to);
+        let to = after_taken(text, chars, at, f);
+        e = emit_inverse(text, out, n, e, f, at, to);
         f = reader::core::load(rec, records, f.next, f.to);
         at = to;
     }
@@ -110,13 +117,13 @@ fn write(rec: &[u8], records: usize, text: &[u8], chars: usize, out: &mut [u8], 
     requires { ⌜ (recordFault (now rec) ≡ 0) × (records ≡ recordsOf (now rec)) × (records ≤ maxOps) × T (wellFormed (now text)) × (chars ≡ numChars (now text)) × (n ≤ 2 ^ 40) ⌝ }
     ensures { λ _. ⌜ Writes n (invertOf (ops (now (rec .entry))) (charsOf (now (text .entry)))) (now (out .entry)) (now (out .exit)) ⌝ }
 {
-    let e = run(rec, records, text, chars, out, n);
-    emitter::core::header(out, e);
+    let e = invert_into(rec, records, text, chars, out, n);
+    emitter::core::write_header(out, e);
 }
 
 // Whether nothing can be refused: on a text of base characters the inverse has as many records as the record, and no more text
 // than the text.
-fn evident(rec: &[u8], records: usize, text: &[u8], chars: usize, room: usize) -> bool
+fn surely_fits(rec: &[u8], records: usize, text: &[u8], chars: usize, room: usize) -> bool
     requires { ⌜ (recordFault (now rec) ≡ 0) × (records ≤ maxOps) ⌝ }
     ensures { λ r. ⌜ r ≡ (eqb chars (baseOf (now (rec .entry))) && (leb (length (now (text .entry))) maxSize && leb (textStart records + length (now (text .entry))) room)) ⌝ }
 {
@@ -130,13 +137,19 @@ fn evident(rec: &[u8], records: usize, text: &[u8], chars: usize, room: usize) -
 }
 
 // Else a first run yields the sizes and writes nothing.
-fn twice(rec: &[u8], records: usize, text: &[u8], chars: usize, out: &mut [u8]) -> Written
+fn measure_then_write(
+    rec: &[u8],
+    records: usize,
+    text: &[u8],
+    chars: usize,
+    out: &mut [u8],
+) -> Written
     requires { ⌜ (recordFault (now rec) ≡ 0) × (records ≡ recordsOf (now rec)) × (records ≤ maxOps) × T (wellFormed (now text)) × (chars ≡ numChars (now text)) ⌝ }
     ensures { λ r. ⌜ Gives (deliver 0 (invertOf (ops (now (rec .entry))) (charsOf (now (text .entry)))) (now (out .entry))) r (now (out .exit)) ⌝ }
 {
     let mut none = [0u8; 0];
-    let e = run(rec, records, text, chars, &mut none, records);
-    match emitter::core::judge(e, out.len()) {
+    let e = invert_into(rec, records, text, chars, &mut none, records);
+    match emitter::core::limits_then_room(e, out.len()) {
         Written::Refused(x) => Written::Refused(x),
         Written::Bytes(k) => {
             write(rec, records, text, chars, out, e.records);
@@ -151,10 +164,10 @@ fn inverted(rec: &[u8], text: &[u8], chars: usize, out: &mut [u8]) -> Written
     ensures { λ r. ⌜ Gives (deliver 0 (invertOf (ops (now (rec .entry))) (charsOf (now (text .entry)))) (now (out .entry))) r (now (out .exit)) ⌝ }
 {
     let records = reader::core::records(rec);
-    if evident(rec, records, text, chars, out.len()) {
-        return invert_in_place::core::straight(rec, records, text, chars, out);
+    if surely_fits(rec, records, text, chars, out.len()) {
+        return invert_in_place::core::write_in_place(rec, records, text, chars, out);
     }
-    twice(rec, records, text, chars, out)
+    measure_then_write(rec, records, text, chars, out)
 }
 
 // The sequence that undoes the record's on the text that it was applied to.

@@ -34,18 +34,18 @@ use Rattle.record.proofs.Records.{ops-base, ops-good, ops-length, ops-target}
 use Rattle.record.proofs.Sequences.{fits-limits}
 use Rattle.reader.proofs.Fronts.{begins-none, Begins, begins-retain, begins-delete, load-room, begins-well, begins-insert, place-start, ops-start}
 use Rattle.operational_transform.specs.Calls.{deliver}
-use Rattle.emitter.specs.InnerEmit.{entered, textsOf, laid}
+use Rattle.emitter.specs.InnerEmit.{writtenOp, textsOf, laid}
 use Rattle.emitter.specs.declared.core.Emitter.{Emitter}
 use Rattle.emitter.proofs.Emitting.{lay-record, lay-text}
 use Rattle.emitter.proofs.Delivering.{text-ahead}
 use Rattle.invert_in_place.specs.InnerInverting.{Restores, deleteBehind, apart, Reached, Undone, restored, Undoes}
-use Rattle.invert_in_place.specs.declared.core.State.{State}
+use Rattle.invert_in_place.specs.declared.core.Inversion.{Inversion}
 use Rattle.invert_in_place.proofs.Passing.{part-wide}
 use Rattle.invert_in_place.proofs.Inverses.{invert-base, invert-target, enough as enough-chars, inverse-text, straight-gives}
 
 -- ---- `restore`, `delete_follows`
 
-pub restores : (n : ℕ) (t : List ℕ) (k at put count to : ℕ) (o : List ℕ) {o₁ o′ : List ℕ} → Passes t at count to → o₁ ≡ entered n k 2 (to - at) o → o′ ≡ over put (take (to - at) (drop at t)) o₁ → Restores n t k at put count o to o′
+pub restores : (n : ℕ) (t : List ℕ) (k at put count to : ℕ) (o : List ℕ) {o₁ o′ : List ℕ} → Passes t at count to → o₁ ≡ writtenOp n k 2 (to - at) o → o′ ≡ over put (take (to - at) (drop at t)) o₁ → Restores n t k at put count o to o′
 restores n t k at put count to o p q w = record { passes = p; wrote = w ∙ ap (over put (take (to - at) (drop at t))) q }
 
 module _ (r : List ℕ) (n k : ℕ) where
@@ -104,13 +104,13 @@ add-pair y m t r s f p l h =
 
 -- with its text behind the text
 lay-all : (n : ℕ) (s : Seq) (out : List ℕ) → length s < n → (o : Op Char)
-    → over (textStart n + length (textsOf s)) (inserted (inBytes o)) (entered n (length s) (code (inBytes o)) (size (inBytes o)) (laid n s (textsOf s) out)) ≡ laid n (o ∷ s) (textsOf (o ∷ s)) out
+    → over (textStart n + length (textsOf s)) (inserted (inBytes o)) (writtenOp n (length s) (code (inBytes o)) (size (inBytes o)) (laid n s (textsOf s) out)) ≡ laid n (o ∷ s) (textsOf (o ∷ s)) out
 unfolding textsOf
 lay-all n s out h o =
     ap (over (textStart n + length (textsOf s)) (inserted (inBytes o))) (lay-record n s (textsOf s) out o h) ∙ lay-text n (o ∷ s) (textsOf s) out (inserted (inBytes o)) h
 
 -- two records in either order
-swap : (n k i c j d : ℕ) (o : List ℕ) → k + 1 < n → entered n k i c (entered n (k + 1) j d o) ≡ entered n (k + 1) j d (entered n k i c o)
+swap : (n k i c j d : ℕ) (o : List ℕ) → k + 1 < n → writtenOp n k i c (writtenOp n (k + 1) j d o) ≡ writtenOp n (k + 1) j d (writtenOp n k i c o)
 swap n k i c j d o h =
     let k₀ = kindsStart + k in
     let k₁ = kindsStart + (k + 1) in
@@ -173,7 +173,7 @@ goes-none : (t : List ℕ) (at : ℕ) (q : Seq) (x : List Char) → at ≤ lengt
 goes-none t at q x h w e = rw e (record { inside = h; well = w; enough = zero-le; same = refl })
 
 -- the records ahead begin with p
-module _ {n : ℕ} {r t : List ℕ} {s : State} (g : Reached n r t s) {p : Op Char} {to : ℕ} (b : Begins r (s .k) (s .from) p to) where
+module _ {n : ℕ} {r t : List ℕ} {s : Inversion} (g : Reached n r t s) {p : Op Char} {to : ℕ} (b : Begins r (s .k) (s .from) p to) where
   links : Links (p ∷ opsLeft r (s .k + 1) to)
   links = built-links (p ∷ opsLeft r (s .k + 1) to) (rw (b .has) at (g .built))
 
@@ -184,7 +184,7 @@ module _ {n : ℕ} {r t : List ℕ} {s : State} (g : Reached n r t s) {p : Op Ch
   goes-on : {end : ℕ} → Passes t (s .at) (takes p) end → Goes t end (opsLeft r (s .k + 1) to) (drop (takes p) (chars (drop (s .at) t)))
   goes-on v = goes-passes t (s .at) (takes p) _ (opsLeft r (s .k + 1) to) v enough
 
-module _ {n : ℕ} {r t o₀ : List ℕ} {s : State} {o : List ℕ} (g : Undone n r t o₀ s o) {p : Op Char} {to : ℕ} (b : Begins r (s .k) (s .from) p to) where
+module _ {n : ℕ} {r t o₀ : List ℕ} {s : Inversion} {o : List ℕ} (g : Undone n r t o₀ s o) {p : Op Char} {to : ℕ} (b : Begins r (s .k) (s .from) p to) where
   abbrev x : List Char
   x = chars (drop (s .at) t)
 
@@ -198,7 +198,7 @@ module _ {n : ℕ} {r t o₀ : List ℕ} {s : State} {o : List ℕ} (g : Undone 
   loose = rw (b .has) at (g .loose)
 
   one-more : s .k < n → (end put : ℕ) (o′ : List ℕ) → Goes t end q (drop (takes p) x) → T (apart (y ∷ g .held) q) → put ≡ s .put + length (inserted (inBytes y)) → put ≤ textStart n + end
-      → o′ ≡ over (s .put) (inserted (inBytes y)) (entered n (s .k) (code (inBytes y)) (size (inBytes y)) o)
+      → o′ ≡ over (s .put) (inserted (inBytes y)) (writtenOp n (s .k) (code (inBytes y)) (size (inBytes y)) o)
       → Undone n r t o₀ (record { k = s .k + 1; from = to; at = end; put = put }) o′
   unfolding addAll textsOf
   one-more h end put o′ e a m few w =
@@ -225,12 +225,12 @@ module _ {n : ℕ} {r t o₀ : List ℕ} {s : State} {o : List ℕ} (g : Undone 
             ∙ g .all;
         wrote =
             w
-            ∙ (λ i. over (g .texts i) (inserted (inBytes y)) (entered n (sym (g .many) i) (code (inBytes y)) (size (inBytes y)) (g .wrote i)))
+            ∙ (λ i. over (g .texts i) (inserted (inBytes y)) (writtenOp n (sym (g .many) i) (code (inBytes y)) (size (inBytes y)) (g .wrote i)))
             ∙ lay-all n (g .held) o₀ (omega (arith, g .many)) y;
       }
 
 -- an insert, and the delete behind it
-module _ {n : ℕ} {r t o₀ : List ℕ} {s : State} {o : List ℕ} (g : Undone n r t o₀ s o) (h : s .k + 1 < n) {y : List Char} {to m : ℕ} (b : Begins r (s .k) (s .from) (insert y) to) (d : Begins r (s .k + 1) to (delete m) to) where
+module _ {n : ℕ} {r t o₀ : List ℕ} {s : Inversion} {o : List ℕ} (g : Undone n r t o₀ s o) (h : s .k + 1 < n) {y : List Char} {to m : ℕ} (b : Begins r (s .k) (s .from) (insert y) to) (d : Begins r (s .k + 1) to (delete m) to) where
   abbrev q₂ : Seq
   q₂ = opsLeft r (s .k + 1 + 1) to
 
@@ -243,7 +243,7 @@ module _ {n : ℕ} {r t o₀ : List ℕ} {s : State} {o : List ℕ} (g : Undone 
   room : m + base q₂ ≤ length (chars (drop (s .at) t))
   room = omega (arith, enough (g .reached) b, ap base (d .has))
 
-  two-more : (end : ℕ) (o₁ o′ : List ℕ) → o₁ ≡ entered n (s .k + 1) 3 (length y) o → Restores n t (s .k) (s .at) (s .put) m o₁ end o′
+  two-more : (end : ℕ) (o₁ o′ : List ℕ) → o₁ ≡ writtenOp n (s .k + 1) 3 (length y) o → Restores n t (s .k) (s .at) (s .put) m o₁ end o′
       → Undone n r t o₀ (record { k = s .k + 1 + 1; from = to; at = end; put = s .put + (end - s .at) }) o′
   unfolding addAll textsOf inBytes
   two-more end o₁ o′ w v =
@@ -281,12 +281,12 @@ module _ {n : ℕ} {r t o₀ : List ℕ} {s : State} {o : List ℕ} (g : Undone 
             ∙ g .all;
         wrote =
             v .wrote
-            ∙ (λ i. over (g .texts i) (v .passes .part i) (entered n (sym (g .many) i) 2 (wide i) (w i)))
-            ∙ (λ i. lay (entered n (length old) 2 (length (bytes z)) (entered n (sym (g .many) i + 1) 3 l (g .wrote i))))
+            ∙ (λ i. over (g .texts i) (v .passes .part i) (writtenOp n (sym (g .many) i) 2 (wide i) (w i)))
+            ∙ (λ i. lay (writtenOp n (length old) 2 (length (bytes z)) (writtenOp n (sym (g .many) i + 1) 3 l (g .wrote i))))
             ∙ ap lay
             (swap n (length old) 2 (length (bytes z)) 3 l (laid n old texts o₀) (omega (arith, g .many))
-            ∙ ap (entered n (length old + 1) 3 l) (lay-record n old texts o₀ (insert z) (omega (arith, g .many)))
-            ∙ ap (λ k. entered n k 3 l (laid n (insert z ∷ old) texts o₀)) up
+            ∙ ap (writtenOp n (length old + 1) 3 l) (lay-record n old texts o₀ (insert z) (omega (arith, g .many)))
+            ∙ ap (λ k. writtenOp n k 3 l (laid n (insert z ∷ old) texts o₀)) up
             ∙ lay-record n (insert z ∷ old) texts o₀ (delete l) (omega (arith, g .many)))
             ∙ lay-text n new texts o₀ (bytes z) (omega (arith, g .many))
             ∙ ap (λ u. laid n new u o₀) (sym (append-nil (texts ++ bytes z)));
@@ -295,8 +295,8 @@ module _ {n : ℕ} {r t o₀ : List ℕ} {s : State} {o : List ℕ} (g : Undone 
 -- ---- `undo_insert`, `undo`
 
 -- the record at k, as the code finds it
-module _ (n : ℕ) (r t : List ℕ) (s : State) (g : Reached n r t s) (e : n ≡ recordsOf r) (h : s .k < n) (kind count : ℕ) (q : kind ≡ kindAt r (s .k)) (c : count ≡ countAt r (s .k)) (small : count < 65536) (o : List ℕ) where
-  module _ (z : kind ≡ 1) (o′ : List ℕ) (w : o′ ≡ entered n (s .k) 1 count o) where
+module _ (n : ℕ) (r t : List ℕ) (s : Inversion) (g : Reached n r t s) (e : n ≡ recordsOf r) (h : s .k < n) (kind count : ℕ) (q : kind ≡ kindAt r (s .k)) (c : count ≡ countAt r (s .k)) (small : count < 65536) (o : List ℕ) where
+  module _ (z : kind ≡ 1) (o′ : List ℕ) (w : o′ ≡ writtenOp n (s .k) 1 count o) where
     retains : Begins r (s .k) (s .from) (retain count) (s .from)
     retains = begins-retain r n (s .k) (s .from) kind count e (g .place) h q c small z
 
@@ -331,20 +331,20 @@ module _ (n : ℕ) (r t : List ℕ) (s : State) (g : Reached n r t s) (e : n ≡
               (next-delete count 0 (opsLeft r (s .k + 1) (s .from)) (links g deletes .1))
               (ap (λ i. s .put + i) wide)
               (omega (arith, g .few, v .passes .above))
-              (v .wrote ∙ (λ i. over (s .put) (v .passes .part i) (entered n (s .k) 2 (wide i) o)));
+              (v .wrote ∙ (λ i. over (s .put) (v .passes .part i) (writtenOp n (s .k) 2 (wide i) o)));
         }
 
-    pub undoes-delete : (u : State) (o′ : List ℕ) → u ≡ restored s (u .at) → Restores n t (s .k) (s .at) (s .put) count o (u .at) o′ → Undoes n r t s o u o′
+    pub undoes-delete : (u : Inversion) (o′ : List ℕ) → u ≡ restored s (u .at) → Restores n t (s .k) (s .at) (s .put) count o (u .at) o′ → Undoes n r t s o u o′
     undoes-delete u o′ p v = there p (deleted (u .at) o′ v)
       where
-        there : {u₁ u₂ : State} → u₁ ≡ u₂ → Undoes n r t s o u₂ o′ → Undoes n r t s o u₁ o′
+        there : {u₁ u₂ : Inversion} → u₁ ≡ u₂ → Undoes n r t s o u₂ o′ → Undoes n r t s o u₁ o′
         there p w = rw p w
 
   pub kind-insert : (kind ≡ 1 → ⊥) → (kind ≡ 3 → ⊥) → kindAt r (s .k) ≡ 2
   kind-insert x z = let i : s .k < recordsOf r = omega arith in let f = sound-next r (s .k) i (g .place .sound) in omega (arith, f .least, f .most)
 
 -- an insert
-module _ (n : ℕ) (r t : List ℕ) (s : State) (g : Reached n r t s) (e : n ≡ recordsOf r) (h : s .k < n) (count : ℕ) (q : kindAt r (s .k) ≡ 2) (c : count ≡ countAt r (s .k)) (small : count < 65536) where
+module _ (n : ℕ) (r t : List ℕ) (s : Inversion) (g : Reached n r t s) (e : n ≡ recordsOf r) (h : s .k < n) (count : ℕ) (q : kindAt r (s .k) ≡ 2) (c : count ≡ countAt r (s .k)) (small : count < 65536) where
   pub text-in : s .from + count ≤ length r
   text-in = load-room r n (s .k) (s .from) 2 count e (g .place) h (sym q) c small refl
 
@@ -358,7 +358,7 @@ module _ (n : ℕ) (r t : List ℕ) (s : State) (g : Reached n r t s) (e : n ≡
     as-many : num ≡ length (chars typed)
     as-many = m ∙ sym (chars-length typed (begins-well r n (s .k) (s .from) 2 count e (g .place) h (sym q) c small refl))
 
-    pub undoes-insert : v ≡ false → (o′ : List ℕ) → o′ ≡ entered n (s .k) 3 num o → Undoes n r t s o (record { k = s .k + 1; from = s .from + count; at = s .at; put = s .put }) o′
+    pub undoes-insert : v ≡ false → (o′ : List ℕ) → o′ ≡ writtenOp n (s .k) 3 num o → Undoes n r t s o (record { k = s .k + 1; from = s .from + count; at = s .at; put = s .put }) o′
     unfolding inBytes
     undoes-insert y o′ w =
         record {
@@ -369,7 +369,7 @@ module _ (n : ℕ) (r t : List ℕ) (s : State) (g : Reached n r t s) (e : n ≡
               (lone r n (s .k) (s .from + count) e (inserts .place) (sym f ∙ y) (chars typed) (links g inserts .1))
               (omega arith)
               (g .few)
-              (w ∙ ap (λ j. entered n (s .k) 3 j o) as-many ∙ sym (over-nil (s .put) _));
+              (w ∙ ap (λ j. writtenOp n (s .k) 3 j o) as-many ∙ sym (over-nil (s .put) _));
         }
 
     module _ (y : v ≡ true) where
@@ -382,14 +382,14 @@ module _ (n : ℕ) (r t : List ℕ) (s : State) (g : Reached n r t s) (e : n ≡
       pub next-room : textStart n ≤ length o → countsStart n + 2 * (s .k + 1) + 1 < length o
       next-room i = omega (arith, more-follow)
 
-      pub undoes-pair : (more : ℕ) → more ≡ countAt r (s .k + 1) → more < 65536 → (o₁ : List ℕ) → o₁ ≡ entered n (s .k + 1) 3 num o → (to : ℕ) (o′ : List ℕ) → Restores n t (s .k) (s .at) (s .put) more o₁ to o′
+      pub undoes-pair : (more : ℕ) → more ≡ countAt r (s .k + 1) → more < 65536 → (o₁ : List ℕ) → o₁ ≡ writtenOp n (s .k + 1) 3 num o → (to : ℕ) (o′ : List ℕ) → Restores n t (s .k) (s .at) (s .put) more o₁ to o′
           → Undoes n r t s o (record { k = s .k + 2; from = s .from + count; at = to; put = s .put + (to - s .at) }) o′
       undoes-pair more d l o₁ w to o′ x =
           let k : s .k + 2 ≡ s .k + 1 + 1 = omega arith in
           let b = begins-delete r n (s .k + 1) (s .from + count) 3 more e (inserts .place) more-follow (sym (found r n (s .k) (sym f ∙ y) .1)) d l (λ i. absurd (omega arith)) (λ i. absurd (omega arith)) in
           record {
             forth = omega arith;
-            keeps = λ o₀ u. rw k (two-more u more-follow inserts b to o₁ o′ (w ∙ ap (λ j. entered n (s .k + 1) 3 j o) as-many) x);
+            keeps = λ o₀ u. rw k (two-more u more-follow inserts b to o₁ o′ (w ∙ ap (λ j. writtenOp n (s .k + 1) 3 j o) as-many) x);
           }
 
 -- ---- `straight`
@@ -417,14 +417,14 @@ module _ (n : ℕ) (r t : List ℕ) (z : recordFault r ≡ 0) (e : n ≡ records
           wrote = sym (simp over-nil);
         }
 
-  pub put-above : (o : List ℕ) (s : State) (o′ : List ℕ) → Undone n r t o s o′ → start ≤ s .put
+  pub put-above : (o : List ℕ) (s : Inversion) (o′ : List ℕ) → Undone n r t o s o′ → start ≤ s .put
   put-above o s o′ g = omega (arith, g .texts)
 
-pub undone-more : (n : ℕ) (r t o : List ℕ) (s : State) (o₁ : List ℕ) → Undone n r t o s o₁ → (u : State) (o₂ : List ℕ) → Undoes n r t s o₁ u o₂ → Undone n r t o u o₂
+pub undone-more : (n : ℕ) (r t o : List ℕ) (s : Inversion) (o₁ : List ℕ) → Undone n r t o s o₁ → (u : Inversion) (o₂ : List ℕ) → Undoes n r t s o₁ u o₂ → Undone n r t o u o₂
 undone-more n r t o s o₁ g u o₂ w = w .keeps o g
 
 -- all is undone, and the sizes are written
-module _ (n : ℕ) (r t : List ℕ) (z : recordFault r ≡ 0) (e : n ≡ recordsOf r) (w : T (wellFormed t)) (num : ℕ) (c : num ≡ numChars t) (b : num ≡ baseOf r) (l : length t ≤ 32768) (o : List ℕ) (room : textStart n + length t ≤ length o) (start : ℕ) (ps : start ≡ textStart n) (s : State) (o₁ : List ℕ) (g : Undone n r t o s o₁) (h : n ≤ s .k) where
+module _ (n : ℕ) (r t : List ℕ) (z : recordFault r ≡ 0) (e : n ≡ recordsOf r) (w : T (wellFormed t)) (num : ℕ) (c : num ≡ numChars t) (b : num ≡ baseOf r) (l : length t ≤ 32768) (o : List ℕ) (room : textStart n + length t ≤ length o) (start : ℕ) (ps : start ≡ textStart n) (s : Inversion) (o₁ : List ℕ) (g : Undone n r t o s o₁) (h : n ≤ s .k) where
   is-held : invert (ops r) (chars t) ≡ reverse (g .held)
   unfolding invert build addAll
   is-held = ap reverse (sym (ap (λ q. addAll (g .held) (undoAll q (chars (drop (s .at) t)))) (sym (begins-none r n (s .k) (s .from) e h)) ∙ g .all))

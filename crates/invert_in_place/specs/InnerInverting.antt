@@ -15,11 +15,11 @@ use Rattle.edits.specs.Sequence.{Seq}
 use Rattle.edits.specs.Build.{addAll}
 use Rattle.edits.specs.Invert.{undoAll}
 use Rattle.record.specs.declared.core.Front.{Front}
-use Rattle.record.specs.Layout.{kindAt, textStart, deleteKind, insertKind, retainKind}
+use Rattle.record.specs.Layout.{insertKind, retainKind, kindAt, deleteKind, textStart}
 use Rattle.record.specs.InnerFront.{opsLeft, Place}
 use Rattle.record.specs.Record.{ops}
-use Rattle.emitter.specs.InnerEmit.{entered, textsOf, laid}
-use Rattle.invert_in_place.specs.declared.core.State.{State}
+use Rattle.emitter.specs.InnerEmit.{writtenOp, textsOf, laid}
+use Rattle.invert_in_place.specs.declared.core.Inversion.{Inversion}
 
 -- how many characters the front's operation takes from the text, and what undoes it where the text goes on with `t`
 abbrev pub taken : Front → ℕ
@@ -41,14 +41,14 @@ deleteBehind r n k = cond (leb n (k + 1)) false (eqb (kindAt r (k + 1)) deleteKi
 -- record k inserts `count` characters of the text from `at` up to `to`; its text stands at `put`
 pub record Restores (n : ℕ) (t : List ℕ) (k at put count : ℕ) (o : List ℕ) (to : ℕ) (o′ : List ℕ) : Type 0 where
   pub passes : Passes t at count to
-  pub wrote : o′ ≡ over put (take (to - at) (drop at t)) (entered n k insertKind (to - at) o)
+  pub wrote : o′ ≡ over put (take (to - at) (drop at t)) (writtenOp n k insertKind (to - at) o)
 
 -- the state then
-abbrev pub restored : State → ℕ → State
+abbrev pub restored : Inversion → ℕ → Inversion
 restored s to = record { k = s .k + 1; from = s .from; at = to; put = s .put + (to - s .at) }
 
 -- a state in going through: the text has the characters that the records ahead take
-pub record Reached (n : ℕ) (r t : List ℕ) (s : State) : Type 0 where
+pub record Reached (n : ℕ) (r t : List ℕ) (s : Inversion) : Type 0 where
   pub place : Place r (s .k) (s .from)
   pub built : Built (opsLeft r (s .k) (s .from))
   pub inside : s .at ≤ length t
@@ -64,7 +64,7 @@ apart (insert x ∷ r) s = next (delete 0) s
 apart (delete m ∷ r) s = next (delete 0) s
 
 -- what undoes the records gone through is held, and stands at its place over `o`
-pub record Undone (n : ℕ) (r t o : List ℕ) (s : State) (o′ : List ℕ) : Type 0 where
+pub record Undone (n : ℕ) (r t o : List ℕ) (s : Inversion) (o′ : List ℕ) : Type 0 where
   pub reached : Reached n r t s
   pub held : Seq
   pub many : length held ≡ s .k
@@ -74,6 +74,6 @@ pub record Undone (n : ℕ) (r t o : List ℕ) (s : State) (o′ : List ℕ) : T
   pub wrote : o′ ≡ laid n held (textsOf held) o
 
 -- one or two records further
-pub record Undoes (n : ℕ) (r t : List ℕ) (s : State) (o : List ℕ) (u : State) (o′ : List ℕ) : Type 0 where
+pub record Undoes (n : ℕ) (r t : List ℕ) (s : Inversion) (o : List ℕ) (u : Inversion) (o′ : List ℕ) : Type 0 where
   pub forth : s .k < u .k
   pub keeps : (o₀ : List ℕ) → Undone n r t o₀ s o → Undone n r t o₀ u o′

@@ -13,14 +13,14 @@ ghost use Rattle.characters.specs.InnerPlaces.{Passes};
 ghost use Rattle.characters.specs.Text.{chars as charsOf};
 ghost use Rattle.edits.specs.Invert.{invert as invertOf};
 ghost use Rattle.answers.specs.InnerGiven.{Gives};
-ghost use Rattle.record.specs.Layout.{textStart, recordsOf, kindAt, countAt, baseOf, maxOps, maxSize};
+ghost use Rattle.record.specs.Layout.{textStart, maxOps, maxSize, recordsOf, kindAt, countAt, baseOf};
 ghost use Rattle.record.specs.Record.{recordFault, ops};
 ghost use Rattle.operational_transform.specs.Calls.{deliver};
 ghost use Rattle.invert_in_place.specs.InnerInverting.{Restores, restored, deleteBehind, Reached, Undoes};
 
 // The place k characters behind `at`, or the end where they run out. The text has `chars` characters: where that is its length in
 // bytes each is one byte.
-pub fn behind(text: &[u8], chars: usize, at: usize, k: usize) -> usize
+pub fn skip_chars(text: &[u8], chars: usize, at: usize, k: usize) -> usize
     requires { ⌜ (chars ≡ numChars (now text)) × (at ≤ length (now text)) × T (wellFormed (drop at (now text))) ⌝ }
     ensures { λ to. ⌜ Passes (now (text .entry)) at k to ⌝ }
 {
@@ -32,7 +32,7 @@ pub fn behind(text: &[u8], chars: usize, at: usize, k: usize) -> usize
 
 // How far the record and the text were gone through: the next record, the places of the next insert's text and of the next
 // character, and the place of the next byte of text in the output.
-struct State {
+struct Inversion {
     k: usize,
     from: usize,
     at: usize,
@@ -53,19 +53,26 @@ fn restore(
     requires { ⌜ (chars ≡ numChars (now text)) × (at ≤ length (now text)) × T (wellFormed (drop at (now text))) × (n ≤ maxOps) × (k < n) × (textStart n ≤ length (now out)) × (put ≤ 2 ^ 50) ⌝ }
     ensures { λ to. ⌜ Restores n (now (text .entry)) k at put count (now (out .entry)) to (now (out .exit)) ⌝ }
 {
-    let to = behind(text, chars, at, count);
-    emitter::core::enter(out, n, k, INSERT, to - at);
+    let to = skip_chars(text, chars, at, count);
+    emitter::core::write_op(out, n, k, INSERT, to - at);
     buffers::core::copy(out, put, text, at, to);
     to
 }
 
 // A delete of `count` characters that no insert stands before.
-fn undo_delete(text: &[u8], chars: usize, out: &mut [u8], n: usize, s: State, count: usize) -> State
+fn undo_delete(
+    text: &[u8],
+    chars: usize,
+    out: &mut [u8],
+    n: usize,
+    s: Inversion,
+    count: usize,
+) -> Inversion
     requires { ⌜ (chars ≡ numChars (now text)) × (s .at ≤ length (now text)) × T (wellFormed (drop (s .at) (now text))) × (length (now text) ≤ maxSize) × (n ≤ maxOps) × (s .k < n) × (textStart n ≤ length (now out)) × (s .put ≤ textStart n + s .at) ⌝ }
     ensures { λ u. ⌜ (u ≡ restored s (u .at)) × Restores n (now (text .entry)) (s .k) (s .at) (s .put) count (now (out .entry)) (u .at) (now (out .exit)) ⌝ }
 {
     let to = restore(text, chars, out, n, s.k, s.at, s.put, count);
-    State {
+    Inversion {
         k: s.k + 1,
         from: s.from,
         at: to,
@@ -91,9 +98,9 @@ fn undo_insert(
     text: &[u8],
     chars: usize,
     out: &mut [u8],
-    s: State,
+    s: Inversion,
     count: usize,
-) -> State
+) -> Inversion
     requires { ⌜ (recordFault (now rec) ≡ 0) × (n ≡ recordsOf (now rec)) × (chars ≡ numChars (now text)) × (length (now text) ≤ maxSize) × (textStart n ≤ length (now out)) × Reached n (now rec) (now text) s × (s .k < n) × (kindAt (now rec) (s .k) ≡ 2) × (count ≡ countAt (now rec) (s .k)) × (count < 65536) ⌝ }
     ensures { λ u. ⌜ Undoes n (now (rec .entry)) (now (text .entry)) s (now (out .entry)) u (now (out .exit)) ⌝ }
 {
@@ -102,17 +109,17 @@ fn undo_insert(
     if delete_follows(rec, n, k) {
         let next = k + 1;
         let more = reader::core::count(rec, n, next);
-        emitter::core::enter(out, n, next, DELETE, num);
+        emitter::core::write_op(out, n, next, DELETE, num);
         let to = restore(text, chars, out, n, k, s.at, s.put, more);
-        return State {
+        return Inversion {
             k: k + 2,
             from: s.from + count,
             at: to,
             put: s.put + (to - s.at),
         };
     }
-    emitter::core::enter(out, n, k, DELETE, num);
-    State {
+    emitter::core::write_op(out, n, k, DELETE, num);
+    Inversion {
         k: k + 1,
         from: s.from + count,
         at: s.at,
@@ -121,24 +128,24 @@ fn undo_insert(
 }
 
 // The next operation, or an insert and the delete behind it. Behind a last retain no character is asked for.
-fn undo(rec: &[u8], n: usize, text: &[u8], chars: usize, out: &mut [u8], s: State) -> State
+fn undo(rec: &[u8], n: usize, text: &[u8], chars: usize, out: &mut [u8], s: Inversion) -> Inversion
     requires { ⌜ (recordFault (now rec) ≡ 0) × (n ≡ recordsOf (now rec)) × (chars ≡ numChars (now text)) × (length (now text) ≤ maxSize) × (textStart n ≤ length (now out)) × Reached n (now rec) (now text) s × (s .k < n) ⌝ }
     ensures { λ u. ⌜ Undoes n (now (rec .entry)) (now (text .entry)) s (now (out .entry)) u (now (out .exit)) ⌝ }
 {
     let kind = reader::core::kind(rec, s.k);
     let count = reader::core::count(rec, n, s.k);
     if kind == RETAIN {
-        emitter::core::enter(out, n, s.k, RETAIN, count);
+        emitter::core::write_op(out, n, s.k, RETAIN, count);
         if s.k + 1 == n {
-            return State {
+            return Inversion {
                 k: s.k + 1,
                 from: s.from,
                 at: s.at,
                 put: s.put,
             };
         }
-        let to = behind(text, chars, s.at, count);
-        return State {
+        let to = skip_chars(text, chars, s.at, count);
+        return Inversion {
             k: s.k + 1,
             from: s.from,
             at: to,
@@ -152,12 +159,18 @@ fn undo(rec: &[u8], n: usize, text: &[u8], chars: usize, out: &mut [u8], s: Stat
 }
 
 // Where nothing can be refused each record is written to its place at once.
-pub fn straight(rec: &[u8], records: usize, text: &[u8], chars: usize, out: &mut [u8]) -> Written
+pub fn write_in_place(
+    rec: &[u8],
+    records: usize,
+    text: &[u8],
+    chars: usize,
+    out: &mut [u8],
+) -> Written
     requires { ⌜ (recordFault (now rec) ≡ 0) × (records ≡ recordsOf (now rec)) × (records ≤ maxOps) × T (wellFormed (now text)) × (chars ≡ numChars (now text)) × (chars ≡ baseOf (now rec)) × (length (now text) ≤ maxSize) × (textStart records + length (now text) ≤ length (now out)) ⌝ }
     ensures { λ r. ⌜ Gives (deliver 0 (invertOf (ops (now (rec .entry))) (charsOf (now (text .entry)))) (now (out .entry))) r (now (out .exit)) ⌝ }
 {
     let start = layout::core::text_start(records);
-    let mut s = State {
+    let mut s = Inversion {
         k: 0,
         from: start,
         at: 0,

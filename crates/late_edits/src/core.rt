@@ -36,7 +36,7 @@ const MEDIUM_STAGE: usize = HEADER + OP_BYTES * MEDIUM_OPS;
 const LARGE_STAGE: usize = HEADER + OP_BYTES * MAX_OPS;
 
 // In buffers of any length: one run, which keeps the counterparts, too.
-fn short(
+fn try_in(
     edit: &[u8],
     r: u64,
     log: &mut [u8],
@@ -56,7 +56,7 @@ fn short(
     if cur.len() < size {
         return Tried::Short;
     }
-    append::core::lay(cur, edit);
+    append::core::load_edit(cur, edit);
     match rebase::core::rebase(log, s.at, n, edit, cur, next, side, parts, slots) {
         Run::Refused(x) => Tried::Refused(x),
         Run::Kept(bytes) => append::core::deliver(edit, r, log, s, out, cur, parts, bytes),
@@ -65,7 +65,7 @@ fn short(
 }
 
 // The run once more, now that all is decided: the counterparts go to the output.
-fn again(
+fn write_again(
     edit: &[u8],
     r: u64,
     log: &mut [u8],
@@ -84,14 +84,14 @@ fn again(
     if !append::core::has_room(log, s.size, size, out, bytes) {
         return WrittenPair::Refused(Refusal::Room);
     }
-    append::core::lay(cur, edit);
+    append::core::load_edit(cur, edit);
     rebase::core::rebase(log, s.at, n, edit, cur, next, side, out, MAX_OPS);
     append::core::append(log, s, cur, size);
     WrittenPair::Bytes(size, bytes)
 }
 
 // In buffers in which every record has a place: the first run keeps no counterparts.
-fn long(
+fn in_full_buffers(
     edit: &[u8],
     r: u64,
     log: &mut [u8],
@@ -106,26 +106,40 @@ fn long(
     ensures { λ x. ⌜ Accepts (now (edit .entry)) r (now (log .entry)) (now (out .entry)) x (now (log .exit)) (now (out .exit)) ⌝ }
 {
     let mut none = [0u8; 0];
-    append::core::lay(cur, edit);
+    append::core::load_edit(cur, edit);
     match rebase::core::rebase(log, s.at, n, edit, cur, next, side, &mut none, MAX_OPS) {
         Run::Refused(x) => WrittenPair::Refused(x),
-        Run::Kept(bytes) => again(edit, r, log, s, n, out, cur, next, side, bytes),
+        Run::Kept(bytes) => write_again(edit, r, log, s, n, out, cur, next, side, bytes),
         // never: every record has a place
         Run::Short => WrittenPair::Refused(Refusal::Room),
     }
 }
 
-pub fn large(edit: &[u8], r: u64, log: &mut [u8], s: Scan, n: usize, out: &mut [u8]) -> WrittenPair
+pub fn in_large_buffers(
+    edit: &[u8],
+    r: u64,
+    log: &mut [u8],
+    s: Scan,
+    n: usize,
+    out: &mut [u8],
+) -> WrittenPair
     requires { ⌜ Admitted (now edit) r (now log) s × (n ≡ countOf (now log) - r) ⌝ }
     ensures { λ x. ⌜ Accepts (now (edit .entry)) r (now (log .entry)) (now (out .entry)) x (now (log .exit)) (now (out .exit)) ⌝ }
 {
     let mut cur = [0u8; MAX_RECORD];
     let mut next = [0u8; LARGE_STAGE];
     let mut side = [0u8; LARGE_STAGE];
-    long(edit, r, log, s, n, out, &mut cur, &mut next, &mut side)
+    in_full_buffers(edit, r, log, s, n, out, &mut cur, &mut next, &mut side)
 }
 
-pub fn medium(edit: &[u8], r: u64, log: &mut [u8], s: Scan, n: usize, out: &mut [u8]) -> WrittenPair
+pub fn in_medium_buffers(
+    edit: &[u8],
+    r: u64,
+    log: &mut [u8],
+    s: Scan,
+    n: usize,
+    out: &mut [u8],
+) -> WrittenPair
     requires { ⌜ Admitted (now edit) r (now log) s × (n ≡ countOf (now log) - r) ⌝ }
     ensures { λ x. ⌜ Accepts (now (edit .entry)) r (now (log .entry)) (now (out .entry)) x (now (log .exit)) (now (out .exit)) ⌝ }
 {
@@ -133,7 +147,7 @@ pub fn medium(edit: &[u8], r: u64, log: &mut [u8], s: Scan, n: usize, out: &mut 
     let mut next = [0u8; MEDIUM_STAGE];
     let mut side = [0u8; MEDIUM_STAGE];
     let mut parts = [0u8; MEDIUM_PARTS];
-    match short(
+    match try_in(
         edit,
         r,
         log,
@@ -148,11 +162,18 @@ pub fn medium(edit: &[u8], r: u64, log: &mut [u8], s: Scan, n: usize, out: &mut 
     ) {
         Tried::Bytes(k, l) => WrittenPair::Bytes(k, l),
         Tried::Refused(x) => WrittenPair::Refused(x),
-        Tried::Short => large(edit, r, log, s, n, out),
+        Tried::Short => in_large_buffers(edit, r, log, s, n, out),
     }
 }
 
-pub fn small(edit: &[u8], r: u64, log: &mut [u8], s: Scan, n: usize, out: &mut [u8]) -> WrittenPair
+pub fn in_small_buffers(
+    edit: &[u8],
+    r: u64,
+    log: &mut [u8],
+    s: Scan,
+    n: usize,
+    out: &mut [u8],
+) -> WrittenPair
     requires { ⌜ Admitted (now edit) r (now log) s × (n ≡ countOf (now log) - r) ⌝ }
     ensures { λ x. ⌜ Accepts (now (edit .entry)) r (now (log .entry)) (now (out .entry)) x (now (log .exit)) (now (out .exit)) ⌝ }
 {
@@ -160,7 +181,7 @@ pub fn small(edit: &[u8], r: u64, log: &mut [u8], s: Scan, n: usize, out: &mut [
     let mut next = [0u8; SMALL_STAGE];
     let mut side = [0u8; SMALL_STAGE];
     let mut parts = [0u8; SMALL_PARTS];
-    match short(
+    match try_in(
         edit,
         r,
         log,
@@ -175,6 +196,6 @@ pub fn small(edit: &[u8], r: u64, log: &mut [u8], s: Scan, n: usize, out: &mut [
     ) {
         Tried::Bytes(k, l) => WrittenPair::Bytes(k, l),
         Tried::Refused(x) => WrittenPair::Refused(x),
-        Tried::Short => medium(edit, r, log, s, n, out),
+        Tried::Short => in_medium_buffers(edit, r, log, s, n, out),
     }
 }

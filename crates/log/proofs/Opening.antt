@@ -10,7 +10,7 @@ use Rattle.buffers.specs.Words.{words}
 use Rattle.buffers.specs.InnerOver.{over, bytes16}
 use Rattle.buffers.specs.Buffers.{atFront}
 use Rattle.buffers.proofs.Over.{over-join, over-front}
-use Rattle.answers.specs.Answer.{gives, refused, needs}
+use Rattle.answers.specs.Answer.{success, refused, needs}
 use Rattle.answers.proofs.Outputs.{writing-stops, writing-short, writing-goes, untouched}
 use Rattle.log.specs.Open.{openCall}
 
@@ -35,11 +35,11 @@ module _ (n : ℕ) (l : List ℕ) where
     open-10 g = writing-short fault header l (rw (le-leb n 32768 h)) g
 
     module _ (g : 4 ≤ length l) where
-      whole : record { answer = gives (4 ∷ []); out = atFront header l } ≡ openCall n l
+      whole : record { answer = success (4 ∷ []); out = atFront header l } ≡ openCall n l
       unfolding openCall
       whole = writing-goes fault header l (rw (le-leb n 32768 h)) g
 
-      pub open-answer : gives (4 ∷ []) ≡ openCall n l .answer
+      pub open-answer : success (4 ∷ []) ≡ openCall n l .answer
       open-answer = ap (λ o. o .answer) whole
 
       pub open-out : (a b : List ℕ) → a ≡ over 0 (bytes16 0) l → b ≡ over 2 (bytes16 n) a → b ≡ openCall n l .out

@@ -5,11 +5,11 @@ use mathlib.Core.List.{List}
 use lib.Dec.{T}
 use lib.ListN.{length}
 use mathlib.Core.Bool.{false}
+use Rattle.record.specs.Layout.{maxSize}
 use Rattle.log.specs.Log.{countOf, startOf, readable, sizeOfLog, placeOf, lengthAt, maxRevisions}
 use Rattle.log.specs.declared.core.Scan.{Scan}
 use Rattle.log.specs.declared.core.Scanned.{Scanned}
 use Rattle.log.specs.declared.core.Scanned.the-variants.{Unreadable, Of}
-use Rattle.record.specs.Layout.{maxSize}
 
 -- a log that can be read: what it states, where it ends, and where revision r does
 pub record Found (l : List ℕ) (r : ℕ) (s : Scan) : Type 0 where

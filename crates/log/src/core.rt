@@ -6,10 +6,10 @@ ghost use Prim.Native.Nat.{_≤_};
 ghost use lib.ListN.{length};
 ghost use mathlib.Core.Bool.{cond};
 ghost use lib.Dec.{eqb};
+ghost use Rattle.record.specs.Layout.{maxSize};
 ghost use Rattle.log.specs.InnerScan.{Scans};
 ghost use Rattle.log.specs.Log.{countOf, startOf, maxRevisions};
 ghost use Rattle.log.specs.InnerSteps.{Steps};
-ghost use Rattle.record.specs.Layout.{maxSize};
 
 // The limit of document 01's refusal 6: at most so many revisions.
 pub const MAX_REVISIONS: usize = 256;
@@ -73,7 +73,7 @@ fn go_through(log: &[u8], count: usize, start: usize, r: u64) -> Scanned
     let mut k = 0;
     while k < count {
         mark = marked(k, r, here, mark);
-        match step(log, here) {
+        match next_revision(log, here) {
             Stepped::Stopped => return Scanned::Unreadable,
             Stepped::On(next) => {
                 here = next;
@@ -108,7 +108,7 @@ fn marked(k: usize, r: u64, here: Spot, kept: Spot) -> Spot
 }
 
 // Past the record that stands here.
-fn step(log: &[u8], here: Spot) -> Stepped
+fn next_revision(log: &[u8], here: Spot) -> Stepped
     requires { ⌜ here .at ≤ length (now log) ⌝ }
     ensures { λ x. ⌜ Steps (now (log .entry)) here x ⌝ }
 {

@@ -16,7 +16,7 @@ use Rattle.characters.proofs.Chars.{num-le}
 use Rattle.edits.specs.Op.{total, base, Op, retain}
 use Rattle.edits.specs.Built.{chained}
 use Rattle.edits.specs.Sequence.{Seq}
-use Rattle.answers.specs.Answer.{refused, gives, number, factOf, noopOf, settle}
+use Rattle.answers.specs.Answer.{refused, success, number, factOf, noopOf, unlessRefused}
 use Rattle.answers.specs.declared.Refusal.{Refusal}
 use Rattle.answers.specs.declared.Fact.{Fact}
 use Rattle.answers.specs.declared.Fact.the-variants as fact
@@ -168,11 +168,11 @@ module _ (r : List ℕ) (n t g : ℕ) (a : Agreed r n t g) (g′ : ℕ) (pg : g�
   check-5′ u =
       rw (a .in-limits, a .is-sound, a .texts, a .chain, eq-eqb (base (byteOps r)) (baseOf r) (a .base-is), ne-eqb (total givesChars (byteOps r)) (targetOf r) (λ z. u (a .target-is ∙ z ∙ sym pg)))
 
-  pub check-0 : (z : ℕ) → z ≡ textStart n → g ≡ g′ → gives ((z + t) ∷ []) ≡ checkCall r
+  pub check-0 : (z : ℕ) → z ≡ textStart n → g ≡ g′ → success ((z + t) ∷ []) ≡ checkCall r
   unfolding checkCall recordFault adds
   check-0 z pz mg =
       rw (a .in-limits, a .is-sound, a .texts, a .chain, eq-eqb (base (byteOps r)) (baseOf r) (a .base-is), eq-eqb (total givesChars (byteOps r)) (targetOf r) (sym (a .target-is) ∙ mg ∙ pg))
-      (ap (λ k. gives (k ∷ [])) (omega (arith, a .records, a .text-bytes)))
+      (ap (λ k. success (k ∷ [])) (omega (arith, a .records, a .text-bytes)))
 
 -- ---- after the check
 
@@ -200,7 +200,7 @@ module _ (r : List ℕ) (f : Fact) (p : factOf f ≡ checkCall r) where
   unfolding checkCall textCall
   text-refused k x q = go (recordFault r) (ap factOf (sym q) ∙ p)
     where
-      go : (m : ℕ) → refused (number x) ≡ settle m refused (gives (sizeOf r ∷ [])) → [] ≡ settle m (λ n. []) (getD (map inserted (byteOps r)) k [])
+      go : (m : ℕ) → refused (number x) ≡ unlessRefused m refused (success (sizeOf r ∷ [])) → [] ≡ unlessRefused m (λ n. []) (getD (map inserted (byteOps r)) k [])
       go zero e = absurd (let z : _≡_ {A = ℕ} 0 1 = cc e in omega arith)
       go (suc m) e = refl
 
@@ -214,13 +214,13 @@ module _ (r : List ℕ) (f : Fact) (p : factOf f ≡ checkCall r) where
     pub passed-kinds : textStart (recordsOf r) ≤ length r
     passed-kinds = omega (arith, passed-sound)
 
-    pub base-is : (b : ℕ) → b ≡ baseOf r → gives (b ∷ []) ≡ baseCall r
+    pub base-is : (b : ℕ) → b ≡ baseOf r → success (b ∷ []) ≡ baseCall r
     unfolding baseCall
-    base-is b e = rw (passed r f p s q) (ap (λ n. gives (n ∷ [])) e)
+    base-is b e = rw (passed r f p s q) (ap (λ n. success (n ∷ [])) e)
 
-    pub target-is : (b : ℕ) → b ≡ targetOf r → gives (b ∷ []) ≡ targetCall r
+    pub target-is : (b : ℕ) → b ≡ targetOf r → success (b ∷ []) ≡ targetCall r
     unfolding targetCall
-    target-is b e = rw (passed r f p s q) (ap (λ n. gives (n ∷ [])) e)
+    target-is b e = rw (passed r f p s q) (ap (λ n. success (n ∷ [])) e)
 
     -- ---- no effect
 
@@ -228,15 +228,15 @@ module _ (r : List ℕ) (f : Fact) (p : factOf f ≡ checkCall r) where
       all-ahead : byteOps r ≡ byteOpsLeft r 0 (textStart (recordsOf r))
       all-ahead = sym (left-all r (passed-sound .adds-up))
 
-      noop-by : (m : ℕ) → noEffect (ops r) ≡ m → gives (m ∷ []) ≡ noopCall r
+      noop-by : (m : ℕ) → noEffect (ops r) ≡ m → success (m ∷ []) ≡ noopCall r
       unfolding noopCall
       noop-by m e = rw ((passed r f p s q), e)
 
-      pub noop-none : n ≡ 0 → gives (1 ∷ []) ≡ noopCall r
+      pub noop-none : n ≡ 0 → success (1 ∷ []) ≡ noopCall r
       unfolding ops
       noop-none z = noop-by 1 (ap (λ q. noEffect (map inChars q)) (all-ahead ∙ left-done r 0 _ (omega arith)))
 
-      pub noop-many : 1 < n → gives (0 ∷ []) ≡ noopCall r
+      pub noop-many : 1 < n → success (0 ∷ []) ≡ noopCall r
       noop-many h = noop-by 0 (go (ops r) (omega (arith, ops-length r (passed r f p s q))))
         where
           go : (s : Seq) → 1 < length s → noEffect s ≡ 0
@@ -249,7 +249,7 @@ module _ (r : List ℕ) (f : Fact) (p : factOf f ≡ checkCall r) where
         unfolding ops inChars
         noop-one = go (eqb kind 1) refl
           where
-            one : (o : Op ℕ) (m at : ℕ) → byteOpsLeft r 0 (textStart (recordsOf r)) ≡ o ∷ byteOpsLeft r 1 at → noEffect (inChars o ∷ []) ≡ m → gives (m ∷ []) ≡ noopCall r
+            one : (o : Op ℕ) (m at : ℕ) → byteOpsLeft r 0 (textStart (recordsOf r)) ≡ o ∷ byteOpsLeft r 1 at → noEffect (inChars o ∷ []) ≡ m → success (m ∷ []) ≡ noopCall r
             one o m at a e = noop-by m (ap (λ q. noEffect (map inChars q)) (all-ahead ∙ a ∙ ap (λ q. o ∷ q) (left-done r 1 at (omega arith))) ∙ e)
 
             go : (b : Bool) → eqb kind 1 ≡ b → noopOf (noop.Is b) ≡ noopCall r
@@ -318,11 +318,11 @@ module _ (r : List ℕ) (k : ℕ) (h : 0 < length (textCall r k)) where
   unfolding textCall
   text-passed = go (recordFault r) h
     where
-      go : (m : ℕ) → 0 < length (settle m (λ n. []) (getD (map inserted (byteOps r)) k [])) → m ≡ 0
+      go : (m : ℕ) → 0 < length (unlessRefused m (λ n. []) (getD (map inserted (byteOps r)) k [])) → m ≡ 0
       go zero l = refl
       go (suc m) l = absurd (omega arith)
 
-  checked : gives (sizeOf r ∷ []) ≡ checkCall r
+  checked : success (sizeOf r ∷ []) ≡ checkCall r
   unfolding checkCall
   checked = rw text-passed
 

@@ -8,7 +8,7 @@ use mathlib.Core.Path.{_≡_}
 use Rattle.buffers.specs.Lists.{allOf}
 use Rattle.characters.specs.Chars.{isCont, numChars}
 use Rattle.record.specs.Record.{Entry, textOf, byteOps, wellInserted, entries, soundEntry, insertBytes}
-use Rattle.record.specs.Layout.{recordsOf, textBytesOf, sizeOf, maxOps, maxSize, insertKind}
+use Rattle.record.specs.Layout.{insertKind, recordsOf, textBytesOf, sizeOf, maxOps, maxSize}
 use Rattle.record.specs.InnerFront.{entriesLeft, byteOpsLeft}
 use Rattle.operation.specs.declared.checks.Inserted.{Inserted}
 use Rattle.operation.specs.declared.checks.Inserted.the-variants.{IllFormed, Chars}

@@ -13,7 +13,7 @@ use Rattle.edits.specs.Apply.{apply}
 use Rattle.edits.specs.Compose.{compose}
 use Rattle.edits.specs.Transform.{transform}
 use Rattle.edits.specs.Invert.{invert}
-use Rattle.answers.specs.Answer.{gives, refused}
+use Rattle.answers.specs.Answer.{success, refused}
 use Rattle.record.specs.Record.{encode}
 use Rattle.operational_transform.specs.Calls.{insertCall, transformCall, retainCall}
 
@@ -69,13 +69,13 @@ pub table :
     × (insertCall empty (0xC0 ∷ 0x80 ∷ []) room .answer ≡ refused 3)
     × (insertCall empty (0xED ∷ 0xA0 ∷ 0x80 ∷ []) room .answer ≡ refused 3)
     × (insertCall empty (0xF4 ∷ 0x90 ∷ 0x80 ∷ 0x80 ∷ []) room .answer ≡ refused 3)
-    × (insertCall empty (0xF4 ∷ 0x8F ∷ 0xBF ∷ 0xBF ∷ []) room .answer ≡ gives (15 ∷ []))
+    × (insertCall empty (0xF4 ∷ 0x8F ∷ 0xBF ∷ 0xBF ∷ []) room .answer ≡ success (15 ∷ []))
     -- T10
     × (transformCall (encode (R 1 ∷ [])) (encode (R 2 ∷ [])) room room .answer ≡ refused 8)
 unfolding build transform compose invert order chars bytes insertCall transformCall encode isCont within leadOf
 table = (refl, refl, refl, refl, refl, refl, refl, refl, refl, refl, refl, refl, refl, refl, refl)
 
 -- "Retain 32,768 on the empty record passes; 32,769 gets 9."
-pub limit : (retainCall empty 32768 room .answer ≡ gives (11 ∷ [])) × (retainCall empty 32769 room .answer ≡ refused 9)
+pub limit : (retainCall empty 32768 room .answer ≡ success (11 ∷ [])) × (retainCall empty 32769 room .answer ≡ refused 9)
 unfolding retainCall
 limit = (refl, refl)

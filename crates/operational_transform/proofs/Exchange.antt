@@ -10,7 +10,7 @@ use Rattle.buffers.specs.Buffers.{atFront}
 use Rattle.characters.specs.Order.{order}
 use Rattle.edits.specs.Transform.{keepBoth, transform}
 use Rattle.edits.proofs.Symmetry.{transform-swaps, order-flips}
-use Rattle.answers.specs.Answer.{Answer, gives, refused, settle, needs}
+use Rattle.answers.specs.Answer.{Answer, success, refused, unlessRefused, needs}
 use Rattle.answers.specs.Output.{Outs, writingBoth}
 use Rattle.answers.specs.Answer as answer
 use Rattle.record.specs.Layout.{baseOf}
@@ -23,15 +23,15 @@ abbrev pub exchanged : Outs → Outs
 exchanged o = record { answer = turned (o .answer); outA = o .outB; outB = o .outA }
   where
     turned : Answer → Answer
-    turned (gives ns) = gives (reverse ns)
+    turned (success ns) = success (reverse ns)
     turned (refused n) = refused n
 
 writing-exchanged : (fault : ℕ) (p q x y : List ℕ) → writingBoth fault q p y x ≡ exchanged (writingBoth fault p q x y)
 unfolding writingBoth
-writing-exchanged fault p q x y = rw (and-comm (leb (length q) (length y)) (leb (length p) (length x))) (go (answer.first fault _))
+writing-exchanged fault p q x y = rw (and-comm (leb (length q) (length y)) (leb (length p) (length x))) (go (answer.orElse fault _))
   where
-    go : (f : ℕ) → settle f (λ n. record { answer = refused n; outA = y; outB = x }) (record { answer = gives (length q ∷ length p ∷ []); outA = atFront q y; outB = atFront p x })
-        ≡ exchanged (settle f (λ n. record { answer = refused n; outA = x; outB = y }) (record { answer = gives (length p ∷ length q ∷ []); outA = atFront p x; outB = atFront q y }))
+    go : (f : ℕ) → unlessRefused f (λ n. record { answer = refused n; outA = y; outB = x }) (record { answer = success (length q ∷ length p ∷ []); outA = atFront q y; outB = atFront p x })
+        ≡ exchanged (unlessRefused f (λ n. record { answer = refused n; outA = x; outB = y }) (record { answer = success (length p ∷ length q ∷ []); outA = atFront p x; outB = atFront q y }))
     go zero = refl
     go (suc f) = refl
 

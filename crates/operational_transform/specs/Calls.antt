@@ -15,22 +15,22 @@ use Rattle.edits.specs.Apply.{apply}
 use Rattle.edits.specs.Compose.{compose}
 use Rattle.edits.specs.Transform.{transform}
 use Rattle.edits.specs.Invert.{invert}
-use Rattle.answers.specs.Answer.{first, needs}
+use Rattle.answers.specs.Answer.{orElse, needs}
 use Rattle.answers.specs.Output.{Out, writing, Outs, writingBoth}
 use Rattle.record.specs.Record.{recordFault, encode, fits, ops}
 use Rattle.record.specs.Layout.{baseOf, targetOf}
 
 -- the operands: two records; a record and a text
 abbrev pub recordsFault : List ℕ → List ℕ → ℕ
-recordsFault a b = first (recordFault a) (recordFault b)
+recordsFault a b = orElse (recordFault a) (recordFault b)
 
 abbrev pub textFault : List ℕ → List ℕ → ℕ
-textFault r t = first (recordFault r) (needs (wellFormed t) 3 0)
+textFault r t = orElse (recordFault r) (needs (wellFormed t) 3 0)
 
 -- a resulting sequence goes to the output as a record, unless it passes a limit (9)
 unfoldable pub deliver : ℕ → Seq → List ℕ → Out
 unfolding writing fits encode
-deliver fault s out = writing (first fault (needs (fits s) 9 0)) (encode s) out
+deliver fault s out = writing (orElse fault (needs (fits s) 9 0)) (encode s) out
 
 -- ---- builders: "the record is checked first, then the inserted text"
 
@@ -51,14 +51,14 @@ insertCall r t out = deliver (textFault r t) (extend (ops r) (insert (chars t)))
 unfoldable pub applyCall : List ℕ → List ℕ → List ℕ → Out
 unfolding writing recordFault ops chars bytes
 applyCall r t out =
-    writing (first (textFault r t) (needs (eqb (numChars t) (baseOf r)) 8 0)) (bytes (apply (ops r) (chars t))) out
+    writing (orElse (textFault r t) (needs (eqb (numChars t) (baseOf r)) 8 0)) (bytes (apply (ops r) (chars t))) out
 
 -- ---- "Refused (8) when the first's target isn't the second's base."
 
 unfoldable pub composeCall : List ℕ → List ℕ → List ℕ → Out
 unfolding deliver recordFault ops compose
 composeCall a b out =
-    deliver (first (recordsFault a b) (needs (eqb (targetOf a) (baseOf b)) 8 0)) (compose (ops a) (ops b)) out
+    deliver (orElse (recordsFault a b) (needs (eqb (targetOf a) (baseOf b)) 8 0)) (compose (ops a) (ops b)) out
 
 -- ---- "Refused (8) when the bases differ."; 9 and 10 where either side asks for it
 
@@ -67,7 +67,7 @@ unfolding writingBoth recordFault ops transform order fits encode
 transformCall a b x y =
     let s = transform order (ops a) (ops b) in
     writingBoth
-    (first (recordsFault a b) (needs (eqb (baseOf a) (baseOf b)) 8 (needs (fits (s .left) && fits (s .right)) 9 0)))
+    (orElse (recordsFault a b) (needs (eqb (baseOf a) (baseOf b)) 8 (needs (fits (s .left) && fits (s .right)) 9 0)))
     (encode (s .left)) (encode (s .right)) x y
 
 -- ---- "the text's length isn't tested"

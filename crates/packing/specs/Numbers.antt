@@ -3,36 +3,36 @@ use Prim.Native.Nat.{ℕ, _+_, _*_, _^_, _-_, _/_, _%_, zero, suc}
 use mathlib.Core.List.{[], _∷_}
 use mathlib.Core.Bool.{cond, Bool, true, false, _&&_}
 use lib.Dec.{leb}
-use Rattle.answers.specs.Answer.{Answer, gives, refused}
+use Rattle.answers.specs.Answer.{Answer, success, refused}
+use Rattle.record.specs.Layout.{maxRecord}
 use Rattle.walker.specs.declared.Found.{Found}
 use Rattle.walker.specs.declared.Found.the-variants.{Op, End}
-use Rattle.record.specs.Layout.{maxRecord}
 use Rattle.log.specs.Log.{maxRevisions}
 
 -- One result stands as it is. Of two, the first is the low 32 bits and the second the high 32. Bit 63 is set where the call is
 -- refused, and the low byte is then the refusal's number.
 abbrev pub packed : Answer → ℕ
-packed (gives []) = 0
-packed (gives (m ∷ [])) = m
-packed (gives (m ∷ n ∷ ns)) = m + 2 ^ 32 * n
+packed (success []) = 0
+packed (success (m ∷ [])) = m
+packed (success (m ∷ n ∷ ns)) = m + 2 ^ 32 * n
 packed (refused n) = 2 ^ 63 + n
 
 -- How a caller reads it: the answer of a call that gives one result, and of one that gives two.
 unfoldable pub readOne : ℕ → Answer
-readOne r = cond (leb (2 ^ 63) r) (refused (r - 2 ^ 63)) (gives (r ∷ []))
+readOne r = cond (leb (2 ^ 63) r) (refused (r - 2 ^ 63)) (success (r ∷ []))
 
 unfoldable pub readTwo : ℕ → Answer
-readTwo r = cond (leb (2 ^ 63) r) (refused (r - 2 ^ 63)) (gives (r % 2 ^ 32 ∷ r / 2 ^ 32 ∷ []))
+readTwo r = cond (leb (2 ^ 63) r) (refused (r - 2 ^ 63)) (success (r % 2 ^ 32 ∷ r / 2 ^ 32 ∷ []))
 
 -- two results, each at most the size of as many of the longest records as a log holds; or a refusal
 abbrev pub most : ℕ
 most = maxRevisions * maxRecord
 
 abbrev pub small : Answer → Bool
-small (gives []) = false
-small (gives (m ∷ [])) = false
-small (gives (m ∷ n ∷ [])) = leb m most && leb n most
-small (gives (m ∷ n ∷ k ∷ ns)) = false
+small (success []) = false
+small (success (m ∷ [])) = false
+small (success (m ∷ n ∷ [])) = leb m most && leb n most
+small (success (m ∷ n ∷ k ∷ ns)) = false
 small (refused n) = true
 
 -- what a step finds: the kind and 256 times the count; 0 at the end

@@ -11,7 +11,7 @@ use Rattle.buffers.specs.Buffers.{atFront}
 use Rattle.buffers.proofs.Over.{length-over, over-front, over-join}
 use Rattle.buffers.proofs.Tests.{known}
 use Rattle.answers.specs.declared.Refusal.{Refusal}
-use Rattle.answers.specs.Answer.{number, gives, refused, needs, first, settle, writtenOf}
+use Rattle.answers.specs.Answer.{number, success, refused, needs, orElse, unlessRefused, writtenOf}
 use Rattle.answers.specs.declared.Written.{Written}
 use Rattle.answers.specs.declared.Written.the-variants as written
 use Rattle.answers.specs.Output.{Out, writing}
@@ -95,7 +95,7 @@ module _ (l : List ℕ) (size : ℕ) (reads : T (readable l)) (es : size ≡ siz
     text = textIn l
 
     abbrev faults : ℕ
-    faults = first (playFault l text 65536 65536) (needs (leb (length (played l text)) (length o)) 10 0)
+    faults = orElse (playFault l text 65536 65536) (needs (leb (length (played l text)) (length o)) 10 0)
 
     same : playCall l (take (length l - size) (drop size l)) (length a) (length b) o ≡ writing (playFault l text 65536 65536) (played l text) o
     unfolding playCall
@@ -106,10 +106,10 @@ module _ (l : List ℕ) (size : ℕ) (reads : T (readable l)) (es : size ≡ siz
     fault-is =
         needs-in (leb (length l) 65536) 10 _ (known (le-leb (length l) 65536 h))
         ∙ needs-in (readable l) 6 _ reads
-        ∙ ap (λ n. first (playFault l text 65536 65536) (needs (leb (length (played l text)) n) 10 0)) (sym eo)
+        ∙ ap (λ n. orElse (playFault l text 65536 65536) (needs (leb (length (played l text)) n) 10 0)) (sym eo)
 
     abbrev outcome : ℕ → Out
-    outcome k = settle k (λ j. record { answer = refused j; out = o }) (record { answer = gives (length (played l text) ∷ []); out = atFront (played l text) o })
+    outcome k = unlessRefused k (λ j. record { answer = refused j; out = o }) (record { answer = success (length (played l text) ∷ []); out = atFront (played l text) o })
 
     module _ (o₁ : List ℕ) (p : o₁ ≡ playCall l (take (length l - size) (drop size l)) (length a) (length b) o .out) where
       pub program-refused : (y : Refusal) → w ≡ written.Refused y → (r : ℕ) (c : List ℕ) → Writes (complaint (number y)) o₁ r c → Writes (program l) o r c
@@ -124,7 +124,7 @@ module _ (l : List ℕ) (size : ℕ) (reads : T (readable l)) (es : size ≡ siz
       unfolding writing program atFront
       program-written n q = go faults fault-is (ap writtenOf (sym q) ∙ pw ∙ ap (λ z. z .answer) same) (p ∙ ap (λ z. z .out) same)
         where
-          go : (k : ℕ) → programFault l ≡ k → gives (n ∷ []) ≡ outcome k .answer → o₁ ≡ outcome k .out → Writes (program l) o n o₁
+          go : (k : ℕ) → programFault l ≡ k → success (n ∷ []) ≡ outcome k .answer → o₁ ≡ outcome k .out → Writes (program l) o n o₁
           go zero f e g =
               let z : n ≡ length (played l text) = cc e in
               rw f (record { size = z; inside = omega (arith, ap length g, length-append (played l text) (drop (length (played l text)) o)); out = g })

@@ -6,7 +6,7 @@ use lib.Dec.{ltb, leb}
 use lib.ListN.{drop, length}
 use mathlib.Core.Path.{_≡_}
 use Rattle.buffers.specs.Buffers.{atFront}
-use Rattle.answers.specs.Answer.{needs, first, settle}
+use Rattle.answers.specs.Answer.{needs, orElse, unlessRefused}
 use Rattle.log.specs.Log.{sizeOfLog, readable}
 use Rattle.session.specs.Session.{playFault, played}
 
@@ -30,12 +30,12 @@ unfolding readable textIn playFault played
 programFault input =
     needs (leb (length input) 65536) 10
     (needs (readable input) 6
-    (first (playFault input (textIn input) 65536 65536) (needs (leb (length (played input (textIn input))) 65536) 10 0)))
+    (orElse (playFault input (textIn input) 65536 65536) (needs (leb (length (played input (textIn input))) 65536) 10 0)))
 
 -- "It writes the played text and no line end", or the complaint
 unfoldable pub program : List ℕ → List ℕ
 unfolding programFault complaint played textIn
-program input = settle (programFault input) complaint (played input (textIn input))
+program input = unlessRefused (programFault input) complaint (played input (textIn input))
 
 -- the bytes w are written to the front of the output o, which is o′ afterwards, and n tells how many they are
 pub record Writes (w o : List ℕ) (n : ℕ) (o′ : List ℕ) : Type 0 where

@@ -14,6 +14,6 @@ pub fn serve(fd: i32) {
     let mut input = space();
     let n = io::read_full(fd, &mut input);
     let mut out = crate::buffer();
-    let len = crate::run(&input[..n], &mut out);
+    let len = crate::play_input(&input[..n], &mut out);
     io::write_all(1, &out[..len]);
 }

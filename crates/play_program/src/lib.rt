@@ -16,7 +16,7 @@ pub mod core;
 pub const MAX_INPUT: usize = 65536;
 
 // From input to output: how many bytes of the output are written.
-pub fn run(input: &[u8], out: &mut [u8; MAX_INPUT]) -> usize
+pub fn play_input(input: &[u8], out: &mut [u8; MAX_INPUT]) -> usize
     ensures { λ n. ⌜ Writes (program (now (input .entry))) (now (out .entry)) n (now (out .exit)) ⌝ }
 {
     if MAX_INPUT < input.len() {

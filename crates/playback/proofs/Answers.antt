@@ -17,7 +17,7 @@ use Rattle.characters.specs.InnerPassed.{formOf}
 use Rattle.characters.specs.Chars.{numChars}
 use Rattle.characters.specs.Text.{chars}
 use Rattle.characters.proofs.Passed.{form-ill, form-well, form-num}
-use Rattle.answers.specs.Answer.{gives, refused}
+use Rattle.answers.specs.Answer.{success, refused}
 use Rattle.answers.proofs.Outputs.{writing-stops, writing-short, writing-goes, untouched}
 use Rattle.log.specs.declared.core.Scan.{Scan}
 use Rattle.log.specs.declared.core.Scanned.{Scanned}
@@ -107,12 +107,12 @@ module _ (l t o : List ℕ) (a b : ℕ) where
                 play-10 i = writing-short (playFault l t a b) (played l t) o no-fault (omega (arith, ends .1))
 
                 module _ (i : n ≤ length o) where
-                  all : record { answer = gives (length (played l t) ∷ []); out = atFront (played l t) o } ≡ playCall l t a b o
+                  all : record { answer = success (length (played l t) ∷ []); out = atFront (played l t) o } ≡ playCall l t a b o
                   unfolding playCall
                   all = writing-goes (playFault l t a b) (played l t) o no-fault (omega (arith, ends .1))
 
-                  pub play-0 : gives (n ∷ []) ≡ playCall l t a b o .answer
-                  play-0 = ap (λ k. gives (k ∷ [])) (ends .1) ∙ ap (λ z. z .answer) all
+                  pub play-0 : success (n ∷ []) ≡ playCall l t a b o .answer
+                  play-0 = ap (λ k. success (k ∷ [])) (ends .1) ∙ ap (λ z. z .answer) all
 
                   pub play-room : 0 + length (take n s′) ≤ length o
                   play-room = omega (arith, ap length (ends .2), ends .1)

@@ -42,7 +42,7 @@ pub fn play(
     if chars != scan.start {
         return Written::Refused(Refusal::IncompatibleLengths);
     }
-    let Reached::Of(n) = run(log, scan.count, text, scratch_a, scratch_b) else {
+    let Reached::Of(n) = play_from_start(log, scan.count, text, scratch_a, scratch_b) else {
         return Written::Refused(Refusal::Room);
     };
     if out.len() < n {
@@ -52,21 +52,21 @@ pub fn play(
     Written::Bytes(n)
 }
 
-fn run(log: &[u8], count: usize, text: &[u8], a: &mut [u8], b: &mut [u8]) -> Reached
+fn play_from_start(log: &[u8], count: usize, text: &[u8], a: &mut [u8], b: &mut [u8]) -> Reached
     requires { ⌜ T (readable (now log)) × (count ≡ countOf (now log)) × T (wellFormed (now text)) × (numChars (now text) ≡ startOf (now log)) ⌝ }
     ensures { λ r. ⌜ Ends (now (log .entry)) (now (text .entry)) (length (now (a .entry))) (length (now (b .entry))) (now (a .exit)) r ⌝ }
 {
     if b.len() < text.len() {
         return Reached::Short;
     }
-    if !hold(a, text) {
+    if !store_text(a, text) {
         return Reached::Short;
     }
-    revise(log, count, text.len(), a, b)
+    play_revisions(log, count, text.len(), a, b)
 }
 
 // All revisions, played on the text a[..n].
-fn revise(log: &[u8], count: usize, n: usize, a: &mut [u8], b: &mut [u8]) -> Reached
+fn play_revisions(log: &[u8], count: usize, n: usize, a: &mut [u8], b: &mut [u8]) -> Reached
     requires { ⌜ T (readable (now log)) × (count ≡ countOf (now log)) × (n ≤ length (now a)) × (n ≤ length (now b)) × T (wellFormed (take n (now a))) × (numChars (take n (now a)) ≡ startOf (now log)) ⌝ }
     ensures { λ r. ⌜ Ends (now (log .entry)) (take n (now (a .entry))) (length (now (a .entry))) (length (now (b .entry))) (now (a .exit)) r ⌝ }
 {
@@ -92,18 +92,18 @@ fn advance(rec: &[u8], n: usize, a: &mut [u8], b: &mut [u8]) -> Reached
     requires { ⌜ (recordFault (now rec) ≡ 0) × (n ≤ length (now a)) × T (wellFormed (take n (now a))) × (numChars (take n (now a)) ≡ baseOf (now rec)) ⌝ }
     ensures { λ r. ⌜ Advances (now (rec .entry)) (take n (now (a .entry))) (length (now (a .entry))) (length (now (b .entry))) (now (a .exit)) r ⌝ }
 {
-    let m = apply::core::run(b, rec, &a[..n]);
+    let m = apply::core::apply_into(b, rec, &a[..n]);
     if b.len() < m {
         return Reached::Short;
     }
-    if !hold(a, &b[..m]) {
+    if !store_text(a, &b[..m]) {
         return Reached::Short;
     }
     Reached::Of(m)
 }
 
 // The text goes to the front of `a`, unless it is too long.
-fn hold(a: &mut [u8], text: &[u8]) -> bool
+fn store_text(a: &mut [u8], text: &[u8]) -> bool
     ensures { λ r. ⌜ Holds (now (text .entry)) (now (a .entry)) (now (a .exit)) r ⌝ }
 {
     if a.len() < text.len() {

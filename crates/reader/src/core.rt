@@ -5,7 +5,7 @@ use record::core::Front;
 ghost use mathlib.Core.Path.{_≡_};
 ghost use Prim.Native.Nat.{_≤_, _<_};
 ghost use lib.ListN.{length};
-ghost use Rattle.record.specs.Layout.{recordsOf, baseOf, targetOf, textBytesOf, sizeOf, kindAt, countAt, maxOps, maxRecord};
+ghost use Rattle.record.specs.Layout.{recordsOf, maxOps, baseOf, targetOf, textBytesOf, sizeOf, maxRecord, kindAt, countAt};
 ghost use Rattle.record.specs.Record.{recordFault, ops};
 ghost use Rattle.record.specs.InnerFront.{Stands, ahead, Place, Loads, Cut, Leaves};
 
@@ -64,7 +64,7 @@ pub fn count(rec: &[u8], n: usize, k: usize) -> usize
 }
 
 // The front of a whole record of n.
-pub fn first(rec: &[u8], n: usize) -> Front
+pub fn first_front(rec: &[u8], n: usize) -> Front
     requires { ⌜ (recordFault (now rec) ≡ 0) × (n ≡ recordsOf (now rec)) × (n ≤ maxOps) ⌝ }
     ensures { λ f. ⌜ Stands (now (rec .entry)) f × (ahead (now (rec .entry)) f ≡ ops (now (rec .entry))) ⌝ }
 {

@@ -22,7 +22,7 @@ use Rattle.record.specs.Record.{recordFault, ops, inBytes, text, encode, fits}
 use Rattle.record.proofs.Records.{ops-base, encode-small, ops-target}
 use Rattle.record.proofs.Faults.{limits, faultless}
 use Rattle.record.proofs.Sequences.{fits-limits}
-use Rattle.emitter.specs.InnerEmit.{within, sizeIn}
+use Rattle.emitter.specs.InnerEmit.{withinLimits, sizeIn}
 use Rattle.emitter.proofs.Counting.{text-left}
 use Rattle.emitter.proofs.Delivering.{sized-fits}
 use Rattle.steps.specs.declared.core.Pair.{Pair}
@@ -32,21 +32,21 @@ use Rattle.log.specs.Log.{readableFrom, encodeAll, editsIn}
 use Rattle.log.proofs.Logs.{encodeAll-append}
 use Rattle.log.proofs.Scanning.{to-end}
 use Rattle.session.specs.Rows.{Moved, rebase, rule}
-use Rattle.rebase.specs.InnerRunning.{Lie, Holds, SameText, Fit, Ready, GoesOn, Runs}
-use Rattle.rebase.specs.declared.core.Spot.{Spot}
+use Rattle.rebase.specs.InnerRunning.{RecordsFollow, Holds, SameText, Fit, Ready, ReplacesEdit, Runs}
+use Rattle.rebase.specs.declared.core.Progress.{Progress}
 use Rattle.rebase.specs.declared.core.Run.the-variants as outcome
 use Rattle.rebase.proofs.Passing.{within-fits}
 
 -- ---- records end to end
 
-pub lie-first : (n len : ℕ) (l : List ℕ) → (n ≡ 0 → ⊥) → Lie n len l → (recordFault l ≡ 0) × (baseOf l ≡ len)
+pub lie-first : (n len : ℕ) (l : List ℕ) → (n ≡ 0 → ⊥) → RecordsFollow n len l → (recordFault l ≡ 0) × (baseOf l ≡ len)
 unfolding readableFrom
 lie-first zero len l h r = absurd (h refl)
 lie-first (suc n) len l h r =
     let (z, m) = both (eqb (recordFault l) 0) _ .0 (r .reads) in
     (eqb→eq (recordFault l) 0 z, eqb→eq (baseOf l) len (both (eqb (baseOf l) len) _ .0 m .0))
 
-pub lie-rest : (n len : ℕ) (l : List ℕ) → Lie (suc n) len l → Lie n (targetOf l) (drop (sizeOf l) l)
+pub lie-rest : (n len : ℕ) (l : List ℕ) → RecordsFollow (suc n) len l → RecordsFollow n (targetOf l) (drop (sizeOf l) l)
 unfolding readableFrom
 lie-rest n len l r = record { reads = both (eqb (baseOf l) len) _ .0 (both (eqb (recordFault l) 0) _ .0 (r .reads) .1) .1 }
 
@@ -55,9 +55,9 @@ abbrev pub behind : List Seq → Moved → Moved
 behind done m = record { edit = m .edit; counterparts = done ++ m .counterparts; kept = m .kept }
 
 -- of n revisions that begin at `from`, `left` are still to come; the counterparts so far stand in `parts`, if they have room there
-pub record Moving (e : Seq) (l : List ℕ) (from n left : ℕ) (spot : Spot) (cur parts₀ parts : List ℕ) : Type 0 where
+pub record Moving (e : Seq) (l : List ℕ) (from n left : ℕ) (spot : Progress) (cur parts₀ parts : List ℕ) : Type 0 where
   pub place : spot .at ≤ length l
-  pub lies : Lie left (baseOf cur) (drop (spot .at) l)
+  pub lies : RecordsFollow left (baseOf cur) (drop (spot .at) l)
   pub holds : Holds (ops cur) cur
   pub same-text : SameText (ops cur) e
   pub done : List Seq
@@ -67,13 +67,13 @@ pub record Moving (e : Seq) (l : List ℕ) (from n left : ℕ) (spot : Spot) (cu
   pub small : spot .bytes ≤ 35848 * length done
   pub given : spot .bytes ≤ length parts₀ → parts ≡ atFront (encodeAll done) parts₀
 
-pub moving-start : (l : List ℕ) (from n : ℕ) (edit cur parts : List ℕ) → from ≤ length l → Lie n (baseOf edit) (drop from l) → recordFault edit ≡ 0 → Holds (ops edit) cur → Moving (ops edit) l from n n (record { at = from; bytes = 0 }) cur parts parts
+pub moving-start : (l : List ℕ) (from n : ℕ) (edit cur parts : List ℕ) → from ≤ length l → RecordsFollow n (baseOf edit) (drop from l) → recordFault edit ≡ 0 → Holds (ops edit) cur → Moving (ops edit) l from n n (record { at = from; bytes = 0 }) cur parts parts
 unfolding encodeAll atFront
 moving-start l from n edit cur parts p q z h =
     let same : baseOf edit ≡ baseOf cur = sym (ops-base edit z) ∙ ap base (sym (h .edit)) ∙ ops-base cur (h .fault) in
     record {
       place = p;
-      lies = subst (λ k. Lie n k (drop from l)) same q;
+      lies = subst (λ k. RecordsFollow n k (drop from l)) same q;
       holds = subst (λ s. Holds s cur) (sym (h .edit)) h;
       same-text = record { same-text = ap (λ s. text (map inBytes s)) (h .edit) };
       done = [];
@@ -84,7 +84,7 @@ moving-start l from n edit cur parts p q z h =
       given = λ _. refl;
     }
 
-module _ (e : Seq) (l : List ℕ) (from n left : ℕ) (spot : Spot) (cur parts₀ parts : List ℕ) (g : Moving e l from n left spot cur parts₀ parts) where
+module _ (e : Seq) (l : List ℕ) (from n left : ℕ) (spot : Progress) (cur parts₀ parts : List ℕ) (g : Moving e l from n left spot cur parts₀ parts) where
   abbrev at : ℕ
   at = spot .at
 
@@ -136,7 +136,7 @@ module _ (e : Seq) (l : List ℕ) (from n left : ℕ) (spot : Spot) (cur parts�
         ap (λ i. rebase (ops cur) (editsIn i (drop at l))) k
         ∙ ap (λ r. let m = rebase (rule (ops cur) (ops r) .left) (editsIn (left - 1) (drop (sizeOf r) (drop at l))) in record { edit = m .edit; counterparts = rule (ops cur) (ops r) .right ∷ m .counterparts; kept = fits (rule (ops cur) (ops r) .left) && (fits (rule (ops cur) (ops r) .right) && m .kept) }) (sym rec-is)
 
-    module _ (p : Pair) (d : SizedBoth s p) (v : Bool) (q : v ≡ (within (p .e) && within (p .f))) where
+    module _ (p : Pair) (d : SizedBoth s p) (v : Bool) (q : v ≡ (withinLimits (p .e) && withinLimits (p .f))) where
       pub moving-stop : (slots room : ℕ) → not v ≡ true → Runs slots room e (editsIn n (drop from l)) (outcome.Refused Limit) cur parts₀ parts
       moving-stop slots room h =
           let z : fits (s .left) && fits (s .right) ≡ false = ap₂ _&&_ (sym (sized-fits (s .left) (p .e) (d .left))) (sym (sized-fits (s .right) (p .f) (d .right))) ∙ sym q ∙ not-true v h in
@@ -150,7 +150,7 @@ module _ (e : Seq) (l : List ℕ) (from n left : ℕ) (spot : Spot) (cur parts�
       module _ (h : not v ≡ false) where
         pub moving-fit : Fit s
         moving-fit =
-            let (a, b) = and-eq-true-iff (within (p .e)) (within (p .f)) .0 (sym q ∙ not-false v h) in
+            let (a, b) = and-eq-true-iff (withinLimits (p .e)) (withinLimits (p .f)) .0 (sym q ∙ not-false v h) in
             record { left = within-fits (s .left) (p .e) (d .left) a; right = within-fits (s .right) (p .f) (d .right) b }
 
         module _ (slots found : ℕ) (u : Bool) (told : u ≡ (leb (p .e .records) slots && (leb (p .f .records) slots && leb (sizeIn (p .e)) found))) where
@@ -180,7 +180,7 @@ module _ (e : Seq) (l : List ℕ) (from n left : ℕ) (spot : Spot) (cur parts�
                 true≢false (sym (told ∙ rw (x, y, w)) ∙ not-true u z);
           }
 
-    pub moving-next : Fit s → length parts ≡ length parts₀ → (to : Spot) (cur′ parts′ : List ℕ) → GoesOn s rec spot to cur′ parts parts′ → Moving e l from n (left - 1) to cur′ parts₀ parts′
+    pub moving-next : Fit s → length parts ≡ length parts₀ → (to : Progress) (cur′ parts′ : List ℕ) → ReplacesEdit s rec spot to cur′ parts parts′ → Moving e l from n (left - 1) to cur′ parts₀ parts′
     unfolding encodeAll atFront
     moving-next f long to cur′ parts′ o =
         let fl = f .left in
@@ -198,7 +198,7 @@ module _ (e : Seq) (l : List ℕ) (from n left : ℕ) (spot : Spot) (cur parts�
         ap targetOf (sym rec-is) ∙ sym (ops-target rec moving-record) ∙ sym (base-left (ops cur) (ops rec) same-base) ∙ ap base (sym (o .holds .edit)) ∙ ops-base cur′ (o .holds .fault) in
         record {
           place = inside;
-          lies = subst₂ (Lie (left - 1)) base-is (ap (λ k. drop k (drop at l)) (sym (ap sizeOf rec-is)) ∙ rest-is) (lie-rest (left - 1) (baseOf cur) (drop at l) (subst (λ i. Lie i (baseOf cur) (drop at l)) (omega (arith, some)) (g .lies)));
+          lies = subst₂ (RecordsFollow (left - 1)) base-is (ap (λ k. drop k (drop at l)) (sym (ap sizeOf rec-is)) ∙ rest-is) (lie-rest (left - 1) (baseOf cur) (drop at l) (subst (λ i. RecordsFollow i (baseOf cur) (drop at l)) (omega (arith, some)) (g .lies)));
           holds = subst (λ s. Holds s cur′) (sym (o .holds .edit)) (o .holds);
           same-text = record { same-text = ap (λ u. text (map inBytes u)) (o .holds .edit) ∙ text-left (ops cur) (ops rec) ∙ g .same-text .same-text };
           done = g .done ++ (s .right ∷ []);

@@ -20,17 +20,17 @@ use Rattle.record.specs.Layout.{recordsOf, textBytesOf, textStart, sizeOf}
 use Rattle.record.proofs.Sequences.{Good, fits-limits}
 use Rattle.record.proofs.Records.{size-encode, ops-encode, fault-encode, ops-text}
 use Rattle.emitter.specs.declared.core.Emitter.{Emitter}
-use Rattle.emitter.specs.InnerEmit.{Sizes, within, sizeIn, Under, Marked}
+use Rattle.emitter.specs.InnerEmit.{Sizes, withinLimits, sizeIn, Under, Marked}
 use Rattle.emitter.proofs.Delivering.{sized-fits, sized-length, written-front}
 use Rattle.emitter.proofs.Staging.{marked-writes}
 use Rattle.emitter.proofs.Counting.{text-left, text-right}
 use Rattle.steps.specs.declared.core.Pair.{Pair}
 use Rattle.steps.proofs.Marking.{bounds, text-there}
 use Rattle.log.proofs.Scanning.{to-end}
-use Rattle.rebase.specs.InnerRunning.{Holds, withText, Keeps, SameText, Ready, GoesOn}
-use Rattle.rebase.specs.declared.core.Spot.{Spot}
+use Rattle.rebase.specs.InnerRunning.{Holds, withText, StoresCounterpart, SameText, Ready, ReplacesEdit}
+use Rattle.rebase.specs.declared.core.Progress.{Progress}
 
-pub within-fits : (s : Seq) (e : Emitter) → Sizes s e → within e ≡ true → T (fits s)
+pub within-fits : (s : Seq) (e : Emitter) → Sizes s e → withinLimits e ≡ true → T (fits s)
 within-fits s e d w = known (sym (sized-fits s e d) ∙ w)
 
 -- a record at the front of a buffer
@@ -80,14 +80,14 @@ module _ (s : Seq) (e : Emitter) (z : Sizes s e) (r : List ℕ) (f : recordFault
 
 module _ (slots : ℕ) (f : Emitter) (side : List ℕ) (n : ℕ) (rec : List ℕ) (from to : ℕ) (parts : List ℕ) where
   -- what goes to a part of a buffer goes to the buffer
-  pub keeps-part : (sub′ : List ℕ) → sub′ ≡ withText slots f side n rec (take (length parts - from) (drop from parts)) → Keeps slots f side n rec from to parts (putMid from (length parts - from) parts sub′)
+  pub keeps-part : (sub′ : List ℕ) → sub′ ≡ withText slots f side n rec (take (length parts - from) (drop from parts)) → StoresCounterpart slots f side n rec from to parts (putMid from (length parts - from) parts sub′)
   keeps-part sub′ q = record {
     keeps = λ _.
         let z : drop (length parts - from) (drop from parts) ≡ [] = ap (λ k. drop k (drop from parts)) (sym (length-drop from parts)) ∙ drop-length (drop from parts) in
         ap (λ x. take from parts ++ x) (ap₂ _++_ (q ∙ ap (withText slots f side n rec) (to-end parts from)) z ∙ append-nil (withText slots f side n rec (drop from parts)));
   }
 
-  pub keeps-none : length parts < to → Keeps slots f side n rec from to parts parts
+  pub keeps-none : length parts < to → StoresCounterpart slots f side n rec from to parts parts
   keeps-none h = record { keeps = λ k. absurd (omega (arith, h, k)) }
 
 left-good : (x y : Seq) → T (fits (transform order x y .left)) → Good (transform order x y .left)
@@ -105,8 +105,8 @@ module _ (slots : ℕ) (edit cur rec : List ℕ) (ne nb : ℕ) (pe : ne ≡ reco
   pub record-inside : textStart nb + p .f .text ≤ length rec
   record-inside = text-inside _ (p .f) (r .sized .right) rec zr nb pb (text-right (ops cur) (ops rec))
 
-  pub goes-on : (spot : Spot) (size z : ℕ) → size ≡ sizeOf rec → z ≡ sizeIn (p .f) → (cur′ : List ℕ) → cur′ ≡ withText slots (p .e) next ne edit cur → (parts parts′ : List ℕ) → Keeps slots (p .f) side nb rec (spot .bytes) (spot .bytes + z) parts parts′
-      → GoesOn (transform order (ops cur) (ops rec)) rec spot (record { at = spot .at + size; bytes = spot .bytes + z }) cur′ parts parts′
+  pub goes-on : (spot : Progress) (size z : ℕ) → size ≡ sizeOf rec → z ≡ sizeIn (p .f) → (cur′ : List ℕ) → cur′ ≡ withText slots (p .e) next ne edit cur → (parts parts′ : List ℕ) → StoresCounterpart slots (p .f) side nb rec (spot .bytes) (spot .bytes + z) parts parts′
+      → ReplacesEdit (transform order (ops cur) (ops rec)) rec spot (record { at = spot .at + size; bytes = spot .bytes + z }) cur′ parts parts′
   goes-on spot size z ps pz cur′ pc parts parts′ k =
       let s = transform order (ops cur) (ops rec) in
       let d = r .sized in

@@ -13,18 +13,18 @@ use Rattle.edits.specs.Transform.{Sides}
 use Rattle.answers.specs.declared.Refusal.the-variants.{Limit}
 use Rattle.record.specs.Layout.{sizeOf, textStart, maxOps, maxRecord}
 use Rattle.record.specs.Record.{encode, ops, recordFault, inBytes, text, fits}
-use Rattle.emitter.specs.InnerEmit.{Marked, sizeIn, headed, settledRecords}
+use Rattle.emitter.specs.InnerEmit.{Marked, sizeIn, headed, relocatedOps}
 use Rattle.emitter.specs.declared.core.Emitter.{Emitter}
 use Rattle.steps.specs.InnerBoth.{SizedBoth}
 use Rattle.steps.specs.declared.core.Pair.{Pair}
 use Rattle.log.specs.Log.{readableFrom, encodeAll}
 use Rattle.session.specs.Rows.{rebase}
-use Rattle.rebase.specs.declared.core.Spot.{Spot}
+use Rattle.rebase.specs.declared.core.Progress.{Progress}
 use Rattle.rebase.specs.declared.core.Run.{Run}
 use Rattle.rebase.specs.declared.core.Run.the-variants as outcome
 
 -- n records that can be read stand end to end in `l`, where the length is `len` before them
-pub record Lie (n len : ℕ) (l : List ℕ) : Type 0 where
+pub record RecordsFollow (n len : ℕ) (l : List ℕ) : Type 0 where
   pub reads : T (readableFrom n len l)
 
 -- the record of e stands at the front of a buffer
@@ -55,14 +55,14 @@ pub record Ready (slots : ℕ) (s : Sides Char) (p : Pair) (room : ℕ) (next si
 -- what was staged, at the front of a buffer, with the text of a record of n operations
 abbrev pub withText : ℕ → Emitter → List ℕ → ℕ → List ℕ → List ℕ → List ℕ
 withText slots e stage n rec out =
-    headed e (settledRecords slots (e .records) (e .records) stage (over (textStart (e .records)) (take (e .text) (drop (textStart n) rec)) out))
+    headed e (relocatedOps slots (e .records) (e .records) stage (over (textStart (e .records)) (take (e .text) (drop (textStart n) rec)) out))
 
 -- if there is room up to `to`, it stands from `from` on
-pub record Keeps (slots : ℕ) (f : Emitter) (side : List ℕ) (n : ℕ) (rec : List ℕ) (from to : ℕ) (parts parts′ : List ℕ) : Type 0 where
+pub record StoresCounterpart (slots : ℕ) (f : Emitter) (side : List ℕ) (n : ℕ) (rec : List ℕ) (from to : ℕ) (parts parts′ : List ℕ) : Type 0 where
   pub keeps : to ≤ length parts → parts′ ≡ take from parts ++ withText slots f side n rec (drop from parts)
 
 -- the edit in a buffer is moved past one revision
-pub record GoesOn (s : Sides Char) (rec : List ℕ) (spot r : Spot) (cur′ parts parts′ : List ℕ) : Type 0 where
+pub record ReplacesEdit (s : Sides Char) (rec : List ℕ) (spot r : Progress) (cur′ parts parts′ : List ℕ) : Type 0 where
   pub holds : Holds (s .left) cur′
   pub at-is : r .at ≡ spot .at + sizeOf rec
   pub bytes-are : r .bytes ≡ spot .bytes + length (encode (s .right))

@@ -10,11 +10,11 @@ ghost use lib.Dec.{leb};
 ghost use lib.ListN.{length, drop};
 ghost use Rattle.characters.specs.Order.{order};
 ghost use Rattle.edits.specs.Transform.{transform as transformOf};
-ghost use Rattle.record.specs.Layout.{textStart, recordsOf, baseOf, maxOps};
+ghost use Rattle.record.specs.Layout.{textStart, recordsOf, maxOps, baseOf};
 ghost use Rattle.record.specs.Record.{ops, recordFault};
-ghost use Rattle.emitter.specs.InnerEmit.{within, Under, sizeIn};
+ghost use Rattle.emitter.specs.InnerEmit.{withinLimits, Under, sizeIn};
 ghost use Rattle.log.specs.Log.{editsIn, maxRevisions};
-ghost use Rattle.rebase.specs.InnerRunning.{Keeps, SameText, Ready, GoesOn, Lie, Holds, Runs};
+ghost use Rattle.rebase.specs.InnerRunning.{StoresCounterpart, SameText, Ready, ReplacesEdit, RecordsFollow, Holds, Runs};
 
 // How many bytes the counterparts have, or why the run ended: a refusal, or buffers that are too short for what is written.
 pub enum Run {
@@ -24,7 +24,7 @@ pub enum Run {
 }
 
 fn keep_limits(p: Pair) -> bool
-    ensures { λ r. ⌜ r ≡ (within (p .e) && within (p .f)) ⌝ }
+    ensures { λ r. ⌜ r ≡ (withinLimits (p .e) && withinLimits (p .f)) ⌝ }
 {
     let e = p.e;
     let f = p.f;
@@ -51,13 +51,13 @@ fn have_places(p: Pair, slots: usize, room: usize) -> bool
 }
 
 // How far a run has come: where the next revision begins, and how many bytes the counterparts have.
-pub struct Spot {
+pub struct Progress {
     pub at: usize,
     pub bytes: usize,
 }
 
 // A counterpart goes behind those before it, if there is room.
-fn keep(
+fn store_counterpart(
     parts: &mut [u8],
     from: usize,
     to: usize,
@@ -68,7 +68,7 @@ fn keep(
     nb: usize,
 )
     requires { ⌜ (to ≡ from + sizeIn f) × (slots ≤ 2 ^ 40) × (nb ≤ 2 ^ 40) × (f .records ≤ slots) × (textStart slots ≤ length (now side)) × (textStart nb + f .text ≤ length (now rec)) × Under (2 ^ 40) f ⌝ }
-    ensures { λ _. ⌜ Keeps slots f (now (side .entry)) nb (now (rec .entry)) from to (now (parts .entry)) (now (parts .exit)) ⌝ }
+    ensures { λ _. ⌜ StoresCounterpart slots f (now (side .entry)) nb (now (rec .entry)) from to (now (parts .entry)) (now (parts .exit)) ⌝ }
 {
     if to <= parts.len() {
         steps::core::place_with_text(&mut parts[from..], side, slots, f, rec, nb);
@@ -76,7 +76,7 @@ fn keep(
 }
 
 // Past the revision at the spot: what the edit becomes takes its place.
-fn go_on(
+fn replace_edit(
     edit: &[u8],
     ne: usize,
     cur: &mut [u8],
@@ -87,10 +87,10 @@ fn go_on(
     parts: &mut [u8],
     slots: usize,
     p: Pair,
-    spot: Spot,
-) -> Spot
+    spot: Progress,
+) -> Progress
     requires { ⌜ (slots ≤ 2 ^ 40) × (ne ≡ recordsOf (now edit)) × (ne ≤ maxOps) × (nb ≡ recordsOf (now rec)) × (nb ≤ maxOps) × (recordFault (now edit) ≡ 0) × (recordFault (now rec) ≡ 0) × SameText (ops (now cur)) (ops (now edit)) × (length (now next) ≡ textStart slots) × (length (now side) ≡ textStart slots) × Ready slots (transformOf order (ops (now cur)) (ops (now rec))) p (length (now cur)) (now next) (now side) × (spot .at ≤ 2 ^ 63) × (spot .bytes ≤ 2 ^ 40) ⌝ }
-    ensures { λ r. ⌜ GoesOn (transformOf order (ops (now (cur .entry))) (ops (now (rec .entry)))) (now (rec .entry)) spot r (now (cur .exit)) (now (parts .entry)) (now (parts .exit)) ⌝ }
+    ensures { λ r. ⌜ ReplacesEdit (transformOf order (ops (now (cur .entry))) (ops (now (rec .entry)))) (now (rec .entry)) spot r (now (cur .exit)) (now (parts .entry)) (now (parts .exit)) ⌝ }
 {
     let e = p.e;
     let f = p.f;
@@ -98,8 +98,8 @@ fn go_on(
     let at = spot.at + reader::core::size(rec);
     let bytes = from + emitter::core::size(f);
     steps::core::place_with_text(cur, next, slots, e, edit, ne);
-    keep(parts, from, bytes, side, slots, f, rec, nb);
-    Spot { at, bytes }
+    store_counterpart(parts, from, bytes, side, slots, f, rec, nb);
+    Progress { at, bytes }
 }
 
 // Past n revisions, whose records begin at `from`: the first whose transform passes a limit ends the run. The edit stands in `cur`, too,
@@ -115,11 +115,11 @@ pub fn rebase(
     parts: &mut [u8],
     slots: usize,
 ) -> Run
-    requires { ⌜ (from ≤ length (now log)) × (n ≤ maxRevisions) × Lie n (baseOf (now edit)) (drop from (now log)) × (recordFault (now edit) ≡ 0) × Holds (ops (now edit)) (now cur) × (length (now next) ≡ textStart slots) × (length (now side) ≡ textStart slots) × (slots ≤ 2 ^ 40) ⌝ }
+    requires { ⌜ (from ≤ length (now log)) × (n ≤ maxRevisions) × RecordsFollow n (baseOf (now edit)) (drop from (now log)) × (recordFault (now edit) ≡ 0) × Holds (ops (now edit)) (now cur) × (length (now next) ≡ textStart slots) × (length (now side) ≡ textStart slots) × (slots ≤ 2 ^ 40) ⌝ }
     ensures { λ r. ⌜ Runs slots (length (now (cur .entry))) (ops (now (edit .entry))) (editsIn n (drop from (now (log .entry)))) r (now (cur .exit)) (now (parts .entry)) (now (parts .exit)) ⌝ }
 {
     let ne = reader::core::records(edit);
-    let mut spot = Spot { at: from, bytes: 0 };
+    let mut spot = Progress { at: from, bytes: 0 };
     let mut left = n;
     'run: loop {
         if left == 0 {
@@ -132,7 +132,7 @@ pub fn rebase(
         let mut b = rebase_steps::core::begin(cur, na, rec, nb);
         let p = loop {
             if !rebase_steps::core::goes_on(b) {
-                let c = rebase_steps::core::end(next, side, slots, b);
+                let c = rebase_steps::core::finish_both(next, side, slots, b);
                 let p = steps::core::sizes(cur, rec, c);
                 if !keep_limits(p) {
                     break 'run Run::Refused(Refusal::Limit);
@@ -142,9 +142,9 @@ pub fn rebase(
                 }
                 break p;
             }
-            b = rebase_steps::core::turn(cur, na, rec, nb, next, side, slots, b);
+            b = rebase_steps::core::step(cur, na, rec, nb, next, side, slots, b);
         };
-        spot = go_on(edit, ne, cur, rec, nb, next, side, parts, slots, p, spot);
+        spot = replace_edit(edit, ne, cur, rec, nb, next, side, parts, slots, p, spot);
         left -= 1;
     }
 }

@@ -11,7 +11,7 @@ ghost use lib.ListN.{length};
 ghost use mathlib.Core.Bool.{true};
 ghost use Rattle.characters.specs.Order.{order};
 ghost use Rattle.edits.specs.Transform.{transformTurn};
-ghost use Rattle.record.specs.Layout.{recordsOf, textStart, maxOps};
+ghost use Rattle.record.specs.Layout.{recordsOf, maxOps, textStart};
 ghost use Rattle.record.specs.Record.{recordFault};
 ghost use Rattle.record.specs.InnerFront.{Stands, Cut};
 ghost use Rattle.emitter.specs.InnerEmit.{Under};
@@ -24,7 +24,7 @@ pub fn begin(cur: &[u8], na: usize, rec: &[u8], nb: usize) -> Both
     ensures { λ r. ⌜ BegunBoth (now (cur .entry)) (now (rec .entry)) r ⌝ }
 {
     let s = steps::core::begin(cur, na, rec, nb);
-    let f = emitter::core::start();
+    let f = emitter::core::new_emitter();
     let x = s.x;
     let y = s.y;
     let e = s.e;
@@ -40,7 +40,7 @@ pub fn goes_on(b: Both) -> bool
 }
 
 // The edit's operation goes by itself: the counterpart retains what it gives.
-fn first(cur: &[u8], na: usize, next: &mut [u8], slots: usize, b: Both) -> Both
+fn step_edit(cur: &[u8], na: usize, next: &mut [u8], slots: usize, b: Both) -> Both
     requires { ⌜ (na ≡ recordsOf (now cur)) × (slots ≤ 2 ^ 40) × Under (2 ^ 38) (b .e) × Under (2 ^ 38) (b .f) × Stands (now cur) (b .x) × (0 < b .x .kind) × (length (now next) ≤ textStart slots) ⌝ }
     ensures { λ r. ⌜ FirstBoth slots (now (cur .entry)) b (now (next .entry)) r (now (next .exit)) ⌝ }
 {
@@ -50,14 +50,14 @@ fn first(cur: &[u8], na: usize, next: &mut [u8], slots: usize, b: Both) -> Both
     let h = b.f;
     let k = x.left;
     let to = x.to;
-    let e = emitter::core::mark(next, slots, d, cur, x, k, to);
+    let e = emitter::core::push_without_text(next, slots, d, cur, x, k, to);
     let f = emitter::core::retain(h, steps::core::gives(x));
     let g = reader::core::rest(cur, na, x, k, to);
     Both { x: g, y, e, f }
 }
 
 // The revision's.
-fn second(rec: &[u8], nb: usize, side: &mut [u8], slots: usize, b: Both) -> Both
+fn step_revision(rec: &[u8], nb: usize, side: &mut [u8], slots: usize, b: Both) -> Both
     requires { ⌜ (nb ≡ recordsOf (now rec)) × (slots ≤ 2 ^ 40) × Under (2 ^ 38) (b .e) × Under (2 ^ 38) (b .f) × Stands (now rec) (b .y) × (0 < b .y .kind) × (length (now side) ≤ textStart slots) ⌝ }
     ensures { λ r. ⌜ SecondBoth slots (now (rec .entry)) b (now (side .entry)) r (now (side .exit)) ⌝ }
 {
@@ -68,13 +68,13 @@ fn second(rec: &[u8], nb: usize, side: &mut [u8], slots: usize, b: Both) -> Both
     let k = y.left;
     let to = y.to;
     let e = emitter::core::retain(d, steps::core::gives(y));
-    let f = emitter::core::mark(side, slots, h, rec, y, k, to);
+    let f = emitter::core::push_without_text(side, slots, h, rec, y, k, to);
     let g = reader::core::rest(rec, nb, y, k, to);
     Both { x, y: g, e, f }
 }
 
 // What stays of k characters of both. Equal inserts are both kept; what either deletes, the other has no more.
-fn meet(
+fn emit_both(
     cur: &[u8],
     rec: &[u8],
     next: &mut [u8],
@@ -93,29 +93,29 @@ fn meet(
     let i = x.to;
     let j = y.to;
     if y.kind == AT_INSERT {
-        let d = emitter::core::mark(next, slots, e, rec, y, k, j);
-        let h = emitter::core::mark(side, slots, f, cur, x, k, i);
+        let d = emitter::core::push_without_text(next, slots, e, rec, y, k, j);
+        let h = emitter::core::push_without_text(side, slots, f, cur, x, k, i);
         let d = emitter::core::retain(d, k);
         let h = emitter::core::retain(h, k);
         return Pair { e: d, f: h };
     }
     if y.kind == AT_RETAIN {
-        let d = emitter::core::mark(next, slots, e, cur, x, k, i);
+        let d = emitter::core::push_without_text(next, slots, e, cur, x, k, i);
         if x.kind == AT_RETAIN {
-            let h = emitter::core::mark(side, slots, f, rec, y, k, j);
+            let h = emitter::core::push_without_text(side, slots, f, rec, y, k, j);
             return Pair { e: d, f: h };
         }
         return Pair { e: d, f };
     }
     if x.kind == AT_RETAIN {
-        let h = emitter::core::mark(side, slots, f, rec, y, k, j);
+        let h = emitter::core::push_without_text(side, slots, f, rec, y, k, j);
         return Pair { e, f: h };
     }
     Pair { e, f }
 }
 
 // As many characters of both.
-fn together(
+fn step_both(
     cur: &[u8],
     na: usize,
     rec: &[u8],
@@ -131,7 +131,7 @@ fn together(
     let x = b.x;
     let y = b.y;
     let k = buffers::core::lesser(x.left, y.left);
-    let p = meet(cur, rec, next, side, slots, b, k);
+    let p = emit_both(cur, rec, next, side, slots, b, k);
     let e = p.e;
     let f = p.f;
     let g = reader::core::rest(cur, na, x, k, x.to);
@@ -140,7 +140,7 @@ fn together(
 }
 
 // A step over the front records.
-pub fn turn(
+pub fn step(
     cur: &[u8],
     na: usize,
     rec: &[u8],
@@ -156,14 +156,14 @@ pub fn turn(
     let x = b.x;
     let y = b.y;
     match steps::core::whose(cur, rec, x, y) {
-        Turn::First => first(cur, na, next, slots, b),
-        Turn::Second => second(rec, nb, side, slots, b),
-        Turn::Together => together(cur, na, rec, nb, next, side, slots, b),
+        Turn::First => step_edit(cur, na, next, slots, b),
+        Turn::Second => step_revision(rec, nb, side, slots, b),
+        Turn::Together => step_both(cur, na, rec, nb, next, side, slots, b),
     }
 }
 
 // Behind the last step.
-pub fn end(next: &mut [u8], side: &mut [u8], slots: usize, b: Both) -> Counts
+pub fn finish_both(next: &mut [u8], side: &mut [u8], slots: usize, b: Both) -> Counts
     requires { ⌜ (slots ≤ 2 ^ 40) × Under (2 ^ 38) (b .e) × Under (2 ^ 38) (b .f) ⌝ }
     ensures { λ r. ⌜ Ends slots b (now (next .entry)) (now (side .entry)) r (now (next .exit)) (now (side .exit)) ⌝ }
 {

@@ -4,13 +4,13 @@ use mathlib.Core.List.{List, [], _∷_, map}
 use lib.ListN.{getD}
 use Rattle.edits.specs.Op.{retain, insert, delete}
 use Rattle.edits.specs.Sequence.{Seq}
-use Rattle.answers.specs.Answer.{Answer, gives, refused, settle}
+use Rattle.answers.specs.Answer.{Answer, success, refused, unlessRefused}
 use Rattle.record.specs.Record.{recordFault, ops, inserted, byteOps, entriesFrom, insertBytes}
 use Rattle.record.specs.Layout.{sizeOf, baseOf, targetOf, recordsOf, textStart}
 
 -- a number, unless the record is refused
 abbrev pub fact : List ℕ → ℕ → Answer
-fact r n = settle (recordFault r) refused (gives (n ∷ []))
+fact r n = unlessRefused (recordFault r) refused (success (n ∷ []))
 
 -- how many bytes the record has
 unfoldable pub checkCall : List ℕ → Answer
@@ -40,7 +40,7 @@ noopCall r = fact r (noEffect (ops r))
 -- "The text of record k, counted from 0": empty where the record is refused, k is past the end or the kind isn't insert
 unfoldable pub textCall : List ℕ → ℕ → List ℕ
 unfolding recordFault byteOps
-textCall r k = settle (recordFault r) (λ n. []) (getD (map inserted (byteOps r)) k [])
+textCall r k = unlessRefused (recordFault r) (λ n. []) (getD (map inserted (byteOps r)) k [])
 
 -- where it begins in the record: behind the text of the k records before it
 unfoldable pub textFrom : List ℕ → ℕ → ℕ

@@ -11,7 +11,7 @@ use Rattle.characters.specs.Form.{within, wellFormed}
 use Rattle.characters.specs.Chars.{numChars}
 use Rattle.edits.specs.Sequence.{Seq}
 use Rattle.edits.specs.Op.{Op, retain, insert, delete, ifZero, cut, rest, front}
-use Rattle.record.specs.Layout.{recordsOf, textStart, maxOps, deleteKind, insertKind, retainKind}
+use Rattle.record.specs.Layout.{recordsOf, textStart, maxOps, insertKind, retainKind, deleteKind}
 use Rattle.record.specs.Record.{Entry, entriesFrom, ByteSeq, operations, inChars, soundEntry, insertBytes, wellInserted, inBytes, inserted}
 use Rattle.record.specs.declared.core.Front.{Front}
 

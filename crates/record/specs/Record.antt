@@ -13,7 +13,7 @@ use Rattle.edits.specs.Op.{Op, retain, insert, delete, size, base, target, tota
 use Rattle.edits.specs.Sequence.{Seq}
 use Rattle.edits.specs.Built.{chained}
 use Rattle.answers.specs.Answer.{needs}
-use Rattle.record.specs.Layout.{kindAt, countAt, recordsOf, textBytesOf, textStart, baseOf, targetOf, sizeOf, maxOps, maxSize, deleteKind, insertKind, retainKind}
+use Rattle.record.specs.Layout.{deleteKind, insertKind, retainKind, maxOps, maxSize, kindAt, countAt, recordsOf, textBytesOf, textStart, baseOf, targetOf, sizeOf}
 
 -- a sequence as a record holds it: inserted text in bytes
 abbrev pub ByteSeq : Type 0

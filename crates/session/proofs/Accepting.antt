@@ -12,7 +12,7 @@ use Rattle.buffers.specs.Buffers.{atFront}
 use Rattle.buffers.proofs.Tests.{both, holds}
 use Rattle.edits.specs.Sequence.{Seq}
 use Rattle.edits.specs.Op.{base}
-use Rattle.answers.specs.Answer.{Answer, gives, refused, needs, first, settle}
+use Rattle.answers.specs.Answer.{Answer, success, refused, needs, orElse, unlessRefused}
 use Rattle.answers.specs.Output.{Outs}
 use Rattle.answers.proofs.Refusals.{needs-out, first-zero}
 use Rattle.record.specs.Record.{ops, encode, recordFault}
@@ -22,10 +22,10 @@ use Rattle.record.proofs.Records.{ops-base}
 use Rattle.log.specs.Log.{encodeAll, logOf, readable, sizeOfLog, lengthAt}
 use Rattle.log.proofs.Logs.{Sound, log-more, log-more-length, count-log, length-log, revisions-log, size-log, readable-log}
 use Rattle.log.proofs.Rows.{lengthAfter, each-append, Row, row-append, row-right, after-append}
-use Rattle.session.specs.History.{History, Told, logIn, historyAccept}
+use Rattle.session.specs.History.{History, Outcome, logIn, historyAccept}
 use Rattle.session.specs.Rows.{Moved, rebase}
 use Rattle.session.specs.Session.{movedIn, acceptFault, append, acceptCall}
-use Rattle.session.specs.Demand.{Call, accept, shown}
+use Rattle.session.specs.Demand.{Call, accept, expectedCall}
 use Rattle.session.proofs.Rows.{target-after}
 use Rattle.session.proofs.Moving.{later-gathered, rebase-base, rebase-good}
 
@@ -41,14 +41,14 @@ abbrev pub moved : History → List ℕ → ℕ → Moved
 moved h edit r = rebase (ops edit) (drop r (h .edits))
 
 abbrev pub sizes : Moved → Answer
-sizes m = gives (length (encode (m .edit)) ∷ length (encodeAll (m .counterparts)) ∷ [])
+sizes m = success (length (encode (m .edit)) ∷ length (encodeAll (m .counterparts)) ∷ [])
 
 -- ---- what the history is told, over `rebase`
 
-abbrev pub back : History → ℕ → Told
+abbrev pub back : History → ℕ → Outcome
 back h n = record { answer = refused n; counterparts = []; history = h }
 
-abbrev pub through : History → Moved → Told
+abbrev pub through : History → Moved → Outcome
 through h m = record { answer = sizes m; counterparts = m .counterparts; history = joined h (m .edit) }
 
 -- 9 and 10
@@ -60,17 +60,17 @@ rest h m room space =
 module _ (h : History) (edit : List ℕ) (r : ℕ) where
   abbrev pub fault : ℕ → ℕ → ℕ
   fault room space =
-      first (recordFault edit)
+      orElse (recordFault edit)
       (needs (leb r (length (h .edits))) 7
       (needs (eqb (base (ops edit)) (lengthAfter (h .start) (take r (h .edits)))) 8 (rest h (moved h edit r) room space)))
 
-  pub history-told : (room space : ℕ) → historyAccept h edit r room space ≡ settle (fault room space) (back h) (through h (moved h edit r))
+  pub history-told : (room space : ℕ) → historyAccept h edit r room space ≡ unlessRefused (fault room space) (back h) (through h (moved h edit r))
   unfolding historyAccept
   history-told room space =
       λ i.
       let m = later-gathered (ops edit) r (h .edits) i in
-      settle
-      (first (recordFault edit)
+      unlessRefused
+      (orElse (recordFault edit)
       (needs (leb r (length (h .edits))) 7
       (needs (eqb (base (ops edit)) (target-after (h .start) (h .edits) r i)) 8 (rest h m room space))))
       (back h) (through h m)
@@ -120,7 +120,7 @@ module _ (h : History) (s : SoundIn h) (e : Seq) (r : ℕ) (p : Passed h e r) wh
 
 -- ---- refusals that need only agree where they are asked for
 
-pub first-same : (f a b : ℕ) → (f ≡ 0 → a ≡ b) → first f a ≡ first f b
+pub first-same : (f a b : ℕ) → (f ≡ 0 → a ≡ b) → orElse f a ≡ orElse f b
 first-same zero a b e = e refl
 first-same (suc f) a b e = refl
 
@@ -162,7 +162,7 @@ module _ (h : History) (behind : List ℕ) where
         let n = count-log (h .start) (h .edits) behind in
         (λ i.
         let m = moved-log i in
-        first (recordFault edit)
+        orElse (recordFault edit)
         (needs (holds (readable buffer) (readable-log (h .start) (h .edits) behind s) i) 6
         (needs (leb r (n i)) 7
         (needs (eqb (baseOf edit) (lengthAt r buffer)) 8
@@ -194,16 +194,16 @@ module _ (h : History) (s : SoundIn h) (c : Call) where
   abbrev go-through : Moved → Outs
   go-through m = record { answer = sizes m; outA = append log (encode (m .edit)); outB = atFront (encodeAll (m .counterparts)) (c .out) }
 
-  abbrev show : Told → Outs
+  abbrev show : Outcome → Outs
   show t = record { answer = t .answer; outA = atFront (logIn (t .history)) log; outB = atFront (encodeAll (t .counterparts)) (c .out) }
 
-  settled : (f : ℕ) → settle f stop (go-through m) ≡ show (settle f (back h) (through h m))
+  settled : (f : ℕ) → unlessRefused f stop (go-through m) ≡ show (unlessRefused f (back h) (through h m))
   settled zero = λ i. record { answer = sizes m; outA = append-log h (c .behind) (m .edit) i; outB = atFront (encodeAll (m .counterparts)) (c .out) }
   settled (suc n) = λ i. record { answer = refused (suc n); outA = sym front-log i; outB = sym front-nothing i }
 
-  pub accept-log : accept (logIn h) c ≡ shown h c
+  pub accept-log : accept (logIn h) c ≡ expectedCall h c
   unfolding acceptCall
   accept-log =
-      (λ i. settle (fault-log h (c .behind) (c .edit) (c .rev) s (c .out) i) stop (go-through (moved-log h (c .behind) (c .edit) (c .rev) i)))
+      (λ i. unlessRefused (fault-log h (c .behind) (c .edit) (c .rev) s (c .out) i) stop (go-through (moved-log h (c .behind) (c .edit) (c .rev) i)))
       ∙ settled (fault h (c .edit) (c .rev) (length log) (length (c .out)))
       ∙ ap show (sym (history-told h (c .edit) (c .rev) (length log) (length (c .out))))

@@ -10,7 +10,7 @@ use Rattle.characters.specs.Chars.{numChars}
 use Rattle.characters.specs.Text.{Char, chars, bytes}
 use Rattle.characters.proofs.Texts.{chars-bytes, chars-length, bytes-well, bytes-inj}
 use Rattle.edits.specs.Sequence.{Seq}
-use Rattle.answers.specs.Answer.{goes}
+use Rattle.answers.specs.Answer.{succeeds}
 use Rattle.record.specs.Record.{encode, ops}
 use Rattle.record.proofs.Records.{ops-encode}
 use Rattle.record.proofs.Faults.{limits, faultless}
@@ -18,7 +18,7 @@ use Rattle.record.proofs.Theorems.{ops-behind}
 use Rattle.log.proofs.Rows.{Row}
 use Rattle.session.specs.Session.{summaryCall}
 use Rattle.session.specs.History.{fresh, logIn, History, historyPlay}
-use Rattle.session.specs.Demand.{Fresh, Call, ran, logAfter, after, Given, AsForetold, SummariesTell, fed, AllGo, Lent, againstNewest, again, accept, CopiesMeet, Demand3}
+use Rattle.session.specs.Demand.{Fresh, Call, ran, logAfter, after, Given, AsExpected, SummariesTell, fedCall, AllGo, Lent, againstNewest, again, accept, CopiesMeet, Demand3}
 use Rattle.session.specs.Rows.{playAll}
 use Rattle.session.proofs.Accepting.{SoundIn, joined}
 use Rattle.session.proofs.Running.{run-log, after-sound, after-log, fresh-log, summary-log, given, after-start, Went, fed-sound, left-log}
@@ -36,7 +36,7 @@ module _ (n : ℕ) (log : List ℕ) (f : Fresh n log) (cs : List Call) where
   session-given : (s : List ℕ) → Given (logAfter log cs) s → Given (logIn (after (fresh n) cs)) s
   session-given s g = subst (λ (l : List ℕ). Given l s) session-log g
 
-  as-foretold : AsForetold n log cs
+  as-foretold : AsExpected n log cs
   as-foretold =
       let (e, s) = fresh-log n log f in
       record {
@@ -93,7 +93,7 @@ module _ (h k : History) (sh : SoundIn h) (sk : SoundIn k) (starts : k .start �
     (same : k .edits ≡ take (c .rev) (h .edits)) (w : Went h c) (w′ : Went k (again c mine)) where
   -- the second session's history after the edit
   abbrev k₁ : History
-  k₁ = fed k (again c mine) .history
+  k₁ = fedCall k (again c mine) .history
 
   s₁ : SoundIn k₁
   s₁ = fed-sound k (again c mine) sk
@@ -108,12 +108,12 @@ module _ (h k : History) (sh : SoundIn h) (sk : SoundIn k) (starts : k .start �
   there : AllGo (ran (logIn k₁) relay) → after k₁ relay ≡ record { start = k .start; edits = joined k (ops (c .edit)) .edits ++ movedBy h c .counterparts }
   there g = relayed k₁ s₁ (movedBy h c .counterparts) lent g ∙ (λ i. record { start = edited i .start; edits = edited i .edits ++ movedBy h c .counterparts })
 
-  here : fed h c .history ≡ joined h (movedBy h c .edit)
+  here : fedCall h c .history ≡ joined h (movedBy h c .edit)
   here = ap (λ u. u .history) (w .told)
 
-  meet : AllGo (ran (logIn k₁) relay) → (s t : List ℕ) → Given (logIn (fed h c .history)) s → Given (logAfter (logIn k₁) relay) t → s ≡ t
+  meet : AllGo (ran (logIn k₁) relay) → (s t : List ℕ) → Given (logIn (fedCall h c .history)) s → Given (logAfter (logIn k₁) relay) t → s ≡ t
   meet g s t gs gt =
-      same-summary (fed h c .history) (after k₁ relay) (fed-sound h c sh) (after-sound k₁ s₁ relay)
+      same-summary (fedCall h c .history) (after k₁ relay) (fed-sound h c sh) (after-sound k₁ s₁ relay)
       (ap (λ u. u .start) (there g) ∙ starts ∙ sym (ap (λ u. u .start) here))
       (λ u l.
       ap (λ v. playAll (v .edits) u) here ∙ meet-plays h sh c w k same u (l ∙ ap (λ v. v .start) here) ∙ sym (ap (λ v. playAll (v .edits) u) (there g)))
@@ -122,8 +122,8 @@ module _ (h k : History) (sh : SoundIn h) (sk : SoundIn k) (starts : k .start �
 copies-meet : (h k : History) → SoundIn h → SoundIn k → k .start ≡ h .start → CopiesMeet (logIn h) (logIn k)
 copies-meet h k sh sk starts c mine lent same₀ goesA goesB s t gs gt =
     let same : k .edits ≡ take (c .rev) (h .edits) = sym (revisions-in k) ∙ same₀ ∙ ap (take (c .rev)) (revisions-in h) in
-    let w = goes-fed h sh c (both (goes (accept (logIn h) c .answer)) _ .0 goesA .0) in
-    let (b₁, b₂) = both (goes (accept (logIn k) (again c mine) .answer)) _ .0 goesB in
+    let w = goes-fed h sh c (both (succeeds (accept (logIn h) c .answer)) _ .0 goesA .0) in
+    let (b₁, b₂) = both (succeeds (accept (logIn k) (again c mine) .answer)) _ .0 goesB in
     let w′ = goes-fed k sk (again c mine) b₁ in
     let L = left-log k (again c mine) sk in
     let H = handed h sh c w in

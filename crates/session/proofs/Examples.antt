@@ -9,10 +9,10 @@ use Rattle.characters.specs.Form.{leadOf}
 use Rattle.characters.specs.Chars.{isCont}
 use Rattle.edits.specs.Compose.{compose}
 use Rattle.edits.specs.Trace.{none, more}
-use Rattle.answers.specs.Answer.{goes}
+use Rattle.answers.specs.Answer.{succeeds}
 use Rattle.log.specs.Log.{contents, revisions}
 use Rattle.log.specs.Open.{openCall}
-use Rattle.session.specs.Demand.{Call, Lent, accept, againstNewest, handedOut, again, Fresh, ran, logAfter, Given, AllGo, CopiesMeet, fed, after}
+use Rattle.session.specs.Demand.{Call, Lent, accept, againstNewest, handedOut, again, Fresh, ran, logAfter, Given, AllGo, CopiesMeet, fedCall, after}
 use Rattle.session.specs.History.{fresh, History, historyAccept}
 use Rattle.session.specs.Session.{acceptCall, summaryCall}
 use Rattle.session.specs.Keeping.{newest, Spared}
@@ -100,10 +100,10 @@ abbrev knows : Call
 knows = record { edit = deletes; rev = 2; behind = replicate 40 0xFF; out = [] }
 
 abbrev typing : History
-typing = fed (fresh 2) (call inserts) .history
+typing = fedCall (fresh 2) (call inserts) .history
 
 pub record Stands : Type 0 where
-  pub goes-in : T (goes (fed (fresh 2) (call inserts) .answer))
+  pub goes-in : T (succeeds (fedCall (fresh 2) (call inserts) .answer))
   pub all-in : length (after typing (retypes ∷ knows ∷ []) .edits) ≡ 3
   pub spared : Spared 1 (newest 2 (typing .edits)) typing (retypes ∷ knows ∷ [])
 

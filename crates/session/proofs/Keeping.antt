@@ -11,11 +11,11 @@ use borrow.Author.Tests.{ltb-true, ltb-false}
 use Rattle.edits.specs.Trace.{typed, stays, Within, marked}
 use Rattle.edits.specs.Sequence.{Seq}
 use Rattle.edits.proofs.Marks.{stays-length, within-trans, within-length, within-refl}
-use Rattle.answers.specs.Answer.{goes}
+use Rattle.answers.specs.Answer.{succeeds}
 use Rattle.record.specs.Record.{ops}
 use Rattle.log.proofs.Rows.{lengthAfter, Row, row-right}
 use Rattle.session.specs.History.{History, fresh}
-use Rattle.session.specs.Demand.{Call, fed, after}
+use Rattle.session.specs.Demand.{Call, fedCall, after}
 use Rattle.session.specs.Keeping.{carryAll, newest, Spared, NothingLost, TypedStands}
 use Rattle.session.specs.Rows.{playAll}
 use Rattle.session.proofs.Accepting.{SoundIn, past-row, joined}
@@ -73,7 +73,7 @@ module _ (n : ℕ) (es : List Seq) (row : Row n es) (ms : List Bool) (new : With
         rw (accept-stays h c s w, q, carryAll-append true (drop r es) vs (stays e))
         (within-carryAll vs (within-trans new (newest-kept n es row r l (stays e) m)))
 
-    leaves : (T (goes (fed h c .answer)) → k ≤ c .rev → Within (carryAll false (take (c .rev - k) (drop k (h .edits))) ms) (stays e))
+    leaves : (T (succeeds (fedCall h c .answer)) → k ≤ c .rev → Within (carryAll false (take (c .rev - k) (drop k (h .edits))) ms) (stays e))
         → Within (carryAll false vs ms) (stays (movedBy h c .edit))
     leaves spared = go (ltb (c .rev) k) refl
       where
@@ -91,7 +91,7 @@ module _ (n : ℕ) (es : List Seq) (row : Row n es) (ms : List Bool) (new : With
         edits = ap (λ l. l ++ (movedBy h c .edit ∷ [])) (x .edits) ∙ append-assoc es vs (movedBy h c .edit ∷ []);
         leave = leave-more vs (movedBy h c .edit) ms (x .leave) (leaves h s st vs (x .edits) c w (sp .0));
       } in
-      since-calls cs (fed h c .history) (fed-sound h c s) (fed-start h c ∙ st) (fed-rule h c Since x more) (sp .1)
+      since-calls cs (fedCall h c .history) (fed-sound h c s) (fed-start h c ∙ st) (fed-rule h c Since x more) (sp .1)
 
 lost-nothing : (h : History) → SoundIn h → (later : List Call) → NothingLost h later
 lost-nothing h s later ms new spared t l =
@@ -108,9 +108,9 @@ lost-nothing h s later ms new spared t l =
     ∙ leave-plays ws ms u (rw m (row-right (h .start) es ws r)) (playAll-length (h .start) es t (s .row) l ∙ sym m) (x .leave)
 
 stands : (h : History) → SoundIn h → (c : Call) (later : List Call) → TypedStands h c later
-stands h s c later goes spared t l =
-    let w = went h c goes in
-    let g = fed h c .history in
+stands h s c later succeeds spared t l =
+    let w = went h c succeeds in
+    let g = fedCall h c .history in
     let is : g ≡ joined h (movedBy h c .edit) = ap (λ u. u .history) (w .told) in
     let r : Row (h .start) (h .edits ++ (movedBy h c .edit ∷ [])) = rw is at (fed-sound h c s .row) in
     lost-nothing g (fed-sound h c s) later (newest (g .start) (g .edits)) (within-refl _) spared t (l ∙ sym (fed-start h c))

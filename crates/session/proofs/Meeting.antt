@@ -11,7 +11,7 @@ use Rattle.buffers.proofs.Tests.{both}
 use Rattle.characters.specs.Text.{Char}
 use Rattle.edits.specs.Sequence.{Seq}
 use Rattle.edits.specs.Apply.{apply}
-use Rattle.answers.specs.Answer.{goes}
+use Rattle.answers.specs.Answer.{succeeds}
 use Rattle.answers.specs.Output.{Outs}
 use Rattle.record.specs.Record.{ops, encode}
 use Rattle.record.proofs.Records.{ops-encode}
@@ -19,7 +19,7 @@ use Rattle.log.specs.Log.{countOf, revisions, encodeAll, recordsIn}
 use Rattle.log.proofs.Logs.{count-log, revisions-log, records-all}
 use Rattle.log.proofs.Rows.{Row, row-left}
 use Rattle.session.specs.History.{History, logIn}
-use Rattle.session.specs.Demand.{Call, accept, fed, ran, after, AllGo, Lent, againstNewest, handedOut}
+use Rattle.session.specs.Demand.{Call, accept, fedCall, ran, after, AllGo, Lent, againstNewest, handedOut}
 use Rattle.session.specs.Rows.{rebase, Moved, playAll}
 use Rattle.session.proofs.Accepting.{SoundIn, accept-log, joined, moved, past-row}
 use Rattle.session.proofs.Running.{Went, went, fed-sound, left-log}
@@ -33,12 +33,12 @@ pub revisions-in : (h : History) → revisions (logIn h) ≡ h .edits
 revisions-in h = ap revisions (sym (append-nil (logIn h))) ∙ revisions-log (h .start) (h .edits) []
 
 -- an accept that goes through on the log of a history goes through in the history
-pub goes-fed : (h : History) → SoundIn h → (c : Call) → T (goes (accept (logIn h) c .answer)) → Went h c
-goes-fed h s c g = went h c (subst (λ (o : Outs). T (goes (o .answer))) (accept-log h s c) g)
+pub goes-fed : (h : History) → SoundIn h → (c : Call) → T (succeeds (accept (logIn h) c .answer)) → Went h c
+goes-fed h s c g = went h c (subst (λ (o : Outs). T (succeeds (o .answer))) (accept-log h s c) g)
 
 -- ---- against the newest revision an edit joins the row as it is
 
-pub newest : (h : History) (c : Call) (e : Seq) → Went h c → ops (c .edit) ≡ e → drop (c .rev) (h .edits) ≡ [] → fed h c .history ≡ joined h e
+pub newest : (h : History) (c : Call) (e : Seq) → Went h c → ops (c .edit) ≡ e → drop (c .rev) (h .edits) ≡ [] → fedCall h c .history ≡ joined h e
 unfolding rebase
 newest h c e w p q = ap (λ t. t .history) (w .told) ∙ (λ i. joined h (rebase (p i) (q i) .edit))
 
@@ -48,11 +48,11 @@ relayed h s [] lent g = λ i. record { start = h .start; edits = sym (append-nil
 relayed h s (v ∷ vs) lent g =
     let b = lent (length (map encode vs)) in
     let c : Call = record { edit = encode v ++ b .behindEdit; rev = countOf (logIn h); behind = b .behindLog; out = b .output } in
-    let (g₁, g₂) = both (goes (accept (logIn h) c .answer)) _ .0 g in
+    let (g₁, g₂) = both (succeeds (accept (logIn h) c .answer)) _ .0 g in
     let L = left-log h c s in
     let q = newest h c v (goes-fed h s c g₁) (ops-encode v (b .behindEdit)) (ap (λ k. drop k (h .edits)) (count-in h) ∙ drop-length (h .edits)) in
-    ap (λ l. after (fed h c .history) (againstNewest l (map encode vs) lent)) L
-    ∙ relayed (fed h c .history) (fed-sound h c s) vs lent (subst (λ (l : List ℕ). AllGo (ran l (againstNewest l (map encode vs) lent))) L g₂)
+    ap (λ l. after (fedCall h c .history) (againstNewest l (map encode vs) lent)) L
+    ∙ relayed (fedCall h c .history) (fed-sound h c s) vs lent (subst (λ (l : List ℕ). AllGo (ran l (againstNewest l (map encode vs) lent))) L g₂)
     ∙ (λ i. record { start = q i .start; edits = q i .edits ++ vs }) ∙ (λ i. record { start = h .start; edits = append-assoc (h .edits) (v ∷ []) vs i })
 
 -- ---- an edit and its counterparts

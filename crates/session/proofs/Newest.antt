@@ -9,7 +9,7 @@ use mathlib.Core.Bool.{true, _&&_, and-true}
 use lib.Seq.{drop-length, length-take-le}
 use Rattle.buffers.specs.Buffers.{atFront}
 use Rattle.buffers.proofs.Tests.{holds}
-use Rattle.answers.specs.Answer.{first, needs, settle, gives, refused}
+use Rattle.answers.specs.Answer.{orElse, needs, unlessRefused, success, refused}
 use Rattle.answers.specs.Output.{Outs}
 use Rattle.answers.proofs.Refusals.{first-zero}
 use Rattle.record.specs.Layout.{sizeOf, baseOf}
@@ -26,12 +26,12 @@ use Rattle.session.proofs.Accepting.{sizes, first-same}
 unfoldable pub newestFault : (edit log : List ℕ) → ℕ
 unfolding recordFault readable lengthAt sizeOfLog
 newestFault edit log =
-    first (recordFault edit)
+    orElse (recordFault edit)
     (needs (readable log) 6
     (needs (eqb (baseOf edit) (lengthAt (countOf log) log)) 8
     (needs (ltb (countOf log) 256) 9 (needs (leb (sizeOfLog log + sizeOf edit) (length log)) 10 0))))
 
-settle-same : {A : Type 0} (f : ℕ) (stop : ℕ → A) (x y : A) → (f ≡ 0 → x ≡ y) → settle f stop x ≡ settle f stop y
+settle-same : {A : Type 0} (f : ℕ) (stop : ℕ → A) (x y : A) → (f ≡ 0 → x ≡ y) → unlessRefused f stop x ≡ unlessRefused f stop y
 settle-same zero stop x y e = e refl
 settle-same (suc f) stop x y e = refl
 
@@ -55,7 +55,7 @@ module _ (edit log out : List ℕ) (b : Bytes edit) where
       let n = length (encode (ops edit)) in
       (λ i.
       let m = moved-newest i in
-      first (recordFault edit)
+      orElse (recordFault edit)
       (needs (readable log) 6
       (needs (holds (leb r r) (le→leb r r (omega arith)) i) 7
       (needs (eqb (baseOf edit) (lengthAt r log)) 8
@@ -63,7 +63,7 @@ module _ (edit log out : List ℕ) (b : Bytes edit) where
       (needs (leb (sizeOfLog log + length (encode (m .edit))) (length log) && leb (length (encodeAll (m .counterparts))) (length out)) 10 0))))))
       ∙ (λ i.
       let room = leb (sizeOfLog log + n) (length log) in
-      first (recordFault edit)
+      orElse (recordFault edit)
       (needs (readable log) 6
       (needs (eqb (baseOf edit) (lengthAt r log)) 8
       (needs (and-true (ltb r 256) i) 9 (needs ((ap (λ x. room && x) (leb·zero (length out)) ∙ and-true room) i) 10 0)))))
@@ -77,13 +77,13 @@ module _ (edit log out : List ℕ) (b : Bytes edit) where
   stop n = record { answer = refused n; outA = log; outB = out }
 
   pub accept-newest : acceptCall edit r log out
-      ≡ settle (newestFault edit log) stop (record { answer = gives (sizeOf edit ∷ 0 ∷ []); outA = append log (take (sizeOf edit) edit); outB = out })
+      ≡ unlessRefused (newestFault edit log) stop (record { answer = success (sizeOf edit ∷ 0 ∷ []); outA = append log (take (sizeOf edit) edit); outB = out })
   unfolding acceptCall newestFault encodeAll atFront
   accept-newest =
       (λ i.
       let m = moved-newest i in
-      settle (fault-newest i) stop
+      unlessRefused (fault-newest i) stop
       (record { answer = sizes m; outA = append log (encode (m .edit)); outB = atFront (encodeAll (m .counterparts)) out }))
       ∙ settle-same (newestFault edit log) stop _ _ (λ z.
       let z₀ = first-zero (recordFault edit) _ z .0 in
-      λ i. record { answer = gives (size-newest z₀ i ∷ 0 ∷ []); outA = append log (encode-ops edit z₀ b i); outB = out })
+      λ i. record { answer = success (size-newest z₀ i ∷ 0 ∷ []); outA = append log (encode-ops edit z₀ b i); outB = out })

@@ -21,7 +21,7 @@ use Rattle.edits.proofs.Unique.{unique}
 use Rattle.record.specs.Record.{fits}
 use Rattle.log.proofs.Rows.{lengthAfter, Row}
 use Rattle.session.specs.History.{later, targetAfter, partials, final}
-use Rattle.session.specs.Rows.{playAll, still, composeAll, composesWithin}
+use Rattle.session.specs.Rows.{playAll, retainAll, composeAll, composesWithin}
 
 -- ---- the history's words for parts of a row
 
@@ -47,16 +47,16 @@ playAll-length n (e ∷ es) t r l = playAll-length (target e) es (apply e t) (r 
 
 -- ---- summing up
 
-pub still-base : (n : ℕ) → base (still n) ≡ n
-unfolding still
+pub still-base : (n : ℕ) → base (retainAll n) ≡ n
+unfolding retainAll
 still-base n = build-base (retain n ∷ []) ∙ add-zero n
 
-pub still-target : (n : ℕ) → target (still n) ≡ n
-unfolding still
+pub still-target : (n : ℕ) → target (retainAll n) ≡ n
+unfolding retainAll
 still-target n = build-target (retain n ∷ []) ∙ add-zero n
 
-pub still-apply : (n : ℕ) (t : List Char) → length t ≡ n → apply (still n) t ≡ t
-unfolding still
+pub still-apply : (n : ℕ) (t : List Char) → length t ≡ n → apply (retainAll n) t ≡ t
+unfolding retainAll
 still-apply n t l = build-apply (retain n ∷ []) t ∙ append-nil (take n t) ∙ take-all n t (omega arith)
 
 -- the history's partial results
@@ -86,22 +86,22 @@ composeAll-apply s (e ∷ es) t l w =
     ∙ ap (playAll es) (compose-apply s e q t l)
 
 unfoldable pub summary : ℕ → List Seq → Seq
-unfolding still
-summary n es = composeAll (still n) es
+unfolding retainAll
+summary n es = composeAll (retainAll n) es
 
 pub summary-built : (n : ℕ) (es : List Seq) → Built (summary n es)
-unfolding summary still
-summary-built n es = composeAll-built (still n) es (build-built (retain n ∷ []))
+unfolding summary retainAll
+summary-built n es = composeAll-built (retainAll n) es (build-built (retain n ∷ []))
 
 module _ (n : ℕ) (es : List Seq) (w : Row n es) where
   pub summary-base : base (summary n es) ≡ n
   unfolding summary
-  summary-base = composeAll-base (still n) es (rw (still-target n) w) ∙ still-base n
+  summary-base = composeAll-base (retainAll n) es (rw (still-target n) w) ∙ still-base n
 
   pub summary-plays : (t : List Char) → length t ≡ n → apply (summary n es) t ≡ playAll es t
   unfolding summary
   summary-plays t l =
-      composeAll-apply (still n) es t (l ∙ sym (still-base n)) (rw (still-target n) w) ∙ ap (playAll es) (still-apply n t l)
+      composeAll-apply (retainAll n) es t (l ∙ sym (still-base n)) (rw (still-target n) w) ∙ ap (playAll es) (still-apply n t l)
 
 -- two rows have one summary exactly where they do the same to every text
 module _ (n : ℕ) (es vs : List Seq) (w : Row n es) (x : Row n vs) where

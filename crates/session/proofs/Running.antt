@@ -8,7 +8,7 @@ use native.Mathlib.Omega.{arith}
 use Rattle.buffers.specs.Buffers.{atFront}
 use Rattle.buffers.specs.Words.{words}
 use Rattle.buffers.proofs.Tests.{holds}
-use Rattle.answers.specs.Answer.{goes, settle, needs, gives}
+use Rattle.answers.specs.Answer.{succeeds, unlessRefused, needs, success}
 use Rattle.answers.specs.Output.{writing}
 use Rattle.answers.proofs.Refusals.{needs-out}
 use Rattle.answers.proofs.Outputs.{wrote, atFront-take}
@@ -17,9 +17,9 @@ use Rattle.record.proofs.Records.{ops-good}
 use Rattle.log.specs.Log.{contents, encodeAll, logOf, readable}
 use Rattle.log.specs.Open.{openCall}
 use Rattle.log.proofs.Logs.{contents-log, start-log, revisions-log, readable-log}
-use Rattle.session.specs.History.{History, logIn, Told, fresh, historySummary}
-use Rattle.session.specs.Demand.{Call, fed, accept, ran, foretold, after, logAfter, Fresh, Given}
-use Rattle.session.specs.Rows.{still, composesWithin}
+use Rattle.session.specs.History.{History, logIn, Outcome, fresh, historySummary}
+use Rattle.session.specs.Demand.{Call, fedCall, accept, ran, expected, after, logAfter, Fresh, Given}
+use Rattle.session.specs.Rows.{retainAll, composesWithin}
 use Rattle.session.specs.Session.{summaryFault, summaryCall}
 use Rattle.session.proofs.Accepting.{moved, through, Passed, SoundIn, joined, fault, back, history-told, passed, joined-sound, accept-log}
 use Rattle.session.proofs.Rows.{partials-final, partials-fit, summary}
@@ -30,74 +30,74 @@ use Rattle.session.proofs.Rows.{partials-final, partials-fit, summary}
 pub record Went (h : History) (c : Call) : Type 0 where
   pub faultless : recordFault (c .edit) ≡ 0
   pub pass : Passed h (ops (c .edit)) (c .rev)
-  pub told : fed h c ≡ through h (moved h (c .edit) (c .rev))
+  pub told : fedCall h c ≡ through h (moved h (c .edit) (c .rev))
 
 module _ (h : History) (c : Call) where
   abbrev faults : ℕ
   faults = fault h (c .edit) (c .rev) (length (logIn h ++ c .behind)) (length (c .out))
 
-  abbrev done : Told
+  abbrev done : Outcome
   done = through h (moved h (c .edit) (c .rev))
 
-  fed-settles : fed h c ≡ settle faults (back h) done
+  fed-settles : fedCall h c ≡ unlessRefused faults (back h) done
   fed-settles = history-told h (c .edit) (c .rev) (length (logIn h ++ c .behind)) (length (c .out))
 
   no-fault : faults ≡ 0 → Went h c
   no-fault z =
       let (a, b) = passed h (c .edit) (c .rev) _ _ z in
-      record { faultless = a; pass = b; told = fed-settles ∙ ap (λ f. settle f (back h) done) z }
+      record { faultless = a; pass = b; told = fed-settles ∙ ap (λ f. unlessRefused f (back h) done) z }
 
-  pub went : T (goes (fed h c .answer)) → Went h c
+  pub went : T (succeeds (fedCall h c .answer)) → Went h c
   went g = go faults refl (rw fed-settles at g)
     where
-      go : (f : ℕ) → faults ≡ f → T (goes (settle f (back h) done .answer)) → Went h c
+      go : (f : ℕ) → faults ≡ f → T (succeeds (unlessRefused f (back h) done .answer)) → Went h c
       go zero z t = no-fault z
       go (suc n) z t = absurd t
 
   -- what holds of the history, and where the call goes through of the one with what came out, holds afterwards
-  pub fed-rule : (P : History → Type 0) → P h → (Went h c → P (joined h (moved h (c .edit) (c .rev) .edit))) → P (fed h c .history)
+  pub fed-rule : (P : History → Type 0) → P h → (Went h c → P (joined h (moved h (c .edit) (c .rev) .edit))) → P (fedCall h c .history)
   fed-rule P a b = rw fed-settles (go faults refl)
     where
-      go : (f : ℕ) → faults ≡ f → P (settle f (back h) done .history)
+      go : (f : ℕ) → faults ≡ f → P (unlessRefused f (back h) done .history)
       go zero z = b (no-fault z)
       go (suc n) z = a
 
-  pub fed-sound : SoundIn h → SoundIn (fed h c .history)
+  pub fed-sound : SoundIn h → SoundIn (fedCall h c .history)
   fed-sound s = rw fed-settles (go faults refl)
     where
-      go : (f : ℕ) → faults ≡ f → SoundIn (settle f (back h) done .history)
+      go : (f : ℕ) → faults ≡ f → SoundIn (unlessRefused f (back h) done .history)
       go zero z = let w = no-fault z in joined-sound h s (ops (c .edit)) (c .rev) (w .pass) (ops-good (c .edit) (w .faultless))
       go (suc n) z = s
 
-  pub fed-start : fed h c .history .start ≡ h .start
+  pub fed-start : fedCall h c .history .start ≡ h .start
   fed-start = rw fed-settles (go faults)
     where
-      go : (f : ℕ) → settle f (back h) done .history .start ≡ h .start
+      go : (f : ℕ) → unlessRefused f (back h) done .history .start ≡ h .start
       go zero = refl
       go (suc n) = refl
 
-  pub left-log : SoundIn h → contents (accept (logIn h) c .outA) ≡ logIn (fed h c .history)
+  pub left-log : SoundIn h → contents (accept (logIn h) c .outA) ≡ logIn (fedCall h c .history)
   unfolding atFront
-  left-log s = ap (λ o. contents (o .outA)) (accept-log h s c) ∙ contents-log (fed h c .history .start) (fed h c .history .edits) _
+  left-log s = ap (λ o. contents (o .outA)) (accept-log h s c) ∙ contents-log (fedCall h c .history .start) (fedCall h c .history .edits) _
 
 -- ---- lists of calls
 
-pub run-log : (h : History) → SoundIn h → (cs : List Call) → ran (logIn h) cs ≡ foretold h cs
+pub run-log : (h : History) → SoundIn h → (cs : List Call) → ran (logIn h) cs ≡ expected h cs
 run-log h s [] = refl
 run-log h s (c ∷ cs) =
-    ap₂ _∷_ (accept-log h s c) (ap (λ l. ran l cs) (left-log h c s) ∙ run-log (fed h c .history) (fed-sound h c s) cs)
+    ap₂ _∷_ (accept-log h s c) (ap (λ l. ran l cs) (left-log h c s) ∙ run-log (fedCall h c .history) (fed-sound h c s) cs)
 
 pub after-sound : (h : History) → SoundIn h → (cs : List Call) → SoundIn (after h cs)
 after-sound h s [] = s
-after-sound h s (c ∷ cs) = after-sound (fed h c .history) (fed-sound h c s) cs
+after-sound h s (c ∷ cs) = after-sound (fedCall h c .history) (fed-sound h c s) cs
 
 pub after-start : (h : History) (cs : List Call) → after h cs .start ≡ h .start
 after-start h [] = refl
-after-start h (c ∷ cs) = after-start (fed h c .history) cs ∙ fed-start h c
+after-start h (c ∷ cs) = after-start (fedCall h c .history) cs ∙ fed-start h c
 
 pub after-log : (h : History) → SoundIn h → (cs : List Call) → logAfter (logIn h) cs ≡ logIn (after h cs)
 after-log h s [] = refl
-after-log h s (c ∷ cs) = ap (λ l. logAfter l cs) (left-log h c s) ∙ after-log (fed h c .history) (fed-sound h c s) cs
+after-log h s (c ∷ cs) = ap (λ l. logAfter l cs) (left-log h c s) ∙ after-log (fedCall h c .history) (fed-sound h c s) cs
 
 -- ---- opening
 
@@ -115,12 +115,12 @@ fresh-log n log f =
 -- ---- summaries
 
 abbrev tooLarge : History → ℕ
-tooLarge h = needs (composesWithin (still (h .start)) (h .edits)) 9 0
+tooLarge h = needs (composesWithin (retainAll (h .start)) (h .edits)) 9 0
 
 summary-told : (h : History) (out : List ℕ) → historySummary h out ≡ writing (tooLarge h) (encode (summary (h .start) (h .edits))) out
 unfolding historySummary summary
 summary-told h out =
-    let s = still (h .start) in
+    let s = retainAll (h .start) in
     λ i. writing (needs (partials-fit s (h .edits) i) 9 0) (encode (partials-final s s (h .edits) i)) out
 
 pub summary-log : (h : History) → SoundIn h → (behind out : List ℕ) → summaryCall (logIn h ++ behind) out ≡ historySummary h out
@@ -128,7 +128,7 @@ unfolding summaryCall summaryFault summary
 summary-log h s behind out =
     let n = start-log (h .start) (h .edits) behind in
     let es = revisions-log (h .start) (h .edits) behind in
-    (λ i. writing (needs (holds (readable (logIn h ++ behind)) (readable-log (h .start) (h .edits) behind s) i) 6 (needs (composesWithin (still (n i)) (es i)) 9 0))
+    (λ i. writing (needs (holds (readable (logIn h ++ behind)) (readable-log (h .start) (h .edits) behind s) i) 6 (needs (composesWithin (retainAll (n i)) (es i)) 9 0))
     (encode (summary (n i) (es i))) out)
     ∙ sym (summary-told h out)
 
@@ -136,8 +136,8 @@ pub given : (h : History) → SoundIn h → (s : List ℕ) → Given (logIn h) s
 given h sound s g =
     let S = encode (summary (h .start) (h .edits)) in
     let e = summary-log h sound (g .behind) (g .out) ∙ summary-told h (g .out) in
-    let a : writing (tooLarge h) S (g .out) .answer ≡ gives (length s ∷ []) = ap (λ o. o .answer) (sym e) ∙ g .answers in
+    let a : writing (tooLarge h) S (g .out) .answer ≡ success (length s ∷ []) = ap (λ o. o .answer) (sym e) ∙ g .answers in
     let w = wrote (tooLarge h) S (g .out) (rw a tt) in
-    let b : gives (length S ∷ []) ≡ gives (length s ∷ []) = ap (λ o. o .answer) (sym (w .is)) ∙ a in
+    let b : success (length S ∷ []) ≡ success (length s ∷ []) = ap (λ o. o .answer) (sym (w .is)) ∙ a in
     let l : length s ≡ length S = cc b in
     sym (g .writes) ∙ ap₂ take l (ap (λ o. o .out) (e ∙ w .is)) ∙ atFront-take S (g .out)

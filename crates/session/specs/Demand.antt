@@ -9,20 +9,20 @@ use Rattle.buffers.specs.Buffers.{atFront}
 use Rattle.buffers.specs.Lists.{allOf}
 use Rattle.characters.specs.Form.{wellFormed}
 use Rattle.characters.specs.Chars.{numChars}
-use Rattle.answers.specs.Answer.{gives, goes}
+use Rattle.answers.specs.Answer.{success, succeeds}
 use Rattle.answers.specs.Output.{Outs}
 use Rattle.record.specs.Layout.{sizeOf}
 use Rattle.log.specs.Log.{contents, encodeAll, countOf, recordsIn, revisions}
 use Rattle.log.specs.Open.{openCall}
 use Rattle.session.specs.Session.{acceptCall, summaryCall}
-use Rattle.session.specs.History.{History, logIn, Told, historyAccept, fresh, historySummary, historyPlay}
+use Rattle.session.specs.History.{History, logIn, Outcome, historyAccept, fresh, historySummary, historyPlay}
 
 -- ---- a session: a log that was just opened, and a list of accept calls
 
 -- `log` is what opening left
 pub record Fresh (n : ℕ) (log : List ℕ) : Type 0 where
   pub buffer : List ℕ
-  pub opens : openCall n buffer .answer ≡ gives (4 ∷ [])
+  pub opens : openCall n buffer .answer ≡ success (4 ∷ [])
   pub leaves : contents (openCall n buffer .out) ≡ log
 
 -- a call is lent a buffer with the log's contents and any bytes behind them, and any output
@@ -46,24 +46,24 @@ logAfter log (c ∷ cs) = logAfter (contents (accept log c .outA)) cs
 
 -- ---- the history of such a list
 
-abbrev pub fed : History → Call → Told
-fed h c = historyAccept h (c .edit) (c .rev) (length (logIn h ++ c .behind)) (length (c .out))
+abbrev pub fedCall : History → Call → Outcome
+fedCall h c = historyAccept h (c .edit) (c .rev) (length (logIn h ++ c .behind)) (length (c .out))
 
 abbrev pub after : History → List Call → History
 after h [] = h
-after h (c ∷ cs) = after (fed h c .history) cs
+after h (c ∷ cs) = after (fedCall h c .history) cs
 
 -- what the history gives: the answer, the log and the counterparts at the front of their buffers, all else as it was
-abbrev pub shown : History → Call → Outs
-shown h c = record {
-  answer = fed h c .answer;
-  outA = atFront (logIn (fed h c .history)) (logIn h ++ c .behind);
-  outB = atFront (encodeAll (fed h c .counterparts)) (c .out);
+abbrev pub expectedCall : History → Call → Outs
+expectedCall h c = record {
+  answer = fedCall h c .answer;
+  outA = atFront (logIn (fedCall h c .history)) (logIn h ++ c .behind);
+  outB = atFront (encodeAll (fedCall h c .counterparts)) (c .out);
 }
 
-abbrev pub foretold : History → List Call → List Outs
-foretold h [] = []
-foretold h (c ∷ cs) = shown h c ∷ foretold (fed h c .history) cs
+abbrev pub expected : History → List Call → List Outs
+expected h [] = []
+expected h (c ∷ cs) = expectedCall h c ∷ expected (fedCall h c .history) cs
 
 -- ---- summaries that are given
 
@@ -71,14 +71,14 @@ foretold h (c ∷ cs) = shown h c ∷ foretold (fed h c .history) cs
 pub record Given (log s : List ℕ) : Type 0 where
   pub behind : List ℕ
   pub out : List ℕ
-  pub answers : summaryCall (log ++ behind) out .answer ≡ gives (length s ∷ [])
+  pub answers : summaryCall (log ++ behind) out .answer ≡ success (length s ∷ [])
   pub writes : take (length s) (summaryCall (log ++ behind) out .out) ≡ s
 
 -- ---- the second session
 
 -- none of these accepts is refused
 abbrev pub AllGo : List Outs → Type 0
-AllGo os = T (allOf (λ o. goes (o .answer)) os)
+AllGo os = T (allOf (λ o. succeeds (o .answer)) os)
 
 -- what else a call is lent: the bytes behind the edit and behind the log, and the output
 pub record Lent : Type 0 where
@@ -106,8 +106,8 @@ again c b = record { edit = take (sizeOf (c .edit)) (c .edit) ++ b .behindEdit; 
 
 -- "each answer, refusal, log and counterpart is just what document 01's history of that list gives, and so is a summary at
 -- any point"
-pub record AsForetold (n : ℕ) (log : List ℕ) (cs : List Call) : Type 0 where
-  pub calls : ran log cs ≡ foretold (fresh n) cs
+pub record AsExpected (n : ℕ) (log : List ℕ) (cs : List Call) : Type 0 where
+  pub calls : ran log cs ≡ expected (fresh n) cs
   pub summaries : (behind out : List ℕ) → summaryCall (logAfter log cs ++ behind) out ≡ historySummary (after (fresh n) cs) out
 
 -- "the summaries after them, where both are given, agree byte for byte exactly when on every text of that length playing one
@@ -129,6 +129,6 @@ CopiesMeet here there =
     → (s t : List ℕ) → Given (logAfter here (c ∷ [])) s → Given (logAfter there (edited ∷ then)) t → s ≡ t
 
 pub record Demand3 : Type 0 where
-  pub as-foretold : (n : ℕ) (log : List ℕ) → Fresh n log → (cs : List Call) → AsForetold n log cs
+  pub as-foretold : (n : ℕ) (log : List ℕ) → Fresh n log → (cs : List Call) → AsExpected n log cs
   pub summaries-tell : (n : ℕ) (log log′ : List ℕ) → Fresh n log → Fresh n log′ → (cs ds : List Call) → SummariesTell n log log′ cs ds
   pub copies-meet : (n : ℕ) (log log′ : List ℕ) → Fresh n log → Fresh n log′ → (cs ds : List Call) → CopiesMeet (logAfter log cs) (logAfter log′ ds)

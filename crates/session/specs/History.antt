@@ -11,11 +11,11 @@ use Rattle.edits.specs.Sequence.{Seq}
 use Rattle.edits.specs.Op.{target, base}
 use Rattle.edits.specs.Transform.{Sides}
 use Rattle.edits.specs.Compose.{compose}
-use Rattle.answers.specs.Answer.{Answer, first, gives, needs, refused, settle}
+use Rattle.answers.specs.Answer.{Answer, orElse, success, needs, refused, unlessRefused}
 use Rattle.answers.specs.Output.{Out, writing}
 use Rattle.record.specs.Record.{encode, fits, ops, recordFault}
 use Rattle.log.specs.Log.{logOf, encodeAll, maxRevisions}
-use Rattle.session.specs.Rows.{rule, still, playAll}
+use Rattle.session.specs.Rows.{rule, retainAll, playAll}
 
 -- "the starting length and a row of edits, its revisions: none at first"
 pub record History : Type 0 where
@@ -51,27 +51,27 @@ comesOut e [] = e
 comesOut e (s ∷ ss) = comesOut (s .left) ss
 
 -- a call's answer, the counterparts, and the history after it
-pub record Told : Type 0 where
+pub record Outcome : Type 0 where
   pub answer : Answer
   pub counterparts : List Seq
   pub history : History
 
 -- "It is fed each accept's edit and r, and the sizes of the log's buffer and of the output for counterparts."
-unfoldable pub historyAccept : History → List ℕ → ℕ → ℕ → ℕ → Told
+unfoldable pub historyAccept : History → List ℕ → ℕ → ℕ → ℕ → Outcome
 unfolding recordFault ops logOf rule fits encode encodeAll
 historyAccept h edit r room space =
     let ts = transforms (ops edit) (later r (h .edits)) in
     let new = comesOut (ops edit) ts in
     let counterparts = map (λ s. s .right) ts in
     let next : History = record { start = h .start; edits = h .edits ++ (new ∷ []) } in
-    settle
-    (first (recordFault edit)
+    unlessRefused
+    (orElse (recordFault edit)
     (needs (leb r (length (h .edits))) 7
     (needs (eqb (base (ops edit)) (targetAfter (h .start) (h .edits) r)) 8
     (needs (ltb (length (h .edits)) maxRevisions && allOf (λ s. fits (s .left) && fits (s .right)) ts) 9
     (needs (leb (length (logIn next)) room && leb (length (encodeAll counterparts)) space) 10 0)))))
     (λ n. record { answer = refused n; counterparts = []; history = h })
-    (record { answer = gives (length (encode new) ∷ length (encodeAll counterparts) ∷ []); counterparts = counterparts; history = next })
+    (record { answer = success (length (encode new) ∷ length (encodeAll counterparts) ∷ []); counterparts = counterparts; history = next })
 
 -- the partial results of composing a row, and the last of them
 abbrev pub partials : Seq → List Seq → List Seq
@@ -84,10 +84,10 @@ final s (p ∷ ps) = final p ps
 
 -- "9 as there, then 10 if the output is too short"
 unfoldable pub historySummary : History → List ℕ → Out
-unfolding still fits writing encode
+unfolding retainAll fits writing encode
 historySummary h out =
-    let ps = partials (still (h .start)) (h .edits) in
-    writing (needs (allOf fits ps) 9 0) (encode (final (still (h .start)) ps)) out
+    let ps = partials (retainAll (h .start)) (h .edits) in
+    writing (needs (allOf fits ps) 9 0) (encode (final (retainAll (h .start)) ps)) out
 
 -- "Playing a history on a text applies its edits, oldest first, with no limit on room."
 unfoldable pub historyPlay : History → List ℕ → List ℕ

@@ -9,10 +9,10 @@ use Rattle.characters.specs.Text.{Char}
 use Rattle.edits.specs.Sequence.{Seq}
 use Rattle.edits.specs.Trace.{carry, Within, stays, marked, typed}
 use Rattle.edits.specs.Op.{target}
-use Rattle.answers.specs.Answer.{goes}
+use Rattle.answers.specs.Answer.{succeeds}
 use Rattle.record.specs.Record.{ops}
 use Rattle.session.specs.History.{History}
-use Rattle.session.specs.Demand.{Call, fed, after}
+use Rattle.session.specs.Demand.{Call, fedCall, after}
 use Rattle.session.specs.Rows.{playAll}
 
 -- the marks of the text after a row of edits
@@ -31,8 +31,8 @@ newest n (e ∷ f ∷ es) = newest (target e) (f ∷ es)
 abbrev pub Spared : ℕ → List Bool → History → List Call → Type 0
 Spared k ms h [] = Unit {0}
 Spared k ms h (c ∷ cs) =
-    (T (goes (fed h c .answer)) → k ≤ c .rev → Within (carryAll false (take (c .rev - k) (drop k (h .edits))) ms) (stays (ops (c .edit))))
-    × Spared k ms (fed h c .history) cs
+    (T (succeeds (fedCall h c .answer)) → k ≤ c .rev → Within (carryAll false (take (c .rev - k) (drop k (h .edits))) ms) (stays (ops (c .edit))))
+    × Spared k ms (fedCall h c .history) cs
 
 -- any characters that the newest revision typed: after more calls they stand in the text, as they were and in order, unless an
 -- accepted edit whose author had seen them deletes one
@@ -46,9 +46,9 @@ NothingLost h later =
 -- all of them: the text has what the accepted edit `c` types, word for word
 abbrev pub TypedStands : History → Call → List Call → Type 0
 TypedStands h c later =
-    let g = fed h c .history in
+    let g = fedCall h c .history in
     let k = length (g .edits) in
     let ms = newest (g .start) (g .edits) in
     let es = after g later .edits in
-    T (goes (fed h c .answer)) → Spared k ms g later
+    T (succeeds (fedCall h c .answer)) → Spared k ms g later
     → (t : List Char) → length t ≡ h .start → marked (carryAll false (drop k es) ms) (playAll es t) ≡ typed (ops (c .edit))

@@ -26,9 +26,9 @@ longest (e ∷ es) t = max (length (bytes t)) (longest es (apply e t))
 
 -- ---- summing up: "composes the revisions in order, beginning with the sequence that retains the starting length"
 
-unfoldable pub still : ℕ → Seq
+unfoldable pub retainAll : ℕ → Seq
 unfolding build
-still n = build (retain n ∷ [])
+retainAll n = build (retain n ∷ [])
 
 abbrev pub composeAll : Seq → List Seq → Seq
 composeAll s [] = s

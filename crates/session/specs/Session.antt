@@ -9,12 +9,12 @@ use Rattle.buffers.specs.Buffers.{atFront}
 use Rattle.characters.specs.Text.{chars, bytes}
 use Rattle.characters.specs.Form.{wellFormed}
 use Rattle.characters.specs.Chars.{numChars}
-use Rattle.answers.specs.Answer.{first, needs, gives, refused, settle}
+use Rattle.answers.specs.Answer.{orElse, needs, success, refused, unlessRefused}
 use Rattle.answers.specs.Output.{Outs, Out, writing}
 use Rattle.record.specs.Record.{ops, encode, recordFault, fits}
 use Rattle.record.specs.Layout.{baseOf}
-use Rattle.log.specs.Log.{revisions, encodeAll, countOf, readable, sizeOfLog, lengthAt, startOf, maxRevisions}
-use Rattle.session.specs.Rows.{Moved, rebase, still, composesWithin, composeAll, playAll, longest}
+use Rattle.log.specs.Log.{revisions, encodeAll, countOf, readable, sizeOfLog, lengthAt, maxRevisions, startOf}
+use Rattle.session.specs.Rows.{Moved, rebase, retainAll, composesWithin, composeAll, playAll, longest}
 
 -- ---- accept: "Checks: the edit, the log, 7, 8 (its base isn't the length after revision r), 9, 10."
 
@@ -27,7 +27,7 @@ unfoldable pub acceptFault : List ℕ → ℕ → List ℕ → List ℕ → ℕ
 unfolding movedIn readable recordFault lengthAt sizeOfLog encode encodeAll
 acceptFault edit r log out =
     let m = movedIn edit r log in
-    first (recordFault edit)
+    orElse (recordFault edit)
     (needs (readable log) 6
     (needs (leb r (countOf log)) 7
     (needs (eqb (baseOf edit) (lengthAt r log)) 8
@@ -46,9 +46,9 @@ unfoldable pub acceptCall : List ℕ → ℕ → List ℕ → List ℕ → Outs
 unfolding acceptFault movedIn append encode encodeAll atFront
 acceptCall edit r log out =
     let m = movedIn edit r log in
-    settle (acceptFault edit r log out) (λ n. record { answer = refused n; outA = log; outB = out })
+    unlessRefused (acceptFault edit r log out) (λ n. record { answer = refused n; outA = log; outB = out })
     (record {
-      answer = gives (length (encode (m .edit)) ∷ length (encodeAll (m .counterparts)) ∷ []);
+      answer = success (length (encode (m .edit)) ∷ length (encodeAll (m .counterparts)) ∷ []);
       outA = append log (encode (m .edit));
       outB = atFront (encodeAll (m .counterparts)) out;
     })
@@ -56,12 +56,12 @@ acceptCall edit r log out =
 -- ---- summary
 
 unfoldable pub summaryFault : List ℕ → ℕ
-unfolding readable revisions still fits
-summaryFault log = needs (readable log) 6 (needs (composesWithin (still (startOf log)) (revisions log)) 9 0)
+unfolding readable revisions retainAll fits
+summaryFault log = needs (readable log) 6 (needs (composesWithin (retainAll (startOf log)) (revisions log)) 9 0)
 
 unfoldable pub summaryCall : List ℕ → List ℕ → Out
-unfolding summaryFault revisions still writing encode
-summaryCall log out = writing (summaryFault log) (encode (composeAll (still (startOf log)) (revisions log))) out
+unfolding summaryFault revisions retainAll writing encode
+summaryCall log out = writing (summaryFault log) (encode (composeAll (retainAll (startOf log)) (revisions log))) out
 
 -- ---- play: "Checks: text, log, 8, 10 (a scratch shorter than the longest text on the way ..)"
 

@@ -19,7 +19,7 @@ use Rattle.emitter.specs.InnerEmit.{Under, Rep}
 use Rattle.emitter.proofs.Loops.{run-end}
 use Rattle.emitter.proofs.Adding.{rep-start, under-start, under-more}
 use Rattle.steps.specs.declared.core.State.{State}
-use Rattle.steps.specs.InnerSteps.{liveIs, Begun, still, Went}
+use Rattle.steps.specs.InnerSteps.{liveIs, Begun, remaining, Went}
 use Rattle.steps.proofs.Turning.{both-ended}
 
 module _ (turn : Op Char → Op Char → align.Turn) (g : Step Char → Seq) where
@@ -31,7 +31,7 @@ module _ (turn : Op Char → Op Char → align.Turn) (g : Step Char → Seq) whe
     pub under : Under (540000 * turns) (s .e)
     pub acc : Seq
     pub rep : Rep n out0 acc (s .e) o
-    pub left : still turn g acc (ahead a (s .x)) (ahead b (s .y)) ≡ still turn g [] (ops a) (ops b)
+    pub left : remaining turn g acc (ahead a (s .x)) (ahead b (s .y)) ≡ remaining turn g [] (ops a) (ops b)
 
   pub going-start : (n : ℕ) (a b o : List ℕ) (s : State) → recordFault a ≡ 0 → recordFault b ≡ 0 → Begun a b s → Going n a b o s o
   going-start n a b o s za zb h =
@@ -43,7 +43,7 @@ module _ (turn : Op Char → Op Char → align.Turn) (g : Step Char → Seq) whe
         under = rw (h .empty) under-start;
         acc = [];
         rep = rw (h .empty) (rep-start n o);
-        left = ap₂ (still turn g []) (h .all-x) (h .all-y);
+        left = ap₂ (remaining turn g []) (h .all-x) (h .all-y);
       }
 
   module _ (n : ℕ) (a b out0 : List ℕ) (s : State) (o : List ℕ) (h : Going n a b out0 s o) where
@@ -64,7 +64,7 @@ module _ (turn : Op Char → Op Char → align.Turn) (g : Step Char → Seq) whe
         }
 
     -- where nothing is left, all was built
-    pub going-all : liveIs (s .x) (s .y) ≡ false → h .acc ≡ still turn g [] (ops a) (ops b)
+    pub going-all : liveIs (s .x) (s .y) ≡ false → h .acc ≡ remaining turn g [] (ops a) (ops b)
     going-all l =
         let (p, q) = both-ended (s .x) (s .y) l in
-        sym (ap₂ (still turn g (h .acc)) (ended-ahead a (s .x) (h .stands-x) p) (ended-ahead b (s .y) (h .stands-y) q) ∙ run-end turn g (h .acc)) ∙ h .left
+        sym (ap₂ (remaining turn g (h .acc)) (ended-ahead a (s .x) (h .stands-x) p) (ended-ahead b (s .y) (h .stands-y) q) ∙ run-end turn g (h .acc)) ∙ h .left

@@ -19,7 +19,7 @@ use Rattle.record.specs.Layout.{textStart, recordsOf, textBytesOf, baseOf, targ
 use Rattle.record.proofs.Faults.{InLimits, limits, faultless}
 use Rattle.record.proofs.Records.{inBytes-text, inBytes-ops, ops-text, ops-length, ops-base, ops-target}
 use Rattle.emitter.specs.declared.core.Emitter.{Emitter}
-use Rattle.emitter.specs.InnerEmit.{Finishes, headed, settledRecords, within, judgedBoth}
+use Rattle.emitter.specs.InnerEmit.{Finishes, headed, relocatedOps, withinLimits, limitsThenRoomBoth}
 use Rattle.emitter.proofs.Staging.{marks, marked-writes}
 use Rattle.emitter.proofs.Counting.{left-length, right-length, text-left, text-right}
 use Rattle.emitter.proofs.Delivering.{within-inside}
@@ -51,9 +51,9 @@ part-is : (p q a m : ℕ) (r o : List ℕ) → p ≡ q → over p (take (a + m -
 part-is p q a m r o e = let z : a + m - a ≡ m = omega arith in λ i. over (e i) (take (z i) (drop a r)) o
 
 pub places-text : (slots n : ℕ) (e : Emitter) (stage r out : List ℕ) {f x : ℕ} {o₁ o₂ o₃ : List ℕ} → f ≡ textStart n → x ≡ textStart (e .records) → o₁ ≡ over x (take (f + e .text - f) (drop f r)) out
-    → o₂ ≡ settledRecords slots (e .records) (e .records) stage o₁ → o₃ ≡ headed e o₂ → o₃ ≡ headed e (settledRecords slots (e .records) (e .records) stage (over (textStart (e .records)) (take (e .text) (drop (textStart n) r)) out))
+    → o₂ ≡ relocatedOps slots (e .records) (e .records) stage o₁ → o₃ ≡ headed e o₂ → o₃ ≡ headed e (relocatedOps slots (e .records) (e .records) stage (over (textStart (e .records)) (take (e .text) (drop (textStart n) r)) out))
 places-text slots n e stage r out {f} {x} pf px p q w =
-    w ∙ ap (headed e) (q ∙ ap (settledRecords slots (e .records) (e .records) stage) (p ∙ part-is x (textStart (e .records)) f (e .text) r out px ∙ ap (λ k. over (textStart (e .records)) (take (e .text) (drop k r)) out) pf))
+    w ∙ ap (headed e) (q ∙ ap (relocatedOps slots (e .records) (e .records) stage) (p ∙ part-is x (textStart (e .records)) f (e .text) r out px ∙ ap (λ k. over (textStart (e .records)) (take (e .text) (drop k r)) out) pf))
 
 -- ---- `sizes`, and both sides at their places
 
@@ -96,13 +96,13 @@ module _ (a b : List ℕ) (za : recordFault a ≡ 0) (zb : recordFault b ≡ 0) 
     text-room-right = omega (arith, z .right .text-bytes, right-bytes, bounds b zb .whole)
 
     -- what is written has a place in its stage
-    module _ (slots : ℕ) (h : min (na + nb) 1024 ≤ slots) (x y : ℕ) (v : WrittenPair) (w : v ≡ judgedBoth (p .e) (p .f) x y) (k l : ℕ) (q : v ≡ written.Bytes k l) where
-      inside : (within (p .e) ≡ true) × (within (p .f) ≡ true)
-      unfolding judgedBoth
-      inside = go (within (p .e) && within (p .f)) refl
+    module _ (slots : ℕ) (h : min (na + nb) 1024 ≤ slots) (x y : ℕ) (v : WrittenPair) (w : v ≡ limitsThenRoomBoth (p .e) (p .f) x y) (k l : ℕ) (q : v ≡ written.Bytes k l) where
+      inside : (withinLimits (p .e) ≡ true) × (withinLimits (p .f) ≡ true)
+      unfolding limitsThenRoomBoth
+      inside = go (withinLimits (p .e) && withinLimits (p .f)) refl
         where
-          go : (t : Bool) → (within (p .e) && within (p .f)) ≡ t → (within (p .e) ≡ true) × (within (p .f) ≡ true)
-          go true e = and-eq-true-iff (within (p .e)) (within (p .f)) .0 e
+          go : (t : Bool) → (withinLimits (p .e) && withinLimits (p .f)) ≡ t → (withinLimits (p .e) ≡ true) × (withinLimits (p .f) ≡ true)
+          go true e = and-eq-true-iff (withinLimits (p .e)) (withinLimits (p .f)) .0 e
           go false e = absurd (let u : v ≡ written.Refused Limit = w ∙ rw e in let c : _≡_ {A = ℕ} 0 1 = cc (u, q) in omega arith)
 
       pub few-places-left : p .e .records ≤ slots
@@ -112,8 +112,8 @@ module _ (a b : List ℕ) (za : recordFault a ≡ 0) (zb : recordFault b ≡ 0) 
       few-places-right = omega (arith, within-inside (p .f) (known (inside .1)) .records, right-length (ops a) (ops b), ops-length a za, ops-length b zb, z .right .records)
 
     pub text-placed : (slots : ℕ) (c : Counts) (x y : List ℕ) → MarkedBoth slots (transform order (ops a) (ops b)) c x y → p .e .records ≤ slots → p .f .records ≤ slots → textStart slots ≤ length x → textStart slots ≤ length y → (o w o′ w′ : List ℕ)
-        → o′ ≡ headed (p .e) (settledRecords slots (p .e .records) (p .e .records) x (over (textStart (p .e .records)) (take (p .e .text) (drop (textStart na) a)) o))
-        → w′ ≡ headed (p .f) (settledRecords slots (p .f .records) (p .f .records) y (over (textStart (p .f .records)) (take (p .f .text) (drop (textStart nb) b)) w))
+        → o′ ≡ headed (p .e) (relocatedOps slots (p .e .records) (p .e .records) x (over (textStart (p .e .records)) (take (p .e .text) (drop (textStart na) a)) o))
+        → w′ ≡ headed (p .f) (relocatedOps slots (p .f .records) (p .f .records) y (over (textStart (p .f .records)) (take (p .f .text) (drop (textStart nb) b)) w))
         → WritesBoth (p .e .records) (p .f .records) (transform order (ops a) (ops b)) o w o′ w′
     text-placed slots c x y m fe ff lx ly o w o′ w′ d e =
         record {

@@ -27,7 +27,7 @@ use Rattle.emitter.specs.declared.core.Emitter.{Emitter}
 use Rattle.emitter.specs.InnerEmit.{Adds, Retains, Under}
 use Rattle.emitter.proofs.Adding.{adds-nil, adds-append, under-more, whole-op}
 use Rattle.steps.specs.declared.core.Turn.the-variants.{First, Second, Together}
-use Rattle.steps.specs.InnerSteps.{liveIs, Chooses, stepOf, still, Went}
+use Rattle.steps.specs.InnerSteps.{liveIs, Chooses, stepOf, remaining, Went}
 use Rattle.steps.specs.InnerSides.{givesOf, FirstWent, SecondWent, BothWent}
 use Rattle.steps.specs.declared.core.State.{State}
 use Rattle.steps.specs.declared.core.Turn.{Turn}
@@ -246,7 +246,7 @@ module _ (n : ℕ) (a b : List ℕ) (s : State) (o : List ℕ) (t : Turn) (c : C
         given = given;
         adds = h;
         few = few;
-        goes = λ acc. m .goes (lefts keepBoth) acc ∙ ap (λ w. still turnRule (lefts keepBoth) (addAll acc w) (ahead a (r .x)) (ahead b (r .y))) e;
+        goes = λ acc. m .goes (lefts keepBoth) acc ∙ ap (λ w. remaining turnRule (lefts keepBoth) (addAll acc w) (ahead a (r .x)) (ahead b (r .y))) e;
         less = m .less;
       }
 

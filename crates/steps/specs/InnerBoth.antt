@@ -6,7 +6,7 @@ use mathlib.Core.List.{List}
 use lib.ListN.{length}
 use Rattle.characters.specs.Order.{order}
 use Rattle.characters.specs.Text.{Char}
-use Rattle.edits.specs.Op.{cut, target}
+use Rattle.edits.specs.Op.{target, cut}
 use Rattle.edits.specs.Transform.{past, keepBoth, transformTurn, lefts, Sides}
 use Rattle.record.specs.InnerFront.{frontOp}
 use Rattle.emitter.specs.declared.core.Emitter.{Emitter}

@@ -7,10 +7,10 @@ use mathlib.Core.List.{List, [], _∷_}
 use Rattle.edits.specs.Op.{gives, cut}
 use Rattle.edits.specs.Transform.{past, keepBoth}
 use Rattle.record.specs.declared.core.Front.{Front}
+use Rattle.record.specs.Layout.{deleteKind}
 use Rattle.record.specs.InnerFront.{frontOp, Leaves}
 use Rattle.emitter.specs.InnerEmit.{Adds, Retains}
 use Rattle.steps.specs.declared.core.State.{State}
-use Rattle.record.specs.Layout.{deleteKind}
 
 abbrev pub givesOf : Front → ℕ
 givesOf f = cond (eqb (f .kind) deleteKind) 0 (f .left)

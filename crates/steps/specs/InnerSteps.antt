@@ -47,8 +47,8 @@ pub record Begun (a b : List ℕ) (s : State) : Type 0 where
   pub empty : s .e ≡ nothing
 
 -- what was built, and what the steps still to come add to it
-abbrev pub still : (Op Char → Op Char → align.Turn) → (Step Char → Seq) → Seq → Seq → Seq → Seq
-still turn g acc a b = addAll acc (each g (steps turn a b))
+abbrev pub remaining : (Op Char → Op Char → align.Turn) → (Step Char → Seq) → Seq → Seq → Seq → Seq
+remaining turn g acc a b = addAll acc (each g (steps turn a b))
 
 -- one step by a rule `turn`, which gives what `g` says
 pub record Went (turn : Op Char → Op Char → align.Turn) (g : Step Char → Seq) (n : ℕ) (a b : List ℕ) (s : State) (o : List ℕ) (r : State) (o′ : List ℕ) : Type 0 where
@@ -57,5 +57,5 @@ pub record Went (turn : Op Char → Op Char → align.Turn) (g : Step Char → S
   pub given : Seq
   pub adds : Adds n given (s .e) o (r .e) o′
   pub few : length given ≤ 2
-  pub goes : (acc : Seq) → still turn g acc (ahead a (s .x)) (ahead b (s .y)) ≡ still turn g (addAll acc given) (ahead a (r .x)) (ahead b (r .y))
+  pub goes : (acc : Seq) → remaining turn g acc (ahead a (s .x)) (ahead b (s .y)) ≡ remaining turn g (addAll acc given) (ahead a (r .x)) (ahead b (r .y))
   pub less : length (ahead a (r .x)) + length (ahead b (r .y)) < length (ahead a (s .x)) + length (ahead b (s .y))

@@ -15,7 +15,7 @@ ghost use Rattle.edits.specs.Transform.{transformTurn, transform as transformOf
 ghost use Rattle.record.specs.InnerFront.{frontText, Stands};
 ghost use Rattle.record.specs.Layout.{baseOf, textStart, recordsOf, maxOps};
 ghost use Rattle.record.specs.Record.{ops, recordFault};
-ghost use Rattle.emitter.specs.InnerEmit.{Under, headed, settledRecords};
+ghost use Rattle.emitter.specs.InnerEmit.{Under, headed, relocatedOps};
 ghost use Rattle.steps.specs.InnerSteps.{liveIs, Chooses, Begun};
 ghost use Rattle.steps.specs.InnerSides.{givesOf};
 ghost use Rattle.steps.specs.InnerBoth.{Counted, SizedBoth};
@@ -120,7 +120,7 @@ pub fn sizes(a: &[u8], b: &[u8], c: Counts) -> Pair
 // What was staged, as a record of its own: the text is that of a record of n operations.
 pub fn place_with_text(out: &mut [u8], stage: &[u8], slots: usize, e: Emitter, rec: &[u8], n: usize)
     requires { ⌜ (slots ≤ 2 ^ 40) × (n ≤ 2 ^ 40) × (e .records ≤ slots) × (textStart slots ≤ length (now stage)) × (textStart n + e .text ≤ length (now rec)) × Under (2 ^ 40) e ⌝ }
-    ensures { λ _. ⌜ now (out .exit) ≡ headed e (settledRecords slots (e .records) (e .records) (now (stage .entry)) (over (textStart (e .records)) (take (e .text) (drop (textStart n) (now (rec .entry)))) (now (out .entry)))) ⌝ }
+    ensures { λ _. ⌜ now (out .exit) ≡ headed e (relocatedOps slots (e .records) (e .records) (now (stage .entry)) (over (textStart (e .records)) (take (e .text) (drop (textStart n) (now (rec .entry)))) (now (out .entry)))) ⌝ }
 {
     let from = layout::core::text_start(n);
     buffers::core::copy_short(
@@ -130,8 +130,8 @@ pub fn place_with_text(out: &mut [u8], stage: &[u8], slots: usize, e: Emitter, r
         from,
         from + e.text,
     );
-    emitter::core::settle_records(out, e.records, stage, slots, e.records);
-    emitter::core::header(out, e);
+    emitter::core::relocate_ops(out, e.records, stage, slots, e.records);
+    emitter::core::write_header(out, e);
 }
 
 // A step uses the first front, the second, or as many characters of both.
@@ -153,9 +153,9 @@ pub fn begin(a: &[u8], na: usize, b: &[u8], nb: usize) -> State
     requires { ⌜ (na ≡ recordsOf (now a)) × (na ≤ maxOps) × (nb ≡ recordsOf (now b)) × (nb ≤ maxOps) × (recordFault (now a) ≡ 0) × (recordFault (now b) ≡ 0) ⌝ }
     ensures { λ s. ⌜ Begun (now (a .entry)) (now (b .entry)) s ⌝ }
 {
-    let x = reader::core::first(a, na);
-    let y = reader::core::first(b, nb);
-    let e = emitter::core::start();
+    let x = reader::core::first_front(a, na);
+    let y = reader::core::first_front(b, nb);
+    let e = emitter::core::new_emitter();
     State { x, y, e }
 }
 

@@ -20,7 +20,7 @@ use Rattle.edits.specs.Op.{retain}
 use Rattle.edits.proofs.Claims.{compose-built}
 use Rattle.edits.proofs.Building.{build-built}
 use Rattle.answers.specs.declared.Refusal.{Refusal}
-use Rattle.answers.specs.Answer.{number, gives, refused, writtenOf}
+use Rattle.answers.specs.Answer.{number, success, refused, writtenOf}
 use Rattle.answers.specs.declared.Written.{Written}
 use Rattle.answers.specs.declared.Written.the-variants.{Bytes, Refused}
 use Rattle.answers.specs.InnerGiven.{Gives}
@@ -34,7 +34,7 @@ use Rattle.emitter.specs.InnerEmit.{one, Under, nothing, Retains, Done, Finishe
 use Rattle.emitter.specs.declared.core.Emitter.{Emitter}
 use Rattle.emitter.proofs.Delivering.{writing-refused, builds, sized-length, written-front}
 use Rattle.emitter.proofs.Adding.{under-start, under-more}
-use Rattle.session.specs.Rows.{still}
+use Rattle.session.specs.Rows.{retainAll}
 use Rattle.session.proofs.Rows.{still-base, still-target}
 use Rattle.summary.specs.InnerSumming.{Holds, Makes}
 
@@ -79,7 +79,7 @@ module _ (a b o : List ℕ) (v : Written) (o′ : List ℕ) (g : Gives (composeC
   unfolding deliver
   over-limit p = goes-on ∙ rw p (writing-refused 9 (encode s) o (λ z. absurd (omega arith)))
 
-  in-limit : fits s ≡ true → composeCall a b o ≡ record { answer = gives (length (encode s) ∷ []); out = atFront (encode s) o }
+  in-limit : fits s ≡ true → composeCall a b o ≡ record { answer = success (length (encode s) ∷ []); out = atFront (encode s) o }
   unfolding deliver
   in-limit p = goes-on ∙ rw p (sym (writing-goes 0 (encode s) o refl (omega (arith, encode-small s (known p)))))
 
@@ -122,13 +122,13 @@ pub some-records : (n : ℕ) → (n ≡ 0 → ⊥) → 1 ≡ one n
 some-records zero h = absurd (h refl)
 some-records (suc n) h = refl
 
-still-few : (n : ℕ) → one n ≡ length (still n)
-unfolding still build addAll add put
+still-few : (n : ℕ) → one n ≡ length (retainAll n)
+unfolding retainAll build addAll add put
 still-few zero = refl
 still-few (suc n) = refl
 
-still-text : (n : ℕ) → length (text (map inBytes (still n))) ≡ 0
-unfolding still build addAll add put inBytes
+still-text : (n : ℕ) → length (text (map inBytes (retainAll n))) ≡ 0
+unfolding retainAll build addAll add put inBytes
 still-text zero = refl
 still-text (suc n) = refl
 
@@ -136,7 +136,7 @@ one-small : (n : ℕ) → one n ≤ 1
 one-small zero = omega arith
 one-small (suc n) = omega arith
 
-still-limits : (n : ℕ) → n ≤ 32768 → Limits (still n)
+still-limits : (n : ℕ) → n ≤ 32768 → Limits (retainAll n)
 still-limits n h =
     record {
       records = omega (arith, still-few n, one-small n);
@@ -145,8 +145,8 @@ still-limits n h =
       targets = omega (arith, still-target n);
     }
 
-still-built : (n : ℕ) → Built (still n)
-unfolding still
+still-built : (n : ℕ) → Built (retainAll n)
+unfolding retainAll
 still-built n = build-built (retain n ∷ [])
 
 pub still-start : (e : Emitter) → e ≡ nothing → Under (2 ^ 40) e
@@ -157,16 +157,16 @@ module _ (n : ℕ) (e f : Emitter) (p : e ≡ nothing) (a : Retains n e f) where
   still-under = under-more _ (2 ^ 39) f (omega arith) (a .adds 0 [] .under 0 (rw p under-start))
 
   module _ (m : ℕ) (o : List ℕ) (g : Emitter) (o₁ : List ℕ) (d : Finishes m f o g o₁) where
-    still-done : Done m (still n) o g o₁
-    unfolding still
+    still-done : Done m (retainAll n) o g o₁
+    unfolding retainAll
     still-done = builds m o (retain n ∷ []) p (a .adds m o) d
 
     pub still-small : Under (2 ^ 40) g
     still-small = still-done .small
 
-    pub still-holds : m ≡ one n → n ≤ 32768 → 35848 ≤ length o → (o₂ : List ℕ) → o₂ ≡ headed g o₁ → (k : ℕ) → k ≡ sizeIn g → Holds (still n) k o₂
+    pub still-holds : m ≡ one n → n ≤ 32768 → 35848 ≤ length o → (o₂ : List ℕ) → o₂ ≡ headed g o₁ → (k : ℕ) → k ≡ sizeIn g → Holds (retainAll n) k o₂
     still-holds q h r o₂ w k z =
         let l = still-limits n h in
-        let t = fits-limits (still n) .1 l in
-        holds-front (still n) k o o₂ (still-built n) t (z ∙ sized-length (still n) g (still-done .sizes))
-        (written-front (still n) m o g o₁ o₂ l (omega (arith, encode-small (still n) t)) still-done (q ∙ still-few n) w)
+        let t = fits-limits (retainAll n) .1 l in
+        holds-front (retainAll n) k o o₂ (still-built n) t (z ∙ sized-length (retainAll n) g (still-done .sizes))
+        (written-front (retainAll n) m o g o₁ o₂ l (omega (arith, encode-small (retainAll n) t)) still-done (q ∙ still-few n) w)

@@ -19,7 +19,7 @@ use Rattle.answers.specs.declared.Refusal.{Refusal}
 use Rattle.answers.specs.declared.Written.{Written}
 use Rattle.answers.specs.declared.Written.the-variants.{Bytes, Refused}
 use Rattle.answers.specs.declared.Refusal.the-variants.{Room}
-use Rattle.answers.specs.Answer.{gives, refused}
+use Rattle.answers.specs.Answer.{success, refused}
 use Rattle.answers.specs.Output.{writing}
 use Rattle.answers.specs.InnerGiven.{Gives}
 use Rattle.answers.proofs.Outputs.{writing-goes, writing-short, untouched}
@@ -33,7 +33,7 @@ use Rattle.log.specs.declared.core.Scan.{Scan}
 use Rattle.log.specs.declared.core.Scanned.{Scanned}
 use Rattle.log.specs.declared.core.Scanned.the-variants.{Unreadable, Of}
 use Rattle.log.proofs.Scanning.{Revision, revision, revisions-end, place-start, length-start, place-inside}
-use Rattle.session.specs.Rows.{still, composeAll, composesWithin}
+use Rattle.session.specs.Rows.{retainAll, composeAll, composesWithin}
 use Rattle.session.specs.Session.{summaryFault, summaryCall}
 use Rattle.session.proofs.Rows.{still-target}
 use Rattle.summary.specs.InnerSumming.{Holds, Makes, Sums}
@@ -46,17 +46,17 @@ pub record Summing (l : List ℕ) (k at size : ℕ) (b : List ℕ) : Type 0 wher
   pub held : Seq
   pub holds : Holds held size b
   pub len : target held ≡ lengthAt k l
-  pub sum : composeAll held (drop k (revisions l)) ≡ composeAll (still (startOf l)) (revisions l)
-  pub within : composesWithin held (drop k (revisions l)) ≡ composesWithin (still (startOf l)) (revisions l)
+  pub sum : composeAll held (drop k (revisions l)) ≡ composeAll (retainAll (startOf l)) (revisions l)
+  pub within : composesWithin held (drop k (revisions l)) ≡ composesWithin (retainAll (startOf l)) (revisions l)
 
 module _ (l : List ℕ) (r : T (readable l)) where
-  pub sum-start : (n size : ℕ) (b : List ℕ) → n ≡ startOf l → Holds (still n) size b → Summing l 0 4 size b
+  pub sum-start : (n size : ℕ) (b : List ℕ) → n ≡ startOf l → Holds (retainAll n) size b → Summing l 0 4 size b
   sum-start n size b e h =
-      let g : Holds (still (startOf l)) size b = rw e at h in
+      let g : Holds (retainAll (startOf l)) size b = rw e at h in
       record {
         place = sym (place-start l);
         inside = rw (← place-start l) (place-inside l r 0 (omega arith));
-        held = still (startOf l);
+        held = retainAll (startOf l);
         holds = g;
         len = still-target (startOf l) ∙ sym (length-start l);
         sum = refl;
@@ -87,10 +87,10 @@ module _ (l : List ℕ) (r : T (readable l)) where
       sum-room z d = omega (arith, there .inside)
 
       -- the row from here on is this revision and the rest
-      sum-on : composeAll (compose (ops b) (ops part)) (drop (k + 1) (revisions l)) ≡ composeAll (still (startOf l)) (revisions l)
+      sum-on : composeAll (compose (ops b) (ops part)) (drop (k + 1) (revisions l)) ≡ composeAll (retainAll (startOf l)) (revisions l)
       sum-on = ap (λ s. composeAll (compose s (ops part)) (drop (k + 1) (revisions l))) same ∙ ap (composeAll (p .held)) (sym (there .edits)) ∙ p .sum
 
-      within-on : composesWithin (compose (ops b) (ops part)) (drop (k + 1) (revisions l)) ≡ composesWithin (still (startOf l)) (revisions l)
+      within-on : composesWithin (compose (ops b) (ops part)) (drop (k + 1) (revisions l)) ≡ composesWithin (retainAll (startOf l)) (revisions l)
       within-on =
           ap (λ s. composesWithin (compose s (ops part)) (drop (k + 1) (revisions l))) same
           ∙ ap (λ t. t && composesWithin (compose (p .held) (ops part)) (drop (k + 1) (revisions l))) (sym (holds (fits (p .held)) (p .holds .in-limits)))
@@ -122,8 +122,8 @@ module _ (l : List ℕ) (r : T (readable l)) where
     pub sum-end : n ≤ k → k ≤ n → Sums l (Bytes size) b
     sum-end h g =
         let d = revisions-end k l (omega arith) in
-        let a : p .held ≡ composeAll (still (startOf l)) (revisions l) = sym (ap (composeAll (p .held)) d) ∙ p .sum in
-        let w : composesWithin (still (startOf l)) (revisions l) ≡ true = sym (p .within) ∙ ap (composesWithin (p .held)) d ∙ holds (fits (p .held)) (p .holds .in-limits) in
+        let a : p .held ≡ composeAll (retainAll (startOf l)) (revisions l) = sym (ap (composeAll (p .held)) d) ∙ p .sum in
+        let w : composesWithin (retainAll (startOf l)) (revisions l) ≡ true = sym (p .within) ∙ ap (composesWithin (p .held)) d ∙ holds (fits (p .held)) (p .holds .in-limits) in
         record { sums = (w, rw a at (p .holds)) }
 
 -- ---- what goes to the output
@@ -141,7 +141,7 @@ module _ (c : List ℕ) (k : ℕ) (o : List ℕ) (h : k ≤ length c) where
   deliver-whole g o′ w =
       let a = writing-goes 0 (take k c) o refl (omega (arith, taken)) in
       record {
-        answer = ap (λ n. gives (n ∷ [])) (sym taken) ∙ ap (λ y. y .answer) a;
+        answer = ap (λ n. success (n ∷ [])) (sym taken) ∙ ap (λ y. y .answer) a;
         out = w ∙ ap (λ n. over 0 (take n c) o) (sub-zero k) ∙ over-front (take k c) o (omega (arith, taken)) ∙ ap (λ y. y .out) a;
       }
 
@@ -152,7 +152,7 @@ module _ (l o : List ℕ) (r : T (readable l)) (v : Written) (b : List ℕ) (s :
   unfolding summaryCall summaryFault
   summed-refused x q =
       let (i, j) = (rw q at s) .sums in
-      rw (holds (readable l) r, j) (rw (writing-refused 9 (encode (composeAll (still (startOf l)) (revisions l))) o (λ z. absurd (omega arith))) (record { answer = ap refused i; out = refl }))
+      rw (holds (readable l) r, j) (rw (writing-refused 9 (encode (composeAll (retainAll (startOf l)) (revisions l))) o (λ z. absurd (omega arith))) (record { answer = ap refused i; out = refl }))
 
   module _ (k : ℕ) (q : v ≡ Bytes k) where
     pub summed-room : k ≤ length b
@@ -170,7 +170,7 @@ module _ (l o : List ℕ) (x : Scanned) (s : Scans l 0 x) where
     unfolding summaryCall summaryFault
     unread =
         let z : readable l ≡ false = (rw q at s) .scans in
-        rw z (writing-refused 6 (encode (composeAll (still (startOf l)) (revisions l))) o (λ z. absurd (omega arith)))
+        rw z (writing-refused 6 (encode (composeAll (retainAll (startOf l)) (revisions l))) o (λ z. absurd (omega arith)))
 
     pub summary-6 : refused 6 ≡ summaryCall l o .answer
     summary-6 = ap (λ y. y .answer) (sym unread)

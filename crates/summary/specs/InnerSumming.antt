@@ -12,7 +12,7 @@ use Rattle.answers.specs.declared.Written.{Written}
 use Rattle.answers.specs.declared.Written.the-variants.{Bytes, Refused}
 use Rattle.record.specs.Record.{encode, fits}
 use Rattle.log.specs.Log.{startOf, revisions}
-use Rattle.session.specs.Rows.{still, composeAll, composesWithin}
+use Rattle.session.specs.Rows.{retainAll, composeAll, composesWithin}
 
 -- the first k bytes are the record of s, which is built and keeps the limits
 pub record Holds (s : Seq) (k : ℕ) (b : List ℕ) : Type 0 where
@@ -32,8 +32,8 @@ pub record Makes (s : Seq) (w : Written) (b : List ℕ) : Type 0 where
 
 -- the same of all revisions
 abbrev pub SumsTo : List ℕ → Written → List ℕ → Type 0
-SumsTo l (Bytes k) b = (composesWithin (still (startOf l)) (revisions l) ≡ true) × Holds (composeAll (still (startOf l)) (revisions l)) k b
-SumsTo l (Refused x) b = (number x ≡ 9) × (composesWithin (still (startOf l)) (revisions l) ≡ false)
+SumsTo l (Bytes k) b = (composesWithin (retainAll (startOf l)) (revisions l) ≡ true) × Holds (composeAll (retainAll (startOf l)) (revisions l)) k b
+SumsTo l (Refused x) b = (number x ≡ 9) × (composesWithin (retainAll (startOf l)) (revisions l) ≡ false)
 
 pub record Sums (l : List ℕ) (w : Written) (b : List ℕ) : Type 0 where
   pub sums : SumsTo l w b

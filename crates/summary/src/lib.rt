@@ -10,9 +10,9 @@ ghost use lib.ListN.{length, take};
 ghost use Rattle.answers.specs.Answer.{writtenOf};
 ghost use Rattle.answers.specs.InnerGiven.{Gives};
 ghost use Rattle.answers.specs.Output.{writing};
+ghost use Rattle.record.specs.Layout.{maxSize};
 ghost use Rattle.log.specs.Log.{countOf, startOf, readable};
 ghost use Rattle.session.specs.Session.{summaryCall};
-ghost use Rattle.record.specs.Layout.{maxSize};
 
 mod partial;
 
@@ -37,7 +37,7 @@ fn summed(log: &[u8], count: usize, start: usize, out: &mut [u8]) -> Written
 {
     let mut cur = [0u8; MAX_RECORD];
     let mut next = [0u8; MAX_RECORD];
-    match partial::sum(log, count, start, &mut cur, &mut next) {
+    match partial::sum_up(log, count, start, &mut cur, &mut next) {
         Written::Refused(x) => Written::Refused(x),
         Written::Bytes(k) => delivered(&cur, k, out),
     }

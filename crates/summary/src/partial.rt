@@ -6,11 +6,11 @@ ghost use Prim.Native.Nat.{_≤_};
 ghost use lib.ListN.{length};
 ghost use lib.Dec.{T};
 ghost use Rattle.edits.specs.Compose.{compose as composeOf};
-ghost use Rattle.record.specs.Layout.{baseOf, targetOf, maxRecord, maxSize};
+ghost use Rattle.record.specs.Layout.{maxRecord, maxSize, baseOf, targetOf};
 ghost use Rattle.record.specs.Record.{ops, recordFault};
 ghost use Rattle.emitter.specs.InnerEmit.{one};
 ghost use Rattle.log.specs.Log.{countOf, startOf, readable};
-ghost use Rattle.session.specs.Rows.{still as stillOf};
+ghost use Rattle.session.specs.Rows.{retainAll as stillOf};
 ghost use Rattle.summary.specs.InnerSumming.{Holds, Makes, Sums};
 
 // How many operations retain the starting length: none for 0.
@@ -21,20 +21,20 @@ fn records(start: usize) -> usize
 }
 
 // The sequence that retains the starting length is written: the number of bytes of its record.
-fn still(start: usize, cur: &mut [u8]) -> usize
+fn retain_all(start: usize, cur: &mut [u8]) -> usize
     requires { ⌜ (start ≤ maxSize) × (maxRecord ≤ length (now cur)) ⌝ }
     ensures { λ r. ⌜ Holds (stillOf start) r (now (cur .exit)) ⌝ }
 {
     let n = records(start);
-    let e = emitter::core::start();
+    let e = emitter::core::new_emitter();
     let f = emitter::core::retain(e, start);
     let g = emitter::core::finish(cur, n, f);
-    emitter::core::header(cur, g);
+    emitter::core::write_header(cur, g);
     emitter::core::size(g)
 }
 
 // One revision more: the result takes the place of what the revision is composed with.
-fn step(rec: &[u8], cur: &mut [u8], next: &mut [u8]) -> Written
+fn compose_next(rec: &[u8], cur: &mut [u8], next: &mut [u8]) -> Written
     requires { ⌜ (recordFault (now cur) ≡ 0) × (recordFault (now rec) ≡ 0) × (targetOf (now cur) ≡ baseOf (now rec)) × (maxRecord ≤ length (now cur)) × (maxRecord ≤ length (now next)) ⌝ }
     ensures { λ r. ⌜ Makes (composeOf (ops (now (cur .entry))) (ops (now (rec .entry)))) r (now (cur .exit)) ⌝ }
 {
@@ -48,7 +48,7 @@ fn step(rec: &[u8], cur: &mut [u8], next: &mut [u8]) -> Written
 }
 
 // All revisions of a log that can be read: the number of bytes of the last result.
-pub(crate) fn sum(
+pub(crate) fn sum_up(
     log: &[u8],
     count: usize,
     start: usize,
@@ -58,12 +58,12 @@ pub(crate) fn sum(
     requires { ⌜ T (readable (now log)) × (count ≡ countOf (now log)) × (start ≡ startOf (now log)) × (start ≤ maxSize) × (maxRecord ≤ length (now cur)) × (maxRecord ≤ length (now next)) ⌝ }
     ensures { λ r. ⌜ Sums (now (log .entry)) r (now (cur .exit)) ⌝ }
 {
-    let mut size = still(start, cur);
+    let mut size = retain_all(start, cur);
     let mut at = LOG_HEADER;
     let mut k = 0;
     while k < count {
         let rec = &log[at..];
-        match step(rec, cur, next) {
+        match compose_next(rec, cur, next) {
             Written::Refused(x) => return Written::Refused(x),
             Written::Bytes(n) => {
                 size = n;

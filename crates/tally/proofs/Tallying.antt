@@ -24,7 +24,7 @@ use Rattle.record.specs.Layout.{kindAt, countAt, recordsOf, textBytesOf, textSt
 use Rattle.record.proofs.Records.{sound-kind}
 use Rattle.tally.specs.declared.core.Tally.{Tally}
 use Rattle.tally.specs.declared.core.Parts.{Parts}
-use Rattle.tally.specs.InnerTally.{entry, picked, invalid, empty, tallied, partedBy, mayFollow, sumFrom, Tallied, apartAt, ofKind, sumOf, Whole, Parted, keeps, sumsOf, entriesOf}
+use Rattle.tally.specs.InnerTally.{entry, picked, invalid, empty, tallied, partedBy, mayFollow, sumFrom, Tallied, clashAt, ofKind, sumOf, Whole, Parted, keeps, sumsOf, entriesOf}
 use Rattle.tally.specs.declared.core.Entries.the-variants.{Unsound, Of}
 use Rattle.tally.specs.declared.core.Sums.{Sums}
 
@@ -140,26 +140,26 @@ tally-none r =
     }
 
 -- the neighbours before k and at k, as the code finds them
-pub clashes-more : (r : List ℕ) (from k last kind p a : ℕ) (b : Bool) → 1 ≤ from → from ≤ k → last ≡ kindAt r (k - 1) → kind ≡ kindAt r k → b ≡ mayFollow last kind → p ≡ picked (not b) 1 → a ≡ sumFrom (apartAt r) (from - 1) (k - from)
-    → a + p ≡ sumFrom (apartAt r) (from - 1) (k + 1 - from)
+pub clashes-more : (r : List ℕ) (from k last kind p a : ℕ) (b : Bool) → 1 ≤ from → from ≤ k → last ≡ kindAt r (k - 1) → kind ≡ kindAt r k → b ≡ mayFollow last kind → p ≡ picked (not b) 1 → a ≡ sumFrom (clashAt r) (from - 1) (k - from)
+    → a + p ≡ sumFrom (clashAt r) (from - 1) (k + 1 - from)
 clashes-more r from k last kind p a b l m e f g h i =
     let x : k ≡ suc (k - 1) = omega arith in
     let y : suc (k - from) ≡ k + 1 - from = omega arith in
     let z : k - 1 ≡ from - 1 + (k - from) = omega arith in
-    ap₂ _+_ i (h ∙ ap (λ x. picked (not x) 1) (g ∙ ap₂ mayFollow e (f ∙ ap (kindAt r) x)) ∙ ap (apartAt r) z)
-    ∙ sym (sum-last (apartAt r) (from - 1) (k - from))
-    ∙ ap (sumFrom (apartAt r) (from - 1)) y
+    ap₂ _+_ i (h ∙ ap (λ x. picked (not x) 1) (g ∙ ap₂ mayFollow e (f ∙ ap (kindAt r) x)) ∙ ap (clashAt r) z)
+    ∙ sym (sum-last (clashAt r) (from - 1) (k - from))
+    ∙ ap (sumFrom (clashAt r) (from - 1)) y
 
-pub clashes-none : (r : List ℕ) (from : ℕ) → 0 ≡ sumFrom (apartAt r) (from - 1) (from - from)
-clashes-none r from = let x : 0 ≡ from - from = omega arith in ap (sumFrom (apartAt r) (from - 1)) x
+pub clashes-none : (r : List ℕ) (from : ℕ) → 0 ≡ sumFrom (clashAt r) (from - 1) (from - from)
+clashes-none r from = let x : 0 ≡ from - from = omega arith in ap (sumFrom (clashAt r) (from - 1)) x
 
 -- those before k, and those from k on before m
-pub clashes-join : (r : List ℕ) (k m a b : ℕ) → 1 ≤ k → k - 1 ≤ m - 1 → a ≡ sumFrom (apartAt r) 0 (k - 1) → b ≡ sumFrom (apartAt r) (k - 1) (m - k) → a + b ≡ sumFrom (apartAt r) 0 (m - 1)
+pub clashes-join : (r : List ℕ) (k m a b : ℕ) → 1 ≤ k → k - 1 ≤ m - 1 → a ≡ sumFrom (clashAt r) 0 (k - 1) → b ≡ sumFrom (clashAt r) (k - 1) (m - k) → a + b ≡ sumFrom (clashAt r) 0 (m - 1)
 clashes-join r k m a b l h e f =
     let x : k - 1 + (m - k) ≡ m - 1 = omega arith in
-    ap₂ _+_ e (f ∙ ap (λ i. sumFrom (apartAt r) i (m - k)) (sym (zero-add (k - 1))))
-    ∙ sym (sum-join (apartAt r) 0 (k - 1) (m - k))
-    ∙ ap (sumFrom (apartAt r) 0) x
+    ap₂ _+_ e (f ∙ ap (λ i. sumFrom (clashAt r) i (m - k)) (sym (zero-add (k - 1))))
+    ∙ sym (sum-join (clashAt r) 0 (k - 1) (m - k))
+    ∙ ap (sumFrom (clashAt r) 0) x
 
 -- the counts of each kind are no more than all
 parts-le : (k n : ℕ) → picked (eqb k 2) n + picked (eqb k 1) n + picked (eqb k 3) n ≤ n
@@ -186,7 +186,7 @@ module _ (r : List ℕ) (k kind count : ℕ) (q : kind ≡ kindAt r k) (c : coun
       ∙ sym (none-both (sumOf f r k) (f (entry kind count)))
       ∙ ap (λ x. eqb x 0) (more f refl)
 
-  tally-step : (t u : Tally) (b : Bool) → Tallied r k t → count < 65536 → u ≡ tallied t (entry kind count) b → (t .invalid + invalid (entry kind count) ≡ 0 → t .clashes + picked b 1 ≡ sumFrom (apartAt r) 0 (k + 1 - 1)) → Tallied r (k + 1) u
+  tally-step : (t u : Tally) (b : Bool) → Tallied r k t → count < 65536 → u ≡ tallied t (entry kind count) b → (t .invalid + invalid (entry kind count) ≡ 0 → t .clashes + picked b 1 ≡ sumFrom (clashAt r) 0 (k + 1 - 1)) → Tallied r (k + 1) u
   unfolding tallied
   tally-step t u b g h v w =
       let o = picked-le (not (soundEntry (entry kind count))) 1 in
@@ -345,7 +345,7 @@ module _ (r : List ℕ) where
         go zero e = omega arith
         go (suc m) e = omega (arith, l)
 
-    pub tally-parts : (a : ℕ) → a ≡ sumFrom (apartAt r) 0 (n - 1) → a ≤ n
+    pub tally-parts : (a : ℕ) → a ≡ sumFrom (clashAt r) 0 (n - 1) → a ≤ n
         → Tallied r n (record { invalid = p .empty + (all - p .inserts - p .kept - p .deleted); inserts = p .inserts; all = all; kept = p .kept; clashes = a })
     tally-parts a e h =
         let u = parts-under in
@@ -399,7 +399,7 @@ module _ (r : List ℕ) where
   invalid-none i zero = refl
   invalid-none i (suc n) = holds-all (soundEntry (entryAt r i)) _ ∙ ap (λ b. soundEntry (entryAt r i) && b) (invalid-none (suc i) n)
 
-  chained-none : (i n : ℕ) (t : List ℕ) → T (allOf soundEntry (entriesFrom r i (suc n))) → eqb (sumFrom (apartAt r) i n) 0 ≡ chained (operations (entriesFrom r i (suc n)) t)
+  chained-none : (i n : ℕ) (t : List ℕ) → T (allOf soundEntry (entriesFrom r i (suc n))) → eqb (sumFrom (clashAt r) i n) 0 ≡ chained (operations (entriesFrom r i (suc n)) t)
   chained-none i zero t h = refl
   chained-none i (suc n) t h =
       let (a, h₁) = both (soundEntry (entryAt r i)) (allOf soundEntry (entriesFrom r (suc i) (suc n))) .0 h in
@@ -438,24 +438,24 @@ module _ (r : List ℕ) where
       go false true p q c y z h = omega arith
       go false false p q c y z h = omega arith
 
-none-clashes : (r : List ℕ) (n : ℕ) → n ≡ recordsOf r → T (allOf soundEntry (entries r)) → eqb (sumFrom (apartAt r) 0 (n - 1)) 0 ≡ chained (byteOps r)
+none-clashes : (r : List ℕ) (n : ℕ) → n ≡ recordsOf r → T (allOf soundEntry (entries r)) → eqb (sumFrom (clashAt r) 0 (n - 1)) 0 ≡ chained (byteOps r)
 unfolding byteOps entries
 none-clashes r n e s = go n e s
   where
-    go : (m : ℕ) → m ≡ recordsOf r → T (allOf soundEntry (entriesFrom r 0 (recordsOf r))) → eqb (sumFrom (apartAt r) 0 (m - 1)) 0 ≡ chained (operations (entriesFrom r 0 (recordsOf r)) (textOf r))
+    go : (m : ℕ) → m ≡ recordsOf r → T (allOf soundEntry (entriesFrom r 0 (recordsOf r))) → eqb (sumFrom (clashAt r) 0 (m - 1)) 0 ≡ chained (operations (entriesFrom r 0 (recordsOf r)) (textOf r))
     go zero p h = rw (← p)
     go (suc m) p h =
         let q : suc m - 1 ≡ m = omega arith in
-        ap (λ j. eqb (sumFrom (apartAt r) 0 j) 0) q
+        ap (λ j. eqb (sumFrom (clashAt r) 0 j) 0) q
         ∙ chained-none r 0 m (textOf r) (rw (← p) at h)
         ∙ ap (λ j. chained (operations (entriesFrom r 0 j) (textOf r))) p
 
 -- where all neighbours may stand so, any two may
 pub ordered-follow : (r : List ℕ) (n k : ℕ) → n ≡ recordsOf r → T (allOf soundEntry (entries r)) → chained (byteOps r) ≡ true → k + 1 < n → mayFollow (kindAt r k) (kindAt r (suc k)) ≡ true
 ordered-follow r n k e s p h =
-    go (mayFollow (kindAt r k) (kindAt r (suc k))) refl (sum-under (apartAt r) k (n - 1) (omega arith)) (eqb-true (sumFrom (apartAt r) 0 (n - 1)) 0 (none-clashes r n e s ∙ p))
+    go (mayFollow (kindAt r k) (kindAt r (suc k))) refl (sum-under (clashAt r) k (n - 1) (omega arith)) (eqb-true (sumFrom (clashAt r) 0 (n - 1)) 0 (none-clashes r n e s ∙ p))
   where
-    go : (b : Bool) → mayFollow (kindAt r k) (kindAt r (suc k)) ≡ b → sumFrom (apartAt r) 0 k + picked (not b) 1 ≤ sumFrom (apartAt r) 0 (n - 1) → sumFrom (apartAt r) 0 (n - 1) ≡ 0 → b ≡ true
+    go : (b : Bool) → mayFollow (kindAt r k) (kindAt r (suc k)) ≡ b → sumFrom (clashAt r) 0 k + picked (not b) 1 ≤ sumFrom (clashAt r) 0 (n - 1) → sumFrom (clashAt r) 0 (n - 1) ≡ 0 → b ≡ true
     go true q l z = refl
     go false q l z = absurd (omega arith)
 

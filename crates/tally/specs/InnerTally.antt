@@ -8,7 +8,7 @@ use Rattle.buffers.specs.Lists.{allOf}
 use Rattle.edits.specs.Op.{Op, retain, insert, delete, total, base}
 use Rattle.edits.specs.Built.{chained}
 use Rattle.record.specs.Record.{Entry, soundEntry, entryAt, entries, byteOps, insertBytes}
-use Rattle.record.specs.Layout.{kindAt, deleteKind, insertKind, retainKind}
+use Rattle.record.specs.Layout.{deleteKind, insertKind, kindAt, retainKind}
 use Rattle.tally.specs.declared.core.Tally.{Tally}
 use Rattle.tally.specs.declared.core.Parts.{Parts}
 use Rattle.tally.specs.declared.core.Sums.{Sums}
@@ -45,8 +45,8 @@ empty e = picked (eqb (e .count) 0) 1
 unfoldable pub mayFollow : ℕ → ℕ → Bool
 mayFollow last kind = cond (eqb last kind) false (cond (eqb last deleteKind) (not (eqb kind insertKind)) true)
 
-abbrev pub apartAt : List ℕ → ℕ → ℕ
-apartAt r k = picked (not (mayFollow (kindAt r k) (kindAt r (suc k)))) 1
+abbrev pub clashAt : List ℕ → ℕ → ℕ
+clashAt r k = picked (not (mayFollow (kindAt r k) (kindAt r (suc k)))) 1
 
 unfoldable pub tallied : Tally → Entry → Bool → Tally
 tallied t e clashes =
@@ -64,7 +64,7 @@ pub record Tallied (r : List ℕ) (n : ℕ) (t : Tally) : Type 0 where
   pub inserted : t .inserts ≡ sumOf (ofKind insertKind) r n
   pub counts : t .all ≡ sumOf (λ e. e .count) r n
   pub retained : t .kept ≡ sumOf (ofKind retainKind) r n
-  pub neighbours : t .invalid ≡ 0 → t .clashes ≡ sumFrom (apartAt r) 0 (n - 1)
+  pub neighbours : t .invalid ≡ 0 → t .clashes ≡ sumFrom (clashAt r) 0 (n - 1)
   pub few : t .invalid ≤ 65537 * n
   pub less : t .inserts ≤ t .all
   pub fewer : t .kept ≤ t .all

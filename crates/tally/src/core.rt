@@ -8,7 +8,7 @@ ghost use lib.ListN.{length};
 ghost use mathlib.Core.Bool.{not};
 ghost use Rattle.record.specs.Record.{soundEntry};
 ghost use Rattle.record.specs.Layout.{recordsOf, textStart, maxOps};
-ghost use Rattle.tally.specs.InnerTally.{picked, entry, mayFollow, tallied, Tallied, Whole, partedBy, Parted, sumFrom, apartAt, entriesOf};
+ghost use Rattle.tally.specs.InnerTally.{picked, entry, mayFollow, tallied, Tallied, Whole, partedBy, Parted, sumFrom, clashAt, entriesOf};
 
 // What the kinds and the counts come to: the bytes inserted, whether all neighbours may stand so, the characters of
 // the text before the edit, and those of them that stay.
@@ -79,7 +79,7 @@ struct Tally {
 }
 
 // One entry more.
-fn counted(t: Tally, kind: u8, count: usize, clashes: bool) -> Tally
+fn add_entry(t: Tally, kind: u8, count: usize, clashes: bool) -> Tally
     requires { ⌜ (t .invalid ≤ 2 ^ 31) × (t .all ≤ 2 ^ 31) × (t .inserts ≤ t .all) × (t .kept ≤ t .all) × (t .clashes ≤ 2 ^ 31) × (count < 65536) ⌝ }
     ensures { λ r. ⌜ r ≡ tallied t (entry kind count) clashes ⌝ }
 {
@@ -94,7 +94,7 @@ fn counted(t: Tally, kind: u8, count: usize, clashes: bool) -> Tally
 }
 
 // Any entries, in one pass: in 32 bits, that are enough for all sums.
-fn any(rec: &[u8], n: usize) -> Tally
+fn tally_wide(rec: &[u8], n: usize) -> Tally
     requires { ⌜ (n ≡ recordsOf (now rec)) × (n ≤ maxOps) × (textStart n ≤ length (now rec)) ⌝ }
     ensures { λ r. ⌜ Tallied (now (rec .entry)) n r ⌝ }
 {
@@ -110,20 +110,20 @@ fn any(rec: &[u8], n: usize) -> Tally
     }
     let first = layout::core::kind(rec, 0);
     let one = layout::core::count(rec, n, 0);
-    t = counted(t, first, one, false);
+    t = add_entry(t, first, one, false);
     let mut k = 1;
     while k < n {
         let last = layout::core::kind(rec, k - 1);
         let kind = layout::core::kind(rec, k);
         let count = layout::core::count(rec, n, k);
-        t = counted(t, kind, count, !may_follow(last, kind));
+        t = add_entry(t, kind, count, !may_follow(last, kind));
         k += 1;
     }
     t
 }
 
 // One entry more, by its kind.
-fn entered(t: Tally, last: u8, kind: u8, count: u32) -> Tally
+fn add_entry_by_kind(t: Tally, last: u8, kind: u8, count: u32) -> Tally
     requires { ⌜ (t .invalid ≤ 2 ^ 31) × (t .all ≤ 2 ^ 31) × (t .inserts ≤ t .all) × (t .kept ≤ t .all) × (t .clashes ≤ 2 ^ 31) × (count < 65536) ⌝ }
     ensures { λ r. ⌜ r ≡ tallied t (entry kind count) (not (mayFollow last kind)) ⌝ }
 {
@@ -167,7 +167,7 @@ fn entered(t: Tally, last: u8, kind: u8, count: u32) -> Tally
 
 // A few entries, one after another: with branches that is the fewest instructions for those of a keystroke. Kind 0 stands
 // before the first: only what can't be may not follow it.
-fn few(rec: &[u8], n: usize) -> Tally
+fn tally_short(rec: &[u8], n: usize) -> Tally
     requires { ⌜ (n ≡ recordsOf (now rec)) × (n ≤ maxOps) × (textStart n ≤ length (now rec)) ⌝ }
     ensures { λ r. ⌜ Tallied (now (rec .entry)) n r ⌝ }
 {
@@ -183,7 +183,7 @@ fn few(rec: &[u8], n: usize) -> Tally
     while k < n {
         let kind = layout::core::kind(rec, k);
         let count = layout::core::count(rec, n, k) as u32;
-        t = entered(t, last, kind, count);
+        t = add_entry_by_kind(t, last, kind, count);
         last = kind;
         k += 1;
     }
@@ -216,7 +216,7 @@ struct Parts {
 }
 
 // One entry more.
-fn parted(p: Parts, kind: u8, count: usize) -> Parts
+fn add_part(p: Parts, kind: u8, count: usize) -> Parts
     requires { ⌜ (p .empty ≤ maxOps) × (p .inserts + p .kept + p .deleted + count < 65536) ⌝ }
     ensures { λ r. ⌜ r ≡ partedBy p (entry kind count) ⌝ }
 {
@@ -230,7 +230,7 @@ fn parted(p: Parts, kind: u8, count: usize) -> Parts
 }
 
 // Where all counts together are under 65,536, 16 bits are enough for each part of them.
-fn part(rec: &[u8], n: usize, all: u32) -> Parts
+fn sum_parts(rec: &[u8], n: usize, all: u32) -> Parts
     requires { ⌜ (n ≡ recordsOf (now rec)) × (n ≤ maxOps) × (textStart n ≤ length (now rec)) × (all < 65536) × Whole (now rec) n all ⌝ }
     ensures { λ r. ⌜ Parted (now (rec .entry)) n r ⌝ }
 {
@@ -244,7 +244,7 @@ fn part(rec: &[u8], n: usize, all: u32) -> Parts
     while k < n {
         let kind = layout::core::kind(rec, k);
         let count = layout::core::count(rec, n, k);
-        p = parted(p, kind, count);
+        p = add_part(p, kind, count);
         k += 1;
     }
     p
@@ -259,9 +259,9 @@ const MOST_COUNTS: u32 = 65535;
 const TOO_MANY: u32 = MOST_COUNTS + 1;
 
 // How many neighbours may not stand so, of the entries from..to and each one before.
-fn apart_in(rec: &[u8], from: usize, to: usize) -> u8
+fn clashes_in(rec: &[u8], from: usize, to: usize) -> u8
     requires { ⌜ (1 ≤ from) × (to ≤ recordsOf (now rec)) × (to ≤ from + 224) × (textStart (recordsOf (now rec)) ≤ length (now rec)) ⌝ }
-    ensures { λ r. ⌜ (r ≡ sumFrom (apartAt (now (rec .entry))) (from - 1) (to - from)) × (r ≤ to - from) ⌝ }
+    ensures { λ r. ⌜ (r ≡ sumFrom (clashAt (now (rec .entry))) (from - 1) (to - from)) × (r ≤ to - from) ⌝ }
 {
     let mut clashes: u8 = 0;
     let mut k = from;
@@ -277,30 +277,30 @@ fn apart_in(rec: &[u8], from: usize, to: usize) -> u8
 // The same of all entries. 8 bits are enough for 224 of them: 7 times the 32 that are done at once.
 fn clashes(rec: &[u8], n: usize) -> u32
     requires { ⌜ (n ≡ recordsOf (now rec)) × (n ≤ maxOps) × (textStart n ≤ length (now rec)) ⌝ }
-    ensures { λ r. ⌜ (r ≡ sumFrom (apartAt (now (rec .entry))) 0 (n - 1)) × (r ≤ n) ⌝ }
+    ensures { λ r. ⌜ (r ≡ sumFrom (clashAt (now (rec .entry))) 0 (n - 1)) × (r ≤ n) ⌝ }
 {
     let mut clashes: u32 = 0;
     let mut from = 1;
     while from + NEIGHBOURS < n {
-        clashes += apart_in(rec, from, from + NEIGHBOURS) as u32;
+        clashes += clashes_in(rec, from, from + NEIGHBOURS) as u32;
         from += NEIGHBOURS;
     }
-    clashes + apart_in(rec, from, n) as u32
+    clashes + clashes_in(rec, from, n) as u32
 }
 
 // What can't be has a count of 0, or one that is of no kind.
-fn count_up(rec: &[u8], n: usize) -> Tally
+fn tally_all(rec: &[u8], n: usize) -> Tally
     requires { ⌜ (n ≡ recordsOf (now rec)) × (n ≤ maxOps) × (textStart n ≤ length (now rec)) ⌝ }
     ensures { λ r. ⌜ Tallied (now (rec .entry)) n r ⌝ }
 {
     if n < 8 {
-        return few(rec, n);
+        return tally_short(rec, n);
     }
     let all = all_counts(rec, n);
     if MOST_COUNTS < all {
-        return any(rec, n);
+        return tally_wide(rec, n);
     }
-    let p = part(rec, n, all);
+    let p = sum_parts(rec, n, all);
     let inserts = p.inserts as u32;
     let kept = p.kept as u32;
     let others = all - inserts - kept - p.deleted as u32;
@@ -317,7 +317,7 @@ pub fn sum_up(rec: &[u8], n: usize) -> Entries
     requires { ⌜ (n ≡ recordsOf (now rec)) × (n ≤ maxOps) × (textStart n ≤ length (now rec)) ⌝ }
     ensures { λ r. ⌜ r ≡ entriesOf (now (rec .entry)) ⌝ }
 {
-    let t = count_up(rec, n);
+    let t = tally_all(rec, n);
     if t.invalid != 0 {
         return Entries::Unsound;
     }

@@ -14,7 +14,7 @@ use Rattle.characters.specs.Text.{Char}
 use Rattle.edits.specs.Transform.{transform, Sides}
 use Rattle.answers.specs.declared.Refusal.the-variants.{Limit, Room, IncompatibleLengths}
 use Rattle.answers.specs.declared.WrittenPair.the-variants as written
-use Rattle.answers.specs.Answer.{refused, needs, first, number, gives, pairOf, factOf}
+use Rattle.answers.specs.Answer.{refused, needs, orElse, number, success, pairOf, factOf}
 use Rattle.answers.specs.Output.{writingBoth}
 use Rattle.answers.specs.declared.Refusal.{Refusal}
 use Rattle.answers.specs.declared.WrittenPair.{WrittenPair}
@@ -27,7 +27,7 @@ use Rattle.record.proofs.Sequences.{fits-limits}
 use Rattle.record.proofs.Checked.{stopped}
 use Rattle.operational_transform.specs.Calls.{recordsFault, transformCall}
 use Rattle.emitter.specs.declared.core.Emitter.{Emitter}
-use Rattle.emitter.specs.InnerEmit.{within, sizeIn, judgedBoth, Sizes}
+use Rattle.emitter.specs.InnerEmit.{withinLimits, sizeIn, limitsThenRoomBoth, Sizes}
 use Rattle.emitter.proofs.Delivering.{sized-fits, sized-length, written-front}
 use Rattle.steps.specs.InnerBoth.{WritesBoth, SizedBoth}
 use Rattle.steps.specs.declared.core.Pair.{Pair}
@@ -35,33 +35,33 @@ use Rattle.transform.specs.InnerPairs.{Transforms}
 
 -- ---- `judge`
 
-module _ (e f : Emitter) (x y : ℕ) (u : Bool) (pu : u ≡ within e) where
-  pub judge-first : not u ≡ true → written.Refused Limit ≡ judgedBoth e f x y
-  unfolding judgedBoth
+module _ (e f : Emitter) (x y : ℕ) (u : Bool) (pu : u ≡ withinLimits e) where
+  pub judge-first : not u ≡ true → written.Refused Limit ≡ limitsThenRoomBoth e f x y
+  unfolding limitsThenRoomBoth
   judge-first h = rw (sym pu ∙ not-true u h)
 
-  module _ (hu : not u ≡ false) (v : Bool) (pv : v ≡ within f) where
-    pub judge-second : not v ≡ true → written.Refused Limit ≡ judgedBoth e f x y
-    unfolding judgedBoth
+  module _ (hu : not u ≡ false) (v : Bool) (pv : v ≡ withinLimits f) where
+    pub judge-second : not v ≡ true → written.Refused Limit ≡ limitsThenRoomBoth e f x y
+    unfolding limitsThenRoomBoth
     judge-second h = rw (sym pu ∙ not-false u hu, sym pv ∙ not-true v h)
 
     module _ (hv : not v ≡ false) (p q : ℕ) (pp : p ≡ sizeIn e) (pq : q ≡ sizeIn f) where
-      pub judge-short : x < p → written.Refused Room ≡ judgedBoth e f x y
-      unfolding judgedBoth
+      pub judge-short : x < p → written.Refused Room ≡ limitsThenRoomBoth e f x y
+      unfolding limitsThenRoomBoth
       judge-short h = rw (sym pu ∙ not-false u hu, sym pv ∙ not-false v hv, lt-leb (sizeIn e) x (omega arith))
 
-      pub judge-shorter : p ≤ x → y < q → written.Refused Room ≡ judgedBoth e f x y
-      unfolding judgedBoth
+      pub judge-shorter : p ≤ x → y < q → written.Refused Room ≡ limitsThenRoomBoth e f x y
+      unfolding limitsThenRoomBoth
       judge-shorter g h = rw (sym pu ∙ not-false u hu, sym pv ∙ not-false v hv, lt-leb (sizeIn f) y (omega arith), and-false (leb (sizeIn e) x))
 
-      pub judge-bytes : p ≤ x → q ≤ y → written.Bytes p q ≡ judgedBoth e f x y
-      unfolding judgedBoth
+      pub judge-bytes : p ≤ x → q ≤ y → written.Bytes p q ≡ limitsThenRoomBoth e f x y
+      unfolding limitsThenRoomBoth
       judge-bytes g h = rw (sym pu ∙ not-false u hu, sym pv ∙ not-false v hv, le-leb (sizeIn e) x (omega arith), le-leb (sizeIn f) y (omega arith), pp, pq)
 
 -- ---- the call
 
 -- where the lengths differ, or a record is refused
-fault-is : (a b x y : List ℕ) (k : ℕ) → first (recordsFault a b) (needs (eqb (baseOf a) (baseOf b)) 8 (needs (fits (transform order (ops a) (ops b) .left) && fits (transform order (ops a) (ops b) .right)) 9 0)) ≡ suc k
+fault-is : (a b x y : List ℕ) (k : ℕ) → orElse (recordsFault a b) (needs (eqb (baseOf a) (baseOf b)) 8 (needs (fits (transform order (ops a) (ops b) .left) && fits (transform order (ops a) (ops b) .right)) 9 0)) ≡ suc k
     → transformCall a b x y ≡ record { answer = refused (suc k); outA = x; outB = y }
 unfolding transformCall writingBoth
 fault-is a b x y k e = rw e
@@ -73,7 +73,7 @@ module _ (a b x y : List ℕ) (za : recordFault a ≡ 0) (zb : recordFault b ≡
   pub transforms-lengths : (t ≡ s → ⊥) → Transforms a b x y (written.Refused IncompatibleLengths) x y
   transforms-lengths h = refuses a b x y IncompatibleLengths 7 refl (fault-is a b x y 7 (rw (za, zb, ne-eqb (baseOf a) (baseOf b) (λ z. h (pt ∙ z ∙ sym ps)))))
 
-module _ (a b x y : List ℕ) (za : recordFault a ≡ 0) (zb : recordFault b ≡ 0) (h : baseOf a ≡ baseOf b) (r : Pair) (d : SizedBoth (transform order (ops a) (ops b)) r) (v : WrittenPair) (w : v ≡ judgedBoth (r .e) (r .f) (length x) (length y)) where
+module _ (a b x y : List ℕ) (za : recordFault a ≡ 0) (zb : recordFault b ≡ 0) (h : baseOf a ≡ baseOf b) (r : Pair) (d : SizedBoth (transform order (ops a) (ops b)) r) (v : WrittenPair) (w : v ≡ limitsThenRoomBoth (r .e) (r .f) (length x) (length y)) where
   abbrev z₁ : Sizes (transform order (ops a) (ops b) .left) (r .e)
   z₁ = d .left
 
@@ -94,7 +94,7 @@ module _ (a b x y : List ℕ) (za : recordFault a ≡ 0) (zb : recordFault b ≡
   is = rw (za, zb, eq-eqb (baseOf a) (baseOf b) h)
 
   judged-is : v ≡ cond keep (cond room (written.Bytes (length (encode (sides .left))) (length (encode (sides .right)))) (written.Refused Room)) (written.Refused Limit)
-  unfolding judgedBoth
+  unfolding limitsThenRoomBoth
   judged-is =
       w
       ∙ rw (sized-fits (sides .left) (r .e) z₁, sized-fits (sides .right) (r .f) z₂, sized-length (sides .left) (r .e) z₁, sized-length (sides .right) (r .f) z₂)
@@ -103,7 +103,7 @@ module _ (a b x y : List ℕ) (za : recordFault a ≡ 0) (zb : recordFault b ≡
   data Outcome : Type 0 where
     stops : (z : Refusal) → v ≡ written.Refused z → transformCall a b x y ≡ record { answer = refused (number z); outA = x; outB = y } → Outcome
     writes : keep ≡ true → room ≡ true → v ≡ written.Bytes (length (encode (sides .left))) (length (encode (sides .right)))
-        → transformCall a b x y ≡ record { answer = gives (length (encode (sides .left)) ∷ length (encode (sides .right)) ∷ []); outA = atFront (encode (sides .left)) x; outB = atFront (encode (sides .right)) y } → Outcome
+        → transformCall a b x y ≡ record { answer = success (length (encode (sides .left)) ∷ length (encode (sides .right)) ∷ []); outA = atFront (encode (sides .left)) x; outB = atFront (encode (sides .right)) y } → Outcome
 
   outcome : Outcome
   unfolding writingBoth

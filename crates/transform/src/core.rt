@@ -12,9 +12,9 @@ ghost use Prim.Native.Nat.{_≤_, _^_, _+_, min};
 ghost use lib.ListN.{length};
 ghost use Rattle.characters.specs.Order.{order};
 ghost use Rattle.edits.specs.Transform.{transform as transformOf};
-ghost use Rattle.record.specs.Layout.{recordsOf, textStart, baseOf, maxOps};
+ghost use Rattle.record.specs.Layout.{recordsOf, maxOps, textStart, baseOf};
 ghost use Rattle.record.specs.Record.{recordFault, ops};
-ghost use Rattle.emitter.specs.InnerEmit.{Under, judgedBoth};
+ghost use Rattle.emitter.specs.InnerEmit.{Under, limitsThenRoomBoth};
 ghost use Rattle.steps.specs.InnerBoth.{BegunBoth, MarkedBoth};
 ghost use Rattle.steps.specs.InnerSteps.{liveIs};
 ghost use Rattle.transform.specs.InnerPairs.{Transforms};
@@ -24,7 +24,7 @@ fn begin(a: &[u8], na: usize, b: &[u8], nb: usize) -> Both
     ensures { λ r. ⌜ BegunBoth (now (a .entry)) (now (b .entry)) r ⌝ }
 {
     let s = steps::core::begin(a, na, b, nb);
-    let f = emitter::core::start();
+    let f = emitter::core::new_emitter();
     let x = s.x;
     let y = s.y;
     let e = s.e;
@@ -40,7 +40,7 @@ fn goes_on(s: Both) -> bool
 }
 
 // All of both sides but the text, to stages with places for `slots` records and none for text.
-fn run(
+fn transform_into(
     a: &[u8],
     na: usize,
     b: &[u8],
@@ -54,7 +54,7 @@ fn run(
 {
     let mut s = begin(a, na, b, nb);
     while goes_on(s) {
-        s = transform_steps::core::turn(a, na, b, nb, stage_a, slots, stage_b, slots, s);
+        s = transform_steps::core::step(a, na, b, nb, stage_a, slots, stage_b, slots, s);
     }
     let d = s.e;
     let h = s.f;
@@ -68,9 +68,9 @@ fn run(
 }
 
 // 9 where either side passes a limit, then 10 where either output is too short.
-fn judge(e: Emitter, f: Emitter, room_a: usize, room_b: usize) -> WrittenPair
+fn limits_then_room(e: Emitter, f: Emitter, room_a: usize, room_b: usize) -> WrittenPair
     requires { ⌜ Under (2 ^ 40) e × Under (2 ^ 40) f ⌝ }
-    ensures { λ r. ⌜ r ≡ judgedBoth e f «room_a» «room_b» ⌝ }
+    ensures { λ r. ⌜ r ≡ limitsThenRoomBoth e f «room_a» «room_b» ⌝ }
 {
     if !emitter::core::keeps_limits(e) {
         return WrittenPair::Refused(Refusal::Limit);
@@ -105,11 +105,11 @@ fn staged(
     requires { ⌜ (na ≡ recordsOf (now a)) × (na ≤ maxOps) × (nb ≡ recordsOf (now b)) × (nb ≤ maxOps) × (recordFault (now a) ≡ 0) × (recordFault (now b) ≡ 0) × (slots ≤ maxOps) × (min (na + nb) maxOps ≤ slots) × (length (now «stage_a») ≡ textStart slots) × (length (now «stage_b») ≡ textStart slots) × (baseOf (now a) ≡ baseOf (now b)) ⌝ }
     ensures { λ r. ⌜ Transforms (now (a .entry)) (now (b .entry)) (now («out_a» .entry)) (now («out_b» .entry)) r (now («out_a» .exit)) (now («out_b» .exit)) ⌝ }
 {
-    let c = run(a, na, b, nb, stage_a, stage_b, slots);
+    let c = transform_into(a, na, b, nb, stage_a, stage_b, slots);
     let p = steps::core::sizes(a, b, c);
     let e = p.e;
     let f = p.f;
-    match judge(e, f, out_a.len(), out_b.len()) {
+    match limits_then_room(e, f, out_a.len(), out_b.len()) {
         WrittenPair::Refused(x) => WrittenPair::Refused(x),
         WrittenPair::Bytes(k, l) => {
             // made anew: with the slices handed on as they came the loop would read them from memory
@@ -132,7 +132,7 @@ const MEDIUM_STAGE: usize = HEADER + OP_BYTES * MEDIUM_OPS;
 const LARGE_STAGE: usize = HEADER + OP_BYTES * MAX_OPS;
 
 // With stages of several lengths: what is cleared is paid for.
-fn small(
+fn in_small_stages(
     a: &[u8],
     na: usize,
     b: &[u8],
@@ -161,7 +161,7 @@ fn small(
     }
 }
 
-fn medium(
+fn in_medium_stages(
     a: &[u8],
     na: usize,
     b: &[u8],
@@ -190,7 +190,7 @@ fn medium(
     }
 }
 
-fn large(
+fn in_large_stages(
     a: &[u8],
     na: usize,
     b: &[u8],
@@ -232,10 +232,10 @@ pub fn transformed(a: &[u8], b: &[u8], out_a: &mut [u8], out_b: &mut [u8]) -> Wr
     let na = reader::core::records(a);
     let nb = reader::core::records(b);
     if MEDIUM_OPS < na + nb {
-        return large(a, na, b, nb, out_a, out_b);
+        return in_large_stages(a, na, b, nb, out_a, out_b);
     }
     if SMALL_OPS < na + nb {
-        return medium(a, na, b, nb, out_a, out_b);
+        return in_medium_stages(a, na, b, nb, out_a, out_b);
     }
-    small(a, na, b, nb, out_a, out_b)
+    in_small_stages(a, na, b, nb, out_a, out_b)
 }

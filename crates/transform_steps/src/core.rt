@@ -20,7 +20,7 @@ ghost use Rattle.steps.specs.InnerBoth.{FirstBoth, SecondBoth, Meets, TogetherB
 ghost use Rattle.steps.specs.InnerSteps.{Chooses, liveIs};
 
 // The first's operation goes by itself: the other side retains what it gives.
-fn first(a: &[u8], na: usize, out: &mut [u8], m: usize, s: Both) -> Both
+fn step_first(a: &[u8], na: usize, out: &mut [u8], m: usize, s: Both) -> Both
     requires { ⌜ (na ≡ recordsOf (now a)) × (m ≤ 2 ^ 40) × Under (2 ^ 38) (s .e) × Under (2 ^ 38) (s .f) × Stands (now a) (s .x) × (0 < s .x .kind) × (length (now out) ≤ textStart m) ⌝ }
     ensures { λ r. ⌜ FirstBoth m (now (a .entry)) s (now (out .entry)) r (now (out .exit)) ⌝ }
 {
@@ -30,14 +30,14 @@ fn first(a: &[u8], na: usize, out: &mut [u8], m: usize, s: Both) -> Both
     let h = s.f;
     let k = x.left;
     let to = x.to;
-    let e = emitter::core::mark(out, m, d, a, x, k, to);
+    let e = emitter::core::push_without_text(out, m, d, a, x, k, to);
     let f = emitter::core::retain(h, steps::core::gives(x));
     let g = reader::core::rest(a, na, x, k, to);
     Both { x: g, y, e, f }
 }
 
 // The second's.
-fn second(b: &[u8], nb: usize, out: &mut [u8], n: usize, s: Both) -> Both
+fn step_second(b: &[u8], nb: usize, out: &mut [u8], n: usize, s: Both) -> Both
     requires { ⌜ (nb ≡ recordsOf (now b)) × (n ≤ 2 ^ 40) × Under (2 ^ 38) (s .e) × Under (2 ^ 38) (s .f) × Stands (now b) (s .y) × (0 < s .y .kind) × (length (now out) ≤ textStart n) ⌝ }
     ensures { λ r. ⌜ SecondBoth n (now (b .entry)) s (now (out .entry)) r (now (out .exit)) ⌝ }
 {
@@ -48,7 +48,7 @@ fn second(b: &[u8], nb: usize, out: &mut [u8], n: usize, s: Both) -> Both
     let k = y.left;
     let to = y.to;
     let e = emitter::core::retain(d, steps::core::gives(y));
-    let f = emitter::core::mark(out, n, h, b, y, k, to);
+    let f = emitter::core::push_without_text(out, n, h, b, y, k, to);
     let g = reader::core::rest(b, nb, y, k, to);
     Both { x, y: g, e, f }
 }
@@ -65,7 +65,7 @@ fn insert_first(a: &[u8], na: usize, out: &mut [u8], m: usize, s: Both) -> Both
     let h = s.f;
     let k = x.left;
     let to = x.to;
-    let e = emitter::core::mark(out, m, d, a, x, k, to);
+    let e = emitter::core::push_without_text(out, m, d, a, x, k, to);
     let f = emitter::core::retain(h, steps::core::gives(x));
     let g = reader::core::rest(a, na, x, k, to);
     Both { x: g, y, e, f }
@@ -81,7 +81,7 @@ fn lesser_first(a: &[u8], na: usize, out: &mut [u8], m: usize, s: Both) -> Both
     let h = s.f;
     let k = x.left;
     let to = x.to;
-    let e = emitter::core::mark(out, m, d, a, x, k, to);
+    let e = emitter::core::push_without_text(out, m, d, a, x, k, to);
     let f = emitter::core::retain(h, steps::core::gives(x));
     let g = reader::core::rest(a, na, x, k, to);
     Both { x: g, y, e, f }
@@ -98,7 +98,7 @@ fn insert_second(b: &[u8], nb: usize, out: &mut [u8], n: usize, s: Both) -> Both
     let k = y.left;
     let to = y.to;
     let e = emitter::core::retain(d, steps::core::gives(y));
-    let f = emitter::core::mark(out, n, h, b, y, k, to);
+    let f = emitter::core::push_without_text(out, n, h, b, y, k, to);
     let g = reader::core::rest(b, nb, y, k, to);
     Both { x, y: g, e, f }
 }
@@ -114,13 +114,13 @@ fn lesser_second(b: &[u8], nb: usize, out: &mut [u8], n: usize, s: Both) -> Both
     let k = y.left;
     let to = y.to;
     let e = emitter::core::retain(d, steps::core::gives(y));
-    let f = emitter::core::mark(out, n, h, b, y, k, to);
+    let f = emitter::core::push_without_text(out, n, h, b, y, k, to);
     let g = reader::core::rest(b, nb, y, k, to);
     Both { x, y: g, e, f }
 }
 
 // What stays of k characters of both, which insert nothing: what either deletes, the other has no more.
-fn meet(
+fn emit_both(
     a: &[u8],
     b: &[u8],
     out_a: &mut [u8],
@@ -140,22 +140,22 @@ fn meet(
     let i = x.to;
     let j = y.to;
     if y.kind == AT_RETAIN {
-        let d = emitter::core::mark(out_a, m, e, a, x, k, i);
+        let d = emitter::core::push_without_text(out_a, m, e, a, x, k, i);
         if x.kind == AT_RETAIN {
-            let h = emitter::core::mark(out_b, n, f, b, y, k, j);
+            let h = emitter::core::push_without_text(out_b, n, f, b, y, k, j);
             return Pair { e: d, f: h };
         }
         return Pair { e: d, f };
     }
     if x.kind == AT_RETAIN {
-        let h = emitter::core::mark(out_b, n, f, b, y, k, j);
+        let h = emitter::core::push_without_text(out_b, n, f, b, y, k, j);
         return Pair { e, f: h };
     }
     Pair { e, f }
 }
 
 // As many characters of both, where neither inserts.
-fn together(
+fn step_both(
     a: &[u8],
     na: usize,
     b: &[u8],
@@ -172,7 +172,7 @@ fn together(
     let x = s.x;
     let y = s.y;
     let k = buffers::core::lesser(x.left, y.left);
-    let p = meet(a, b, out_a, m, out_b, n, s, k);
+    let p = emit_both(a, b, out_a, m, out_b, n, s, k);
     let e = p.e;
     let f = p.f;
     let g = reader::core::rest(a, na, x, k, x.to);
@@ -181,7 +181,7 @@ fn together(
 }
 
 // Equal inserts are both kept.
-fn keep(
+fn emit_equal(
     a: &[u8],
     b: &[u8],
     out_a: &mut [u8],
@@ -200,8 +200,8 @@ fn keep(
     let f = s.f;
     let i = x.to;
     let j = y.to;
-    let d = emitter::core::mark(out_a, m, e, b, y, k, j);
-    let h = emitter::core::mark(out_b, n, f, a, x, k, i);
+    let d = emitter::core::push_without_text(out_a, m, e, b, y, k, j);
+    let h = emitter::core::push_without_text(out_b, n, f, a, x, k, i);
     let d = emitter::core::retain(d, k);
     let h = emitter::core::retain(h, k);
     Pair { e: d, f: h }
@@ -224,7 +224,7 @@ fn equal_inserts(
     let x = s.x;
     let y = s.y;
     let k = x.left;
-    let p = keep(a, b, out_a, m, out_b, n, s, k);
+    let p = emit_equal(a, b, out_a, m, out_b, n, s, k);
     let e = p.e;
     let f = p.f;
     let g = reader::core::rest(a, na, x, k, x.to);
@@ -257,7 +257,7 @@ fn inserts(
 }
 
 // One step.
-pub fn turn(
+pub fn step(
     a: &[u8],
     na: usize,
     b: &[u8],
@@ -283,10 +283,10 @@ pub fn turn(
         return insert_second(b, nb, out_b, n, s);
     }
     if x.kind == AT_END {
-        return second(b, nb, out_b, n, s);
+        return step_second(b, nb, out_b, n, s);
     }
     if y.kind == AT_END {
-        return first(a, na, out_a, m, s);
+        return step_first(a, na, out_a, m, s);
     }
-    together(a, na, b, nb, out_a, m, out_b, n, s)
+    step_both(a, na, b, nb, out_a, m, out_b, n, s)
 }

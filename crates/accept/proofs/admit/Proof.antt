@@ -17,8 +17,8 @@ returns-2 c = search accepts-lengths
 returns-3 : tie.Need-returns-3
 returns-3 c = search accepts-many
 
-newest-requires : tie.Need-newest-requires
-newest-requires c κs = (search admitted, c .before .before .if4 .taken ∙ c .before .before .before .before .before .before .before .before .before .before .before .before .pre .1 .count)
+append-unmoved-requires : tie.Need-append-unmoved-requires
+append-unmoved-requires c κs = (search admitted, c .before .before .if4 .taken ∙ c .before .before .before .before .before .before .before .before .before .before .before .before .pre .1 .count)
 
 same-length : tie.Need-same-length
 same-length c = search needs
@@ -29,8 +29,8 @@ same-length-2 c = search needs
 returns-4 : tie.Need-returns-4
 returns-4 c = search needs
 
-late-requires : tie.Need-late-requires
-late-requires c κs = (search admitted, ap (λ k. k - c .before .before .before .before .before .before .before .before .before .before .before .before .args .r) (c .before .before .before .before .before .before .before .before .before .before .before .before .pre .1 .count))
+choose-buffers-requires : tie.Need-choose-buffers-requires
+choose-buffers-requires c κs = (search admitted, ap (λ k. k - c .before .before .before .before .before .before .before .before .before .before .before .before .args .r) (c .before .before .before .before .before .before .before .before .before .before .before .before .pre .1 .count))
 
 same-length-3 : tie.Need-same-length-3
 same-length-3 c = search needs
@@ -49,11 +49,11 @@ admit-spec =
     base-requires
     returns-2
     returns-3
-    newest-requires
+    append-unmoved-requires
     same-length
     same-length-2
     returns-4
-    late-requires
+    choose-buffers-requires
     same-length-3
     same-length-4
     returns-5)

@@ -9,8 +9,8 @@ text-bytes-requires c κs = search needs
 add-if1 : tie.Need-add-if1
 add-if1 c = search needs
 
-run-requires : tie.Need-run-requires
-run-requires c κs = search needs
+apply-into-requires : tie.Need-apply-into-requires
+apply-into-requires c κs = search needs
 
 same-length : tie.Need-same-length
 same-length c = search needs
@@ -18,14 +18,14 @@ same-length c = search needs
 returns : tie.Need-returns
 returns c = (search once-0, search once-out)
 
-slice-relend-prefix-run : tie.Need-slice-relend-prefix-run
-slice-relend-prefix-run c = search needs
+slice-relend-prefix-apply-into : tie.Need-slice-relend-prefix-apply-into
+slice-relend-prefix-apply-into c = search needs
 
-slice-aggregate-run : tie.Need-slice-aggregate-run
-slice-aggregate-run c = search needs
+slice-aggregate-apply-into : tie.Need-slice-aggregate-apply-into
+slice-aggregate-apply-into c = search needs
 
-run-requires-2 : tie.Need-run-requires-2
-run-requires-2 c κs = search needs
+apply-into-requires-2 : tie.Need-apply-into-requires-2
+apply-into-requires-2 c κs = search needs
 
 same-length-2 : tie.Need-same-length-2
 same-length-2 c = search needs
@@ -33,8 +33,8 @@ same-length-2 c = search needs
 returns-2 : tie.Need-returns-2
 returns-2 c = stopped _ _ _ _ (search unchanged) (search apply-10)
 
-run-requires-3 : tie.Need-run-requires-3
-run-requires-3 c κs = search needs
+apply-into-requires-3 : tie.Need-apply-into-requires-3
+apply-into-requires-3 c κs = search needs
 
 same-length-3 : tie.Need-same-length-3
 same-length-3 c = search needs
@@ -48,14 +48,14 @@ write-spec =
     (tie.spec
     text-bytes-requires
     add-if1
-    run-requires
+    apply-into-requires
     same-length
     returns
-    slice-relend-prefix-run
-    slice-aggregate-run
-    run-requires-2
+    slice-relend-prefix-apply-into
+    slice-aggregate-apply-into
+    apply-into-requires-2
     same-length-2
     returns-2
-    run-requires-3
+    apply-into-requires-3
     same-length-3
     returns-3)

@@ -5,8 +5,8 @@ use Rattle.builders.proofs.finish.Tie as tie
 flush-requires : tie.Need-flush-requires
 flush-requires c κs = search needs
 
-header-requires : tie.Need-header-requires
-header-requires c κs = search needs
+write-header-requires : tie.Need-write-header-requires
+write-header-requires c κs = search needs
 
 same-length : tie.Need-same-length
 same-length c = search needs
@@ -15,4 +15,4 @@ returns : tie.Need-returns
 returns c = cc
 
 pub finish-spec : {M : Type 1} → statement M
-finish-spec = tie.close (tie.spec flush-requires header-requires same-length returns)
+finish-spec = tie.close (tie.spec flush-requires write-header-requires same-length returns)

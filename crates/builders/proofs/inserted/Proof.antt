@@ -13,8 +13,8 @@ insert-more-requires c κs = search needs
 closed-requires : tie.Need-closed-requires
 closed-requires c κs = search needs
 
-judge-requires : tie.Need-judge-requires
-judge-requires c κs = search needs
+limits-then-room-requires : tie.Need-limits-then-room-requires
+limits-then-room-requires c κs = search needs
 
 enum-known-y : tie.Need-enum-known-y
 enum-known-y c = search needs
@@ -47,7 +47,7 @@ inserted-spec =
     records-requires
     insert-more-requires
     closed-requires
-    judge-requires
+    limits-then-room-requires
     enum-known-y
     enum-known-b
     text-bytes-requires

@@ -12,8 +12,8 @@ retain-more-requires c κs = search needs
 closed-requires : tie.Need-closed-requires
 closed-requires c κs = search needs
 
-judge-requires : tie.Need-judge-requires
-judge-requires c κs = search needs
+limits-then-room-requires : tie.Need-limits-then-room-requires
+limits-then-room-requires c κs = search needs
 
 enum-known-y : tie.Need-enum-known-y
 enum-known-y c = search needs
@@ -24,8 +24,8 @@ enum-known-b c = search needs
 text-bytes-requires : tie.Need-text-bytes-requires
 text-bytes-requires c κs = search needs
 
-settle-requires : tie.Need-settle-requires
-settle-requires c κs = (search needs, search needs, search before-few, search text-room)
+relocate-requires : tie.Need-relocate-requires
+relocate-requires c κs = (search needs, search needs, search before-few, search text-room)
 
 finish-requires : tie.Need-finish-requires
 finish-requires c κs = search needs
@@ -46,11 +46,11 @@ retained-spec =
     records-requires
     retain-more-requires
     closed-requires
-    judge-requires
+    limits-then-room-requires
     enum-known-y
     enum-known-b
     text-bytes-requires
-    settle-requires
+    relocate-requires
     finish-requires
     returns
     same-length

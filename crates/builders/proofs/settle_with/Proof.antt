@@ -3,8 +3,8 @@ use Rattle.builders.proofs.Extending.{settles-with}
 use Rattle.builders.proofs.settle_with.Statement.{statement}
 use Rattle.builders.proofs.settle_with.Tie as tie
 
-settle-requires : tie.Need-settle-requires
-settle-requires c κs = search needs
+relocate-requires : tie.Need-relocate-requires
+relocate-requires c κs = search needs
 
 text-start-requires : tie.Need-text-start-requires
 text-start-requires c κs = search needs
@@ -24,4 +24,4 @@ returns c = search settles-with
 pub settle-with-spec : {M : Type 1} → statement M
 settle-with-spec =
     tie.close
-    (tie.spec settle-requires text-start-requires add-at copy-requires same-length returns)
+    (tie.spec relocate-requires text-start-requires add-at copy-requires same-length returns)

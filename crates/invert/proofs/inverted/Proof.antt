@@ -6,11 +6,11 @@ use Rattle.invert.proofs.inverted.Tie as tie
 records-requires : tie.Need-records-requires
 records-requires c κs = search needs
 
-evident-requires : tie.Need-evident-requires
-evident-requires c κs = search needs
+surely-fits-requires : tie.Need-surely-fits-requires
+surely-fits-requires c κs = search needs
 
-straight-requires : tie.Need-straight-requires
-straight-requires c κs = (search needs, search needs, search needs, search needs, search needs, search evident-base, search evident-few, search evident-fits)
+write-in-place-requires : tie.Need-write-in-place-requires
+write-in-place-requires c κs = (search needs, search needs, search needs, search needs, search needs, search evident-base, search evident-few, search evident-fits)
 
 same-length : tie.Need-same-length
 same-length c = search needs
@@ -18,8 +18,8 @@ same-length c = search needs
 returns : tie.Need-returns
 returns c = search needs
 
-twice-requires : tie.Need-twice-requires
-twice-requires c κs = search needs
+measure-then-write-requires : tie.Need-measure-then-write-requires
+measure-then-write-requires c κs = search needs
 
 same-length-2 : tie.Need-same-length-2
 same-length-2 c = search needs
@@ -32,10 +32,10 @@ inverted-spec =
     tie.close
     (tie.spec
     records-requires
-    evident-requires
-    straight-requires
+    surely-fits-requires
+    write-in-place-requires
     same-length
     returns
-    twice-requires
+    measure-then-write-requires
     same-length-2
     returns-2)

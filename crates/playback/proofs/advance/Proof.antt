@@ -3,14 +3,14 @@ use Rattle.playback.proofs.Stages.{as-long, advance-other, advance-shor
 use Rattle.playback.proofs.advance.Statement.{statement}
 use Rattle.playback.proofs.advance.Tie as tie
 
-slice-reshare-prefix-run : tie.Need-slice-reshare-prefix-run
-slice-reshare-prefix-run c = search needs
+slice-reshare-prefix-apply-into : tie.Need-slice-reshare-prefix-apply-into
+slice-reshare-prefix-apply-into c = search needs
 
-slice-aggregate-run : tie.Need-slice-aggregate-run
-slice-aggregate-run c = search as-long
+slice-aggregate-apply-into : tie.Need-slice-aggregate-apply-into
+slice-aggregate-apply-into c = search as-long
 
-run-requires : tie.Need-run-requires
-run-requires c κs = search needs
+apply-into-requires : tie.Need-apply-into-requires
+apply-into-requires c κs = search needs
 
 same-length : tie.Need-same-length
 same-length c = search needs
@@ -21,14 +21,14 @@ same-length-2 c = search needs
 returns : tie.Need-returns
 returns c = search advance-other
 
-slice-reshare-prefix-hold : tie.Need-slice-reshare-prefix-hold
-slice-reshare-prefix-hold c = search needs
+slice-reshare-prefix-store-text : tie.Need-slice-reshare-prefix-store-text
+slice-reshare-prefix-store-text c = search needs
 
-slice-aggregate-hold : tie.Need-slice-aggregate-hold
-slice-aggregate-hold c = search as-long
+slice-aggregate-store-text : tie.Need-slice-aggregate-store-text
+slice-aggregate-store-text c = search as-long
 
-hold-requires : tie.Need-hold-requires
-hold-requires c κs = search needs
+store-text-requires : tie.Need-store-text-requires
+store-text-requires c κs = search needs
 
 same-length-3 : tie.Need-same-length-3
 same-length-3 c = search needs
@@ -52,15 +52,15 @@ pub advance-spec : {M : Type 1} → statement M
 advance-spec =
     tie.close
     (tie.spec
-    slice-reshare-prefix-run
-    slice-aggregate-run
-    run-requires
+    slice-reshare-prefix-apply-into
+    slice-aggregate-apply-into
+    apply-into-requires
     same-length
     same-length-2
     returns
-    slice-reshare-prefix-hold
-    slice-aggregate-hold
-    hold-requires
+    slice-reshare-prefix-store-text
+    slice-aggregate-store-text
+    store-text-requires
     same-length-3
     same-length-4
     returns-2

@@ -31,8 +31,8 @@ returns-2 c = play-refused _ _ _ _ _ 6 (search play-6)
 returns-3 : tie.Need-returns-3
 returns-3 c = play-refused _ _ _ _ _ 8 (search play-8)
 
-run-requires : tie.Need-run-requires
-run-requires c κs = (search play-reads, search play-count, search form-holds, search play-agrees)
+play-from-start-requires : tie.Need-play-from-start-requires
+play-from-start-requires c κs = (search play-reads, search play-count, search form-holds, search play-agrees)
 
 enum-known-n : tie.Need-enum-known-n
 enum-known-n c = search needs
@@ -92,7 +92,7 @@ play-spec =
     enum-told-2
     returns-2
     returns-3
-    run-requires
+    play-from-start-requires
     enum-known-n
     enum-told-3
     same-length

@@ -3,14 +3,14 @@ use Rattle.summary.proofs.Summing.{summed-room, summed-refused, summed-
 use Rattle.summary.proofs.summed.Statement.{statement}
 use Rattle.summary.proofs.summed.Tie as tie
 
-slice-aggregate-sum : tie.Need-slice-aggregate-sum
-slice-aggregate-sum c = search needs
+slice-aggregate-sum-up : tie.Need-slice-aggregate-sum-up
+slice-aggregate-sum-up c = search needs
 
-slice-aggregate-sum-2 : tie.Need-slice-aggregate-sum-2
-slice-aggregate-sum-2 c = search needs
+slice-aggregate-sum-up-2 : tie.Need-slice-aggregate-sum-up-2
+slice-aggregate-sum-up-2 c = search needs
 
-sum-requires : tie.Need-sum-requires
-sum-requires c κs = search needs
+sum-up-requires : tie.Need-sum-up-requires
+sum-up-requires c κs = search needs
 
 enum-known-x : tie.Need-enum-known-x
 enum-known-x c = search needs
@@ -37,9 +37,9 @@ pub summed-spec : {M : Type 1} → statement M
 summed-spec =
     tie.close
     (tie.spec
-    slice-aggregate-sum
-    slice-aggregate-sum-2
-    sum-requires
+    slice-aggregate-sum-up
+    slice-aggregate-sum-up-2
+    sum-up-requires
     enum-known-x
     enum-known-k
     slice-aggregate-delivered

@@ -6,11 +6,11 @@ use Rattle.apply.proofs.core.end_of.Tie as tie
 returns : tie.Need-returns
 returns c = search ends-text
 
-behind-requires : tie.Need-behind-requires
-behind-requires c κs = search needs
+skip-chars-requires : tie.Need-skip-chars-requires
+skip-chars-requires c κs = search needs
 
 returns-2 : tie.Need-returns-2
 returns-2 c = search needs
 
 pub end-of-spec : {M : Type 1} → statement M
-end-of-spec = tie.close (tie.spec returns behind-requires returns-2)
+end-of-spec = tie.close (tie.spec returns skip-chars-requires returns-2)

@@ -3,8 +3,8 @@ use Rattle.characters.proofs.Window.{window-end, window-room, window-back}
 use Rattle.blocks.proofs.core.back.Statement.{statement}
 use Rattle.blocks.proofs.core.back.Tie as tie
 
-held-requires : tie.Need-held-requires
-held-requires c κs = search needs
+pending-requires : tie.Need-pending-requires
+pending-requires c κs = search needs
 
 cast-n : tie.Need-cast-n
 cast-n c = search needs
@@ -25,4 +25,4 @@ returns-2 : tie.Need-returns-2
 returns-2 c = search window-back
 
 pub back-spec : {M : Type 1} → statement M
-back-spec = tie.close (tie.spec held-requires cast-n returns sub-t6 sub-t7 sub-t8 returns-2)
+back-spec = tie.close (tie.spec pending-requires cast-n returns sub-t6 sub-t7 sub-t8 returns-2)

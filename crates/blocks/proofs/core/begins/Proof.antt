@@ -10,11 +10,11 @@ returns c = search only-not
 returns-2 : tie.Need-returns-2
 returns-2 c = search only-not
 
-held-requires : tie.Need-held-requires
-held-requires c κs = search needs
+pending-requires : tie.Need-pending-requires
+pending-requires c κs = search needs
 
 returns-3 : tie.Need-returns-3
-returns-3 c = only-none _ _ (c .held .ensures .0) (λ z. (omega arith, omega arith, z))
+returns-3 c = only-none _ _ (c .pending .ensures .0) (λ z. (omega arith, omega arith, z))
 
 pub begins-spec : {M : Type 1} → statement M
-begins-spec = tie.close (tie.spec returns returns-2 held-requires returns-3)
+begins-spec = tie.close (tie.spec returns returns-2 pending-requires returns-3)

@@ -21,12 +21,12 @@ eight-requires c κs = search needs
 returns-2 : tie.Need-returns-2
 returns-2 c = search only-not
 
-held-requires : tie.Need-held-requires
-held-requires c κs = search needs
+pending-requires : tie.Need-pending-requires
+pending-requires c κs = search needs
 
 returns-3 : tie.Need-returns-3
-returns-3 c = only-none _ _ (c .held .ensures .0) (λ z. (runs-last _ _ _ (omega arith) refl (omega arith) (omega arith) (c .before .before .eight .ensures) (c .before .if2 .left), z))
+returns-3 c = only-none _ _ (c .pending .ensures .0) (λ z. (runs-last _ _ _ (omega arith) refl (omega arith) (omega arith) (c .before .before .eight .ensures) (c .before .if2 .left), z))
 
 pub ends-ascii-spec : {M : Type 1} → statement M
 ends-ascii-spec =
-    tie.close (tie.spec sub-if1 returns sub-eight eight-requires returns-2 held-requires returns-3)
+    tie.close (tie.spec sub-if1 returns sub-eight eight-requires returns-2 pending-requires returns-3)

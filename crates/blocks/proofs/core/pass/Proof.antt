@@ -24,8 +24,8 @@ sub-loop c = search needs
 plain-requires : tie.Need-plain-requires Inv-loop μ-loop
 plain-requires c κs = search needs
 
-held-requires : tie.Need-held-requires Inv-loop μ-loop
-held-requires c κs = search needs
+pending-requires : tie.Need-pending-requires Inv-loop μ-loop
+pending-requires c κs = search needs
 
 returns : tie.Need-returns Inv-loop μ-loop
 returns c = search needs
@@ -38,7 +38,7 @@ ahead-requires c κs = search needs
 
 -- over sixteen ASCII bytes and those that follow
 over : (c : tie.Else2 Inv-loop μ-loop) (j : ℕ) → Runs (c .before .before .before .before .before .before .before .args .text .now) (c .before .before .before .before .before .loop .i + 16) j → Window (c .before .before .before .before .before .before .before .args .text .now) j (c .before .before .before .before .before .loop .conts)
-over c j r = window-run _ _ j _ _ (c .before .before .before .before .before .loop .inv) (c .before .held .ensures .0) (omega arith) (runs-join _ _ _ j (runs-some _ _ 16 (c .before .before .before .plain .ensures) (c .before .before .if1 .taken) (omega arith)) r) (omega arith)
+over c j r = window-run _ _ j _ _ (c .before .before .before .before .before .loop .inv) (c .before .pending .ensures .0) (omega arith) (runs-join _ _ _ j (runs-some _ _ 16 (c .before .before .before .plain .ensures) (c .before .before .if1 .taken) (omega arith)) r) (omega arith)
 
 more : (c : tie.Then3 Inv-loop μ-loop) → Runs (c .before .before .before .before .before .before .before .before .before .args .text .now) (c .before .before .before .before .before .before .before .loop .i + 16) (c .before .before .before .before .before .before .before .loop .i + 16 + 64)
 more c = runs-ahead _ _ (c .before .ahead .ensures) (c .if3 .taken) (omega arith)
@@ -61,8 +61,8 @@ loop-less-2 c = search needs
 loop-again-2 : tie.Need-loop-again-2 Inv-loop μ-loop
 loop-again-2 c = over (c .before .before) _ (runs-none _ _ (omega arith))
 
-seen-requires : tie.Need-seen-requires Inv-loop μ-loop
-seen-requires c κs = search needs
+check16-requires : tie.Need-check16-requires Inv-loop μ-loop
+check16-requires c κs = search needs
 
 returns-2 : tie.Need-returns-2 Inv-loop μ-loop
 returns-2 c = search needs
@@ -94,7 +94,7 @@ pass-spec =
     loop-holds
     sub-loop
     plain-requires
-    held-requires
+    pending-requires
     returns
     add-i
     ahead-requires
@@ -104,7 +104,7 @@ pass-spec =
     loop-again
     loop-less-2
     loop-again-2
-    seen-requires
+    check16-requires
     returns-2
     add-i-2
     cast-conts

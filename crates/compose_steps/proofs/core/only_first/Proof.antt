@@ -3,8 +3,8 @@ use Rattle.compose_steps.proofs.Steps.{Cuts, went-first}
 use Rattle.compose_steps.proofs.core.only_first.Statement.{statement}
 use Rattle.compose_steps.proofs.core.only_first.Tie as tie
 
-part-requires : tie.Need-part-requires
-part-requires c κs = search (Cuts, needs)
+push-requires : tie.Need-push-requires
+push-requires c κs = search (Cuts, needs)
 
 rest-requires : tie.Need-rest-requires
 rest-requires c κs = search (Cuts, needs)
@@ -16,4 +16,4 @@ returns : tie.Need-returns
 returns c = search went-first
 
 pub only-first-spec : {M : Type 1} → statement M
-only-first-spec = tie.close (tie.spec part-requires rest-requires same-length returns)
+only-first-spec = tie.close (tie.spec push-requires rest-requires same-length returns)

@@ -8,8 +8,8 @@ use Rattle.compose_steps.proofs.core.retained.Tie as tie
 lesser-requires : tie.Need-lesser-requires
 lesser-requires c κs = search needs
 
-part-requires : tie.Need-part-requires
-part-requires c κs =
+push-requires : tie.Need-push-requires
+push-requires c κs =
     let start = c .before .before .before .before .before .before .before .before in
     let k = c .before .lesser .ensures in
     (start .pre .2, start .pre .5, both-some _ _ _ _ _ (start .pre .6) (start .pre .4) (start .pre .5) k, omega (arith, k), second-cut _ _ _ _ _ (start .pre .6) (start .pre .5), under-more _ _ _ (omega arith) (start .pre .3))
@@ -26,9 +26,9 @@ same-length c = search needs
 returns : tie.Need-returns
 returns c =
     let start = c .before .before .before .before .before .before .before .before .before .before .before .before .before in
-    went-retained _ _ _ (start .args .s) _ _ _ (start .pre .4) (start .pre .5) _ _ (start .pre .6) _ (c .before .before .before .before .before .before .lesser .ensures) (start .pre .7) (c .before .before .before .before .part .ensures) (c .before .rest .ensures) (c .rest2 .ensures)
+    went-retained _ _ _ (start .args .s) _ _ _ (start .pre .4) (start .pre .5) _ _ (start .pre .6) _ (c .before .before .before .before .before .before .lesser .ensures) (start .pre .7) (c .before .before .before .before .push .ensures) (c .before .rest .ensures) (c .rest2 .ensures)
 
 pub retained-spec : {M : Type 1} → statement M
 retained-spec =
     tie.close
-    (tie.spec lesser-requires part-requires rest-requires rest-requires-2 same-length returns)
+    (tie.spec lesser-requires push-requires rest-requires rest-requires-2 same-length returns)

@@ -3,8 +3,8 @@ use Rattle.emitter.proofs.Adding.{part-room, part-small, part-few, part-inserts
 use Rattle.compose_steps.proofs.core.text_of_second.Statement.{statement}
 use Rattle.compose_steps.proofs.core.text_of_second.Tie as tie
 
-spill-requires : tie.Need-spill-requires
-spill-requires c κs = search needs
+flush-if-closed-requires : tie.Need-flush-if-closed-requires
+flush-if-closed-requires c κs = search needs
 
 text-start-requires : tie.Need-text-start-requires
 text-start-requires c κs = search needs
@@ -31,7 +31,7 @@ pub text-of-second-spec : {M : Type 1} → statement M
 text-of-second-spec =
     tie.close
     (tie.spec
-    spill-requires
+    flush-if-closed-requires
     text-start-requires
     add-copy-short
     copy-short-requires

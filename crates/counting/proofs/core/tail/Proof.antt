@@ -14,8 +14,8 @@ returns c =
     let l : length (a .text .now) ≤ a .from = omega arith in
     (sym (ap numChars (drop-of-length-le (a .text .now) l)), search needs)
 
-few-requires : tie.Need-few-requires
-few-requires c κs = search needs
+count-block-requires : tie.Need-count-block-requires
+count-block-requires c κs = search needs
 
 cast-result : tie.Need-cast-result
 cast-result c = search needs
@@ -24,7 +24,7 @@ returns-2 : tie.Need-returns-2
 returns-2 c =
     let a = c .before .before .before .before .args in
     let e : a .from ≡ 0 = omega arith in
-    (rw e (c .few .ensures .0), omega arith)
+    (rw e (c .count-block .ensures .0), omega arith)
 
 thirty-two-requires : tie.Need-thirty-two-requires
 thirty-two-requires c κs = search needs
@@ -48,7 +48,7 @@ tail-spec =
     tie.close
     (tie.spec
     returns
-    few-requires
+    count-block-requires
     cast-result
     returns-2
     thirty-two-requires

@@ -6,8 +6,8 @@ use Rattle.emitter.proofs.core.delete.Tie as tie
 returns : tie.Need-returns
 returns c = search adds-delete-none
 
-spill-requires : tie.Need-spill-requires
-spill-requires c κs = search needs
+flush-if-closed-requires : tie.Need-flush-if-closed-requires
+flush-if-closed-requires c κs = search needs
 
 deleted-requires : tie.Need-deleted-requires
 deleted-requires c κs = search needs
@@ -19,4 +19,4 @@ returns-2 : tie.Need-returns-2
 returns-2 c = search adds-deletes
 
 pub delete-spec : {M : Type 1} → statement M
-delete-spec = tie.close (tie.spec returns spill-requires deleted-requires same-length returns-2)
+delete-spec = tie.close (tie.spec returns flush-if-closed-requires deleted-requires same-length returns-2)

@@ -3,8 +3,8 @@ use Rattle.emitter.proofs.Adding.{deletes-from}
 use Rattle.emitter.proofs.core.deleted.Statement.{statement}
 use Rattle.emitter.proofs.core.deleted.Tie as tie
 
-opened-requires : tie.Need-opened-requires
-opened-requires c κs = search needs
+reopened-requires : tie.Need-reopened-requires
+reopened-requires c κs = search needs
 
 add-t4 : tie.Need-add-t4
 add-t4 c = search needs
@@ -16,4 +16,4 @@ returns : tie.Need-returns
 returns c = search deletes-from
 
 pub deleted-spec : {M : Type 1} → statement M
-deleted-spec = tie.close (tie.spec opened-requires add-t4 add-t5 returns)
+deleted-spec = tie.close (tie.spec reopened-requires add-t4 add-t5 returns)

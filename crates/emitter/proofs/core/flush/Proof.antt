@@ -4,11 +4,11 @@ use Rattle.emitter.proofs.Emitting.{count-all, flush-all, fits-ret, fit
 use Rattle.emitter.proofs.core.flush.Statement.{statement}
 use Rattle.emitter.proofs.core.flush.Tie as tie
 
-fits-requires : tie.Need-fits-requires
-fits-requires c κs = search needs
+group-fits-requires : tie.Need-group-fits-requires
+group-fits-requires c κs = search needs
 
-close-requires : tie.Need-close-requires
-close-requires c κs = (search needs, search needs, search fits-ret, search fits-few, search fits-three)
+write-group-requires : tie.Need-write-group-requires
+write-group-requires c κs = (search needs, search needs, search fits-ret, search fits-few, search fits-three)
 
 same-length : tie.Need-same-length
 same-length c = search needs
@@ -16,14 +16,14 @@ same-length c = search needs
 returns : tie.Need-returns
 returns c = search needs
 
-emit-requires : tie.Need-emit-requires
-emit-requires c κs = search needs
+write-op-if-any-requires : tie.Need-write-op-if-any-requires
+write-op-if-any-requires c κs = search needs
 
-emit-requires-2 : tie.Need-emit-requires-2
-emit-requires-2 c κs = search needs
+write-op-if-any-requires-2 : tie.Need-write-op-if-any-requires-2
+write-op-if-any-requires-2 c κs = search needs
 
-emit-requires-3 : tie.Need-emit-requires-3
-emit-requires-3 c κs = search needs
+write-op-if-any-requires-3 : tie.Need-write-op-if-any-requires-3
+write-op-if-any-requires-3 c κs = search needs
 
 same-length-2 : tie.Need-same-length-2
 same-length-2 c = search needs
@@ -35,12 +35,12 @@ pub flush-spec : {M : Type 1} → statement M
 flush-spec =
     tie.close
     (tie.spec
-    fits-requires
-    close-requires
+    group-fits-requires
+    write-group-requires
     same-length
     returns
-    emit-requires
-    emit-requires-2
-    emit-requires-3
+    write-op-if-any-requires
+    write-op-if-any-requires-2
+    write-op-if-any-requires-3
     same-length-2
     returns-2)

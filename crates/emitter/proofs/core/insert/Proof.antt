@@ -9,8 +9,8 @@ sub-len c = search needs
 returns : tie.Need-returns
 returns c = search adds-insert-none
 
-spill-requires : tie.Need-spill-requires
-spill-requires c κs = search needs
+flush-if-closed-requires : tie.Need-flush-if-closed-requires
+flush-if-closed-requires c κs = search needs
 
 text-start-requires : tie.Need-text-start-requires
 text-start-requires c κs = search needs
@@ -36,7 +36,7 @@ insert-spec =
     (tie.spec
     sub-len
     returns
-    spill-requires
+    flush-if-closed-requires
     text-start-requires
     add-copy
     copy-requires

@@ -3,8 +3,8 @@ use Rattle.emitter.proofs.Adding.{inserts-from}
 use Rattle.emitter.proofs.core.inserted.Statement.{statement}
 use Rattle.emitter.proofs.core.inserted.Tie as tie
 
-opened-requires : tie.Need-opened-requires
-opened-requires c κs = search needs
+reopened-requires : tie.Need-reopened-requires
+reopened-requires c κs = search needs
 
 add-t5 : tie.Need-add-t5
 add-t5 c = search needs
@@ -19,4 +19,4 @@ returns : tie.Need-returns
 returns c = search inserts-from
 
 pub inserted-spec : {M : Type 1} → statement M
-inserted-spec = tie.close (tie.spec opened-requires add-t5 add-t6 add-t7 returns)
+inserted-spec = tie.close (tie.spec reopened-requires add-t5 add-t6 add-t7 returns)

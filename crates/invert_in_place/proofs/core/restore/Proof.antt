@@ -3,14 +3,14 @@ use Rattle.invert_in_place.proofs.Placing.{restores}
 use Rattle.invert_in_place.proofs.core.restore.Statement.{statement}
 use Rattle.invert_in_place.proofs.core.restore.Tie as tie
 
-behind-requires : tie.Need-behind-requires
-behind-requires c κs = search needs
+skip-chars-requires : tie.Need-skip-chars-requires
+skip-chars-requires c κs = search needs
 
-sub-enter : tie.Need-sub-enter
-sub-enter c = search needs
+sub-write-op : tie.Need-sub-write-op
+sub-write-op c = search needs
 
-enter-requires : tie.Need-enter-requires
-enter-requires c κs = search needs
+write-op-requires : tie.Need-write-op-requires
+write-op-requires c κs = search needs
 
 copy-requires : tie.Need-copy-requires
 copy-requires c κs = search needs
@@ -23,4 +23,4 @@ returns c = search restores
 
 pub restore-spec : {M : Type 1} → statement M
 restore-spec =
-    tie.close (tie.spec behind-requires sub-enter enter-requires copy-requires same-length returns)
+    tie.close (tie.spec skip-chars-requires sub-write-op write-op-requires copy-requires same-length returns)

@@ -9,8 +9,8 @@ kind-requires c κs = search needs
 count-requires : tie.Need-count-requires
 count-requires c κs = search needs
 
-enter-requires : tie.Need-enter-requires
-enter-requires c κs = search needs
+write-op-requires : tie.Need-write-op-requires
+write-op-requires c κs = search needs
 
 add-if2 : tie.Need-add-if2
 add-if2 c = search needs
@@ -24,8 +24,8 @@ same-length c = search needs
 returns : tie.Need-returns
 returns c = search undoes-last
 
-behind-requires : tie.Need-behind-requires
-behind-requires c κs = search needs
+skip-chars-requires : tie.Need-skip-chars-requires
+skip-chars-requires c κs = search needs
 
 add-t14 : tie.Need-add-t14
 add-t14 c = search needs
@@ -60,12 +60,12 @@ undo-spec =
     (tie.spec
     kind-requires
     count-requires
-    enter-requires
+    write-op-requires
     add-if2
     add-t16
     same-length
     returns
-    behind-requires
+    skip-chars-requires
     add-t14
     same-length-2
     returns-2

@@ -19,8 +19,8 @@ add-next c = search needs
 count-requires : tie.Need-count-requires
 count-requires c κs = (search needs, search needs, search next-in)
 
-enter-requires : tie.Need-enter-requires
-enter-requires c κs = search (next-room, needs)
+write-op-requires : tie.Need-write-op-requires
+write-op-requires c κs = search (next-room, needs)
 
 restore-requires : tie.Need-restore-requires
 restore-requires c κs = search needs
@@ -43,8 +43,8 @@ same-length c = search needs
 returns : tie.Need-returns
 returns c = search undoes-pair
 
-enter-requires-2 : tie.Need-enter-requires-2
-enter-requires-2 c κs = search needs
+write-op-requires-2 : tie.Need-write-op-requires-2
+write-op-requires-2 c κs = search needs
 
 add-t13 : tie.Need-add-t13
 add-t13 c = search needs
@@ -67,7 +67,7 @@ undo-insert-spec =
     delete-follows-requires
     add-next
     count-requires
-    enter-requires
+    write-op-requires
     restore-requires
     add-t20
     add-t21
@@ -75,7 +75,7 @@ undo-insert-spec =
     add-t23
     same-length
     returns
-    enter-requires-2
+    write-op-requires-2
     add-t13
     add-t27
     same-length-2

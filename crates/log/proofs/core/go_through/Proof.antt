@@ -17,8 +17,8 @@ loop-holds c = (search needs, search scan-start)
 marked-requires : tie.Need-marked-requires Inv-loop μ-loop
 marked-requires c κs = search needs
 
-step-requires : tie.Need-step-requires Inv-loop μ-loop
-step-requires c κs = search needs
+next-revision-requires : tie.Need-next-revision-requires Inv-loop μ-loop
+next-revision-requires c κs = search needs
 
 enum-told : tie.Need-enum-told Inv-loop μ-loop
 enum-told c = search needs
@@ -52,7 +52,7 @@ go-through-spec =
     μ-loop
     loop-holds
     marked-requires
-    step-requires
+    next-revision-requires
     enum-told
     returns
     enum-known-next

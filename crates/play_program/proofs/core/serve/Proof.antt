@@ -18,11 +18,11 @@ buffer-requires c κs = search needs
 array-share-prefix-input : tie.Need-array-share-prefix-input
 array-share-prefix-input c = search needs
 
-slice-aggregate-run : tie.Need-slice-aggregate-run
-slice-aggregate-run c = search needs
+slice-aggregate-play-input : tie.Need-slice-aggregate-play-input
+slice-aggregate-play-input c = search needs
 
-run-requires : tie.Need-run-requires
-run-requires c κs = search needs
+play-input-requires : tie.Need-play-input-requires
+play-input-requires c κs = search needs
 
 array-share-prefix-out : tie.Need-array-share-prefix-out
 array-share-prefix-out c = search needs
@@ -45,8 +45,8 @@ serve-spec =
     read-full-requires
     buffer-requires
     array-share-prefix-input
-    slice-aggregate-run
-    run-requires
+    slice-aggregate-play-input
+    play-input-requires
     array-share-prefix-out
     slice-aggregate-write-all
     write-all-requires

@@ -67,8 +67,8 @@ loop-holds c =
 goes-on-requires : tie.Need-goes-on-requires Inv-loop μ-loop Inv-run μ-run
 goes-on-requires c κs = search needs
 
-end-requires : tie.Need-end-requires Inv-loop μ-loop Inv-run μ-run
-end-requires c κs =
+finish-both-requires : tie.Need-finish-both-requires Inv-loop μ-loop Inv-run μ-run
+finish-both-requires c κs =
     let at-loop = c .before .before .before .before in
     let start = at-loop .before .before .before .before .before .before .before .before .before .before .before .before .before .before .before .before in
     (start .pre .7, left-under _ _ _ _ _ _ (at-loop .loop .b) _ _ (at-loop .loop .inv .0), right-under _ _ _ _ _ _ (at-loop .loop .b) _ _ (at-loop .loop .inv .0))
@@ -83,7 +83,7 @@ sizes-requires c κs =
     let at-loop = at-goes-on .before in
     let at-if1 = at-loop .before .before .before .before .before .before .before in
     let at-run = at-if1 .before in
-    let d = marked-run _ _ _ _ _ (at-loop .loop .b) _ _ (at-loop .loop .inv .0) (at-loop .loop .inv .1) (at-loop .loop .inv .2) _ (at-goes-on .goes-on .ensures) (at-if2 .if2 .taken) (at-end .end .result) _ _ (at-end .end .ensures) (omega (arith, at-next .next .given, at-end .end)) (omega (arith, at-side .side .given, at-end .end)) in
+    let d = marked-run _ _ _ _ _ (at-loop .loop .b) _ _ (at-loop .loop .inv .0) (at-loop .loop .inv .1) (at-loop .loop .inv .2) _ (at-goes-on .goes-on .ensures) (at-if2 .if2 .taken) (at-end .finish-both .result) _ _ (at-end .finish-both .ensures) (omega (arith, at-next .next .given, at-end .finish-both)) (omega (arith, at-side .side .given, at-end .finish-both)) in
     (at-run .run .inv .0 .holds .fault, moving-record _ _ _ _ _ _ _ _ _ (at-run .run .inv .0) (at-if1 .if1 .left), moving-agree _ _ _ _ _ _ _ _ _ (at-run .run .inv .0) (at-if1 .if1 .left), d .counted)
 
 keep-limits-requires : tie.Need-keep-limits-requires Inv-loop μ-loop Inv-run μ-run
@@ -94,8 +94,8 @@ have-places-requires c κs =
     let at-sizes = c .before .before in
     at-sizes .sizes .ensures .left-small
 
-turn-requires : tie.Need-turn-requires Inv-loop μ-loop Inv-run μ-run
-turn-requires c κs =
+step-requires : tie.Need-step-requires Inv-loop μ-loop Inv-run μ-run
+step-requires c κs =
     let at-if2 = c .before .before .before in
     let at-goes-on = at-if2 .before in
     let at-loop = at-goes-on .before in
@@ -121,8 +121,8 @@ loop-less c = search went-less
 loop-again : tie.Need-loop-again Inv-loop μ-loop Inv-run μ-run
 loop-again c = (search both-more, search needs, search needs)
 
-go-on-requires : tie.Need-go-on-requires Inv-loop μ-loop Inv-run μ-run
-go-on-requires c κs =
+replace-edit-requires : tie.Need-replace-edit-requires Inv-loop μ-loop Inv-run μ-run
+replace-edit-requires c κs =
     let at-if4 = c .before .before .before .before in
     let at-have-places = at-if4 .before in
     let at-if3 = at-have-places .before in
@@ -139,7 +139,7 @@ go-on-requires c κs =
     let at-run = at-if1 .before in
     let at-records = at-run .before in
     let start = at-records .before .before .before .before .before .before .before in
-    let d = marked-run _ _ _ _ _ (at-loop .loop .b) _ _ (at-loop .loop .inv .0) (at-loop .loop .inv .1) (at-loop .loop .inv .2) _ (at-goes-on .goes-on .ensures) (at-if2 .if2 .taken) (at-end .end .result) _ _ (at-end .end .ensures) (omega (arith, at-next .next .given, at-end .end)) (omega (arith, at-side .side .given, at-end .end)) in (
+    let d = marked-run _ _ _ _ _ (at-loop .loop .b) _ _ (at-loop .loop .inv .0) (at-loop .loop .inv .1) (at-loop .loop .inv .2) _ (at-goes-on .goes-on .ensures) (at-if2 .if2 .taken) (at-end .finish-both .result) _ _ (at-end .finish-both .ensures) (omega (arith, at-next .next .given, at-end .finish-both)) (omega (arith, at-side .side .given, at-end .finish-both)) in (
       start .pre .7,
       at-records .records .ensures .0,
       at-records .records .ensures .1,
@@ -148,9 +148,9 @@ go-on-requires c κs =
       start .pre .3,
       moving-record _ _ _ _ _ _ _ _ _ (at-run .run .inv .0) (at-if1 .if1 .left),
       at-run .run .inv .0 .same-text,
-      omega (arith, at-next .next .given, at-end .end, at-loop .loop .inv .1, at-run .run .inv .2, start .pre .5),
-      omega (arith, at-side .side .given, at-end .end, at-loop .loop .inv .2, at-run .run .inv .3, start .pre .6),
-      moving-ready _ _ _ _ _ _ _ _ _ (at-run .run .inv .0) (at-if1 .if1 .left) _ (at-sizes .sizes .ensures) _ (at-keep-limits .keep-limits .ensures) (at-if3 .if3 .left) _ _ _ (at-have-places .have-places .ensures) (at-if4 .if4 .left) _ _ _ d,
+      omega (arith, at-next .next .given, at-end .finish-both, at-loop .loop .inv .1, at-run .run .inv .2, start .pre .5),
+      omega (arith, at-side .side .given, at-end .finish-both, at-loop .loop .inv .2, at-run .run .inv .3, start .pre .6),
+      moving-ready _ _ _ _ _ _ _ _ _ (at-run .run .inv .0) (at-if1 .if1 .left) _ (at-sizes .sizes .ensures) _ (at-keep-limits .store-counterpart-limits .ensures) (at-if3 .if3 .left) _ _ _ (at-have-places .have-places .ensures) (at-if4 .if4 .left) _ _ _ d,
       omega (arith, at-run .run .inv .0 .place, start .good),
       moving-small _ _ _ _ _ _ _ _ _ (at-run .run .inv .0) (start .pre .1),
     )
@@ -179,11 +179,11 @@ run-again c =
     let at-loop = at-end .before .before .before .before .before in
     let at-if1 = at-loop .before .before .before .before .before .before .before in
     let at-run = at-if1 .before in (
-      moving-next _ _ _ _ _ _ _ _ _ (at-run .run .inv .0) (at-if1 .if1 .left) (moving-fit _ _ _ _ _ _ _ _ _ (at-run .run .inv .0) (at-if1 .if1 .left) _ (at-sizes .sizes .ensures) _ (at-keep-limits .keep-limits .ensures) (at-if3 .if3 .left)) (at-run .run .inv .4) _ _ _ (at-go-on .go-on .ensures),
-      omega (arith, at-run .run .inv .1, at-cur .cur .given, at-go-on .go-on),
-      omega (arith, at-next .next .given, at-end .end, at-loop .loop .inv .1, at-run .run .inv .2),
-      omega (arith, at-side .side .given, at-end .end, at-loop .loop .inv .2, at-run .run .inv .3),
-      omega (arith, at-run .run .inv .4, at-parts .parts .given, at-go-on .go-on),
+      moving-next _ _ _ _ _ _ _ _ _ (at-run .run .inv .0) (at-if1 .if1 .left) (moving-fit _ _ _ _ _ _ _ _ _ (at-run .run .inv .0) (at-if1 .if1 .left) _ (at-sizes .sizes .ensures) _ (at-keep-limits .store-counterpart-limits .ensures) (at-if3 .if3 .left)) (at-run .run .inv .4) _ _ _ (at-go-on .replace-edit .ensures),
+      omega (arith, at-run .run .inv .1, at-cur .cur .given, at-go-on .replace-edit),
+      omega (arith, at-next .next .given, at-end .finish-both, at-loop .loop .inv .1, at-run .run .inv .2),
+      omega (arith, at-side .side .given, at-end .finish-both, at-loop .loop .inv .2, at-run .run .inv .3),
+      omega (arith, at-run .run .inv .4, at-parts .parts .given, at-go-on .replace-edit),
     )
 
 same-length : tie.Need-same-length Inv-loop μ-loop Inv-run μ-run
@@ -212,7 +212,7 @@ same-length-6 c =
     let at-end = at-next .before in
     let at-loop = at-end .before .before .before .before .before in
     let at-run = at-loop .before .before .before .before .before .before .before .before in
-    omega (arith, at-next .next .given, at-end .end, at-loop .loop .inv .1, at-run .run .inv .2)
+    omega (arith, at-next .next .given, at-end .finish-both, at-loop .loop .inv .1, at-run .run .inv .2)
 
 same-length-7 : tie.Need-same-length-7 Inv-loop μ-loop Inv-run μ-run
 same-length-7 c =
@@ -220,7 +220,7 @@ same-length-7 c =
     let at-end = at-side .before .before .before in
     let at-loop = at-end .before .before .before .before .before in
     let at-run = at-loop .before .before .before .before .before .before .before .before in
-    omega (arith, at-side .side .given, at-end .end, at-loop .loop .inv .2, at-run .run .inv .3)
+    omega (arith, at-side .side .given, at-end .finish-both, at-loop .loop .inv .2, at-run .run .inv .3)
 
 same-length-8 : tie.Need-same-length-8 Inv-loop μ-loop Inv-run μ-run
 same-length-8 c =
@@ -233,7 +233,7 @@ returns-2 c =
     let at-sizes = at-keep-limits .before in
     let at-if1 = at-sizes .before .before .before .before .before .before .before .before .before .before .before .before .before .before .before .before .before .before in
     let at-run = at-if1 .before in
-    moving-stop _ _ _ _ _ _ _ _ _ (at-run .run .inv .0) (at-if1 .if1 .left) _ (at-sizes .sizes .ensures) _ (at-keep-limits .keep-limits .ensures) _ _ (c .if3 .taken)
+    moving-stop _ _ _ _ _ _ _ _ _ (at-run .run .inv .0) (at-if1 .if1 .left) _ (at-sizes .sizes .ensures) _ (at-keep-limits .store-counterpart-limits .ensures) _ _ (c .if3 .taken)
 
 same-length-9 : tie.Need-same-length-9 Inv-loop μ-loop Inv-run μ-run
 same-length-9 c =
@@ -246,7 +246,7 @@ same-length-10 c =
     let at-end = at-next .before in
     let at-loop = at-end .before .before .before .before .before in
     let at-run = at-loop .before .before .before .before .before .before .before .before in
-    omega (arith, at-next .next .given, at-end .end, at-loop .loop .inv .1, at-run .run .inv .2)
+    omega (arith, at-next .next .given, at-end .finish-both, at-loop .loop .inv .1, at-run .run .inv .2)
 
 same-length-11 : tie.Need-same-length-11 Inv-loop μ-loop Inv-run μ-run
 same-length-11 c =
@@ -254,7 +254,7 @@ same-length-11 c =
     let at-end = at-side .before .before .before in
     let at-loop = at-end .before .before .before .before .before in
     let at-run = at-loop .before .before .before .before .before .before .before .before in
-    omega (arith, at-side .side .given, at-end .end, at-loop .loop .inv .2, at-run .run .inv .3)
+    omega (arith, at-side .side .given, at-end .finish-both, at-loop .loop .inv .2, at-run .run .inv .3)
 
 same-length-12 : tie.Need-same-length-12 Inv-loop μ-loop Inv-run μ-run
 same-length-12 c =
@@ -269,7 +269,7 @@ returns-3 c =
     let at-sizes = at-keep-limits .before in
     let at-if1 = at-sizes .before .before .before .before .before .before .before .before .before .before .before .before .before .before .before .before .before .before in
     let at-run = at-if1 .before in
-    moving-short _ _ _ _ _ _ _ _ _ (at-run .run .inv .0) (at-if1 .if1 .left) _ (at-sizes .sizes .ensures) _ (at-keep-limits .keep-limits .ensures) (at-if3 .if3 .left) _ _ _ (at-have-places .have-places .ensures) (c .if4 .taken) _ (omega (arith, at-run .run .inv .1))
+    moving-short _ _ _ _ _ _ _ _ _ (at-run .run .inv .0) (at-if1 .if1 .left) _ (at-sizes .sizes .ensures) _ (at-keep-limits .store-counterpart-limits .ensures) (at-if3 .if3 .left) _ _ _ (at-have-places .have-places .ensures) (c .if4 .taken) _ (omega (arith, at-run .run .inv .1))
 
 pub rebase-spec : {M : Type 1} → statement M
 rebase-spec =
@@ -289,14 +289,14 @@ rebase-spec =
     begin-requires
     loop-holds
     goes-on-requires
-    end-requires
+    finish-both-requires
     sizes-requires
     keep-limits-requires
     have-places-requires
-    turn-requires
+    step-requires
     loop-less
     loop-again
-    go-on-requires
+    replace-edit-requires
     sub-left
     run-less
     run-again

@@ -15,11 +15,11 @@ add-copy-short c = search needs
 copy-short-requires : tie.Need-copy-short-requires
 copy-short-requires c κs = search needs
 
-settle-records-requires : tie.Need-settle-records-requires
-settle-records-requires c κs = search needs
+relocate-ops-requires : tie.Need-relocate-ops-requires
+relocate-ops-requires c κs = search needs
 
-header-requires : tie.Need-header-requires
-header-requires c κs = search needs
+write-header-requires : tie.Need-write-header-requires
+write-header-requires c κs = search needs
 
 same-length : tie.Need-same-length
 same-length c = search needs
@@ -35,7 +35,7 @@ place-with-text-spec =
     text-start-requires-2
     add-copy-short
     copy-short-requires
-    settle-records-requires
-    header-requires
+    relocate-ops-requires
+    write-header-requires
     same-length
     returns)

@@ -2,13 +2,13 @@ use Prim.Native.Nat.{_+_, _-_, _≤_}
 use mathlib.Core.Path.{_≡_, refl}
 use native.Mathlib.Omega.{arith}
 use borrow.Author.Needs.{needs}
-use Rattle.tally.specs.InnerTally.{sumFrom, apartAt}
+use Rattle.tally.specs.InnerTally.{sumFrom, clashAt}
 use Rattle.tally.proofs.Tallying.{clashes-join}
 use Rattle.tally.proofs.core.clashes.Statement.{statement}
 use Rattle.tally.proofs.core.clashes.Tie as tie
 
 abbrev Inv-loop : tie.InvT-loop
-Inv-loop rec n clashes₀ from₀ clashes from = (1 ≤ from) × (from - 1 ≤ n - 1) × (clashes ≤ from - 1) × (clashes ≡ sumFrom (apartAt rec) 0 (from - 1))
+Inv-loop rec n clashes₀ from₀ clashes from = (1 ≤ from) × (from - 1 ≤ n - 1) × (clashes ≤ from - 1) × (clashes ≡ sumFrom (clashAt rec) 0 (from - 1))
 
 abbrev μ-loop : tie.MeasureT-loop
 μ-loop rec n clashes₀ from₀ clashes from = n - from

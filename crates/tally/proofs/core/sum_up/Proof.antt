@@ -3,8 +3,8 @@ use Rattle.tally.proofs.Tallying.{sums-unsound, sums-found}
 use Rattle.tally.proofs.core.sum_up.Statement.{statement}
 use Rattle.tally.proofs.core.sum_up.Tie as tie
 
-count-up-requires : tie.Need-count-up-requires
-count-up-requires c κs = search needs
+tally-all-requires : tie.Need-tally-all-requires
+tally-all-requires c κs = search needs
 
 returns : tie.Need-returns
 returns c = search sums-unsound
@@ -26,4 +26,4 @@ returns-2 c = search sums-found
 
 pub sum-up-spec : {M : Type 1} → statement M
 sum-up-spec =
-    tie.close (tie.spec count-up-requires returns cast-t5 sub-t6 cast-t7 cast-t8 returns-2)
+    tie.close (tie.spec tally-all-requires returns cast-t5 sub-t6 cast-t7 cast-t8 returns-2)

@@ -21,8 +21,8 @@ records-requires-2 c κs = search needs
 add-if2 : tie.Need-add-if2
 add-if2 c = search needs
 
-large-requires : tie.Need-large-requires
-large-requires c κs = search needs
+in-large-stages-requires : tie.Need-in-large-stages-requires
+in-large-stages-requires c κs = search needs
 
 same-length : tie.Need-same-length
 same-length c = search needs
@@ -36,8 +36,8 @@ returns-2 c = search needs
 add-if3 : tie.Need-add-if3
 add-if3 c = search needs
 
-medium-requires : tie.Need-medium-requires
-medium-requires c κs = search needs
+in-medium-stages-requires : tie.Need-in-medium-stages-requires
+in-medium-stages-requires c κs = search needs
 
 same-length-3 : tie.Need-same-length-3
 same-length-3 c = search needs
@@ -48,8 +48,8 @@ same-length-4 c = search needs
 returns-3 : tie.Need-returns-3
 returns-3 c = search needs
 
-small-requires : tie.Need-small-requires
-small-requires c κs = search needs
+in-small-stages-requires : tie.Need-in-small-stages-requires
+in-small-stages-requires c κs = search needs
 
 same-length-5 : tie.Need-same-length-5
 same-length-5 c = search needs
@@ -70,16 +70,16 @@ transformed-spec =
     records-requires
     records-requires-2
     add-if2
-    large-requires
+    in-large-stages-requires
     same-length
     same-length-2
     returns-2
     add-if3
-    medium-requires
+    in-medium-stages-requires
     same-length-3
     same-length-4
     returns-3
-    small-requires
+    in-small-stages-requires
     same-length-5
     same-length-6
     returns-4)

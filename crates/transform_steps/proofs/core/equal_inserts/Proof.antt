@@ -5,8 +5,8 @@ use Rattle.steps.proofs.Stepping.{together-both}
 use Rattle.transform_steps.proofs.core.equal_inserts.Statement.{statement}
 use Rattle.transform_steps.proofs.core.equal_inserts.Tie as tie
 
-keep-requires : tie.Need-keep-requires
-keep-requires c κs =
+emit-equal-requires : tie.Need-emit-equal-requires
+emit-equal-requires c κs =
     let start = c .before .before .before .before .before .before .before .before in
     let q = equal-least _ _ _ _ (start .pre .6) (start .pre .7) (start .pre .8) (start .pre .9) (start .pre .10) in
     (start .pre .2, start .pre .3, start .pre .4, start .pre .5, start .pre .6, start .pre .7, both-some _ _ _ _ (start .pre .6) (start .pre .7) (start .pre .8) _ q, search needs, omega (arith, q), uncut-x _ _ _ _ (start .pre .6) (start .pre .7) (start .pre .8) _ q, uncut-y _ _ _ _ (start .pre .6) (start .pre .7) (start .pre .8) _ q, start .pre .8, start .pre .10, start .pre .11, start .pre .12)
@@ -33,9 +33,9 @@ returns : tie.Need-returns
 returns c =
     let start = c .before .before .before .before .before .before .before .before .before .before .before .before .before .before .before .before .before in
     let q = equal-least _ _ _ _ (start .pre .6) (start .pre .7) (start .pre .8) (start .pre .9) (start .pre .10) in
-    together-both _ _ _ _ _ _ _ _ _ _ _ _ _ (c .before .before .before .before .before .before .before .before .keep .ensures) q (c .before .rest .ensures) (c .rest2 .ensures)
+    together-both _ _ _ _ _ _ _ _ _ _ _ _ _ (c .before .before .before .before .before .before .before .before .emit-equal .ensures) q (c .before .rest .ensures) (c .rest2 .ensures)
 
 pub equal-inserts-spec : {M : Type 1} → statement M
 equal-inserts-spec =
     tie.close
-    (tie.spec keep-requires rest-requires rest-requires-2 same-length same-length-2 returns)
+    (tie.spec emit-equal-requires rest-requires rest-requires-2 same-length same-length-2 returns)

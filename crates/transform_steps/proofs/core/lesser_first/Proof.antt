@@ -6,8 +6,8 @@ use Rattle.steps.proofs.Stepping.{first-both}
 use Rattle.transform_steps.proofs.core.lesser_first.Statement.{statement}
 use Rattle.transform_steps.proofs.core.lesser_first.Tie as tie
 
-mark-requires : tie.Need-mark-requires
-mark-requires c κs =
+push-without-text-requires : tie.Need-push-without-text-requires
+push-without-text-requires c κs =
     let start = c .before .before .before .before .before .before .before in
     (start .pre .1, start .pre .6, start .pre .4, left-live _ _ (start .pre .4) (start .pre .5), search needs, whole-cut _ _ (start .pre .4), under-more _ _ _ (omega arith) (start .pre .2))
 
@@ -29,9 +29,9 @@ returns c =
     let at-gives = at-retain .before in
     let at-mark = at-gives .before .before .before in
     let start = at-mark .before .before .before .before .before .before .before .before in
-    first-both _ _ _ _ _ _ _ _ _ (start .pre .4) (c .rest .ensures) (at-mark .mark .ensures) (at-gives .gives .ensures .0) (at-retain .retain .ensures)
+    first-both _ _ _ _ _ _ _ _ _ (start .pre .4) (c .rest .ensures) (at-mark .push-without-text .ensures) (at-gives .gives .ensures .0) (at-retain .retain .ensures)
 
 pub lesser-first-spec : {M : Type 1} → statement M
 lesser-first-spec =
     tie.close
-    (tie.spec mark-requires gives-requires retain-requires rest-requires same-length returns)
+    (tie.spec push-without-text-requires gives-requires retain-requires rest-requires same-length returns)

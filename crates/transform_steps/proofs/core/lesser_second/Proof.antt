@@ -12,8 +12,8 @@ gives-requires c κs = search needs
 retain-requires : tie.Need-retain-requires
 retain-requires c κs = search needs
 
-mark-requires : tie.Need-mark-requires
-mark-requires c κs =
+push-without-text-requires : tie.Need-push-without-text-requires
+push-without-text-requires c κs =
     let start = c .before .before .before .before .before .before .before .before .before in
     (start .pre .1, start .pre .6, start .pre .4, left-live _ _ (start .pre .4) (start .pre .5), search needs, whole-cut _ _ (start .pre .4), under-more _ _ _ (omega arith) (start .pre .3))
 
@@ -29,9 +29,9 @@ returns c =
     let at-retain = at-mark .before .before in
     let at-gives = at-retain .before in
     let start = at-gives .before .before .before .before .before .before .before in
-    second-both _ _ _ _ _ _ _ _ _ (start .pre .4) (c .rest .ensures) (at-mark .mark .ensures) (at-gives .gives .ensures .0) (at-retain .retain .ensures)
+    second-both _ _ _ _ _ _ _ _ _ (start .pre .4) (c .rest .ensures) (at-mark .push-without-text .ensures) (at-gives .gives .ensures .0) (at-retain .retain .ensures)
 
 pub lesser-second-spec : {M : Type 1} → statement M
 lesser-second-spec =
     tie.close
-    (tie.spec gives-requires retain-requires mark-requires rest-requires same-length returns)
+    (tie.spec gives-requires retain-requires push-without-text-requires rest-requires same-length returns)

@@ -1,0 +1,55 @@
+use native.Mathlib.Omega.{arith}
+use borrow.Author.Needs.{needs}
+use Rattle.emitter.proofs.Adding.{under-more}
+use Rattle.steps.proofs.Siding.{under-part}
+use Rattle.steps.proofs.Stepping.{meets-insert}
+use Rattle.transform_steps.proofs.core.emit_equal.Statement.{statement}
+use Rattle.transform_steps.proofs.core.emit_equal.Tie as tie
+
+push-without-text-requires : tie.Need-push-without-text-requires
+push-without-text-requires c κs =
+    let start = c .before .before .before .before .before .before .before .before .before in
+    (start .pre .0, start .pre .13, start .pre .5, start .pre .6, start .pre .8, start .pre .10, under-more _ _ _ (omega arith) (start .pre .2))
+
+push-without-text-requires-2 : tie.Need-push-without-text-requires-2
+push-without-text-requires-2 c κs =
+    let start = c .before .before .before .before .before .before .before .before .before .before .before .before .before in
+    (start .pre .1, start .pre .14, start .pre .4, start .pre .6, start .pre .7, start .pre .9, under-more _ _ _ (omega arith) (start .pre .3))
+
+retain-requires : tie.Need-retain-requires
+retain-requires c κs =
+    let at-mark = c .before .before .before .before .before .before in
+    let start = at-mark .before .before .before .before .before .before .before .before .before .before in
+    search (under-part, needs, start .pre, at-mark .push-without-text .ensures)
+
+retain-requires-2 : tie.Need-retain-requires-2
+retain-requires-2 c κs =
+    let at-mark2 = c .before .before .before in
+    let start = at-mark2 .before .before .before .before .before .before .before .before .before .before .before .before .before .before in
+    search (under-part, needs, start .pre, at-mark2 .push-without-text2 .ensures)
+
+same-length : tie.Need-same-length
+same-length c = search needs
+
+same-length-2 : tie.Need-same-length-2
+same-length-2 c = search needs
+
+returns : tie.Need-returns
+returns c =
+    let at-retain = c .before in
+    let at-mark2 = at-retain .before .before .before in
+    let at-mark = at-mark2 .before .before .before .before in
+    let start = at-mark .before .before .before .before .before .before .before .before .before .before in
+    meets-insert _ _ _ _ _ _ _ _ (start .pre .4) (start .pre .5) (start .pre .11) (start .pre .12) (start .pre .7) (start .pre .8) _ _ _ (at-mark .push-without-text .ensures) (at-retain .retain .ensures) _ _ _ (at-mark2 .push-without-text2 .ensures) (c .retain2 .ensures)
+
+pub emit-equal-spec : {M : Type 1} → statement M
+emit-equal-spec =
+    tie.close
+    (tie.spec
+    push-without-text-requires
+    push-without-text-requires-2
+    retain-requires
+    retain-requires-2
+    same-length
+    same-length-2
+    returns)
