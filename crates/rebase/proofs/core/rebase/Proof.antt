@@ -150,7 +150,7 @@ replace-edit-requires c κs =
       at-run .run .inv .0 .same-text,
       omega (arith, at-next .next .given, at-end .finish-both, at-loop .loop .inv .1, at-run .run .inv .2, start .pre .5),
       omega (arith, at-side .side .given, at-end .finish-both, at-loop .loop .inv .2, at-run .run .inv .3, start .pre .6),
-      moving-ready _ _ _ _ _ _ _ _ _ (at-run .run .inv .0) (at-if1 .if1 .left) _ (at-sizes .sizes .ensures) _ (at-keep-limits .store-counterpart-limits .ensures) (at-if3 .if3 .left) _ _ _ (at-have-places .have-places .ensures) (at-if4 .if4 .left) _ _ _ d,
+      moving-ready _ _ _ _ _ _ _ _ _ (at-run .run .inv .0) (at-if1 .if1 .left) _ (at-sizes .sizes .ensures) _ (at-keep-limits .keep-limits .ensures) (at-if3 .if3 .left) _ _ _ (at-have-places .have-places .ensures) (at-if4 .if4 .left) _ _ _ d,
       omega (arith, at-run .run .inv .0 .place, start .good),
       moving-small _ _ _ _ _ _ _ _ _ (at-run .run .inv .0) (start .pre .1),
     )
@@ -179,7 +179,7 @@ run-again c =
     let at-loop = at-end .before .before .before .before .before in
     let at-if1 = at-loop .before .before .before .before .before .before .before in
     let at-run = at-if1 .before in (
-      moving-next _ _ _ _ _ _ _ _ _ (at-run .run .inv .0) (at-if1 .if1 .left) (moving-fit _ _ _ _ _ _ _ _ _ (at-run .run .inv .0) (at-if1 .if1 .left) _ (at-sizes .sizes .ensures) _ (at-keep-limits .store-counterpart-limits .ensures) (at-if3 .if3 .left)) (at-run .run .inv .4) _ _ _ (at-go-on .replace-edit .ensures),
+      moving-next _ _ _ _ _ _ _ _ _ (at-run .run .inv .0) (at-if1 .if1 .left) (moving-fit _ _ _ _ _ _ _ _ _ (at-run .run .inv .0) (at-if1 .if1 .left) _ (at-sizes .sizes .ensures) _ (at-keep-limits .keep-limits .ensures) (at-if3 .if3 .left)) (at-run .run .inv .4) _ _ _ (at-go-on .replace-edit .ensures),
       omega (arith, at-run .run .inv .1, at-cur .cur .given, at-go-on .replace-edit),
       omega (arith, at-next .next .given, at-end .finish-both, at-loop .loop .inv .1, at-run .run .inv .2),
       omega (arith, at-side .side .given, at-end .finish-both, at-loop .loop .inv .2, at-run .run .inv .3),
@@ -233,7 +233,7 @@ returns-2 c =
     let at-sizes = at-keep-limits .before in
     let at-if1 = at-sizes .before .before .before .before .before .before .before .before .before .before .before .before .before .before .before .before .before .before in
     let at-run = at-if1 .before in
-    moving-stop _ _ _ _ _ _ _ _ _ (at-run .run .inv .0) (at-if1 .if1 .left) _ (at-sizes .sizes .ensures) _ (at-keep-limits .store-counterpart-limits .ensures) _ _ (c .if3 .taken)
+    moving-stop _ _ _ _ _ _ _ _ _ (at-run .run .inv .0) (at-if1 .if1 .left) _ (at-sizes .sizes .ensures) _ (at-keep-limits .keep-limits .ensures) _ _ (c .if3 .taken)
 
 same-length-9 : tie.Need-same-length-9 Inv-loop μ-loop Inv-run μ-run
 same-length-9 c =
@@ -269,7 +269,7 @@ returns-3 c =
     let at-sizes = at-keep-limits .before in
     let at-if1 = at-sizes .before .before .before .before .before .before .before .before .before .before .before .before .before .before .before .before .before .before in
     let at-run = at-if1 .before in
-    moving-short _ _ _ _ _ _ _ _ _ (at-run .run .inv .0) (at-if1 .if1 .left) _ (at-sizes .sizes .ensures) _ (at-keep-limits .store-counterpart-limits .ensures) (at-if3 .if3 .left) _ _ _ (at-have-places .have-places .ensures) (c .if4 .taken) _ (omega (arith, at-run .run .inv .1))
+    moving-short _ _ _ _ _ _ _ _ _ (at-run .run .inv .0) (at-if1 .if1 .left) _ (at-sizes .sizes .ensures) _ (at-keep-limits .keep-limits .ensures) (at-if3 .if3 .left) _ _ _ (at-have-places .have-places .ensures) (c .if4 .taken) _ (omega (arith, at-run .run .inv .1))
 
 pub rebase-spec : {M : Type 1} → statement M
 rebase-spec =
