@@ -51,7 +51,7 @@ module _ (edit : List ℕ) (b : Bytes edit) (z : recordFault edit ≡ 0) where
       let k : size - 0 ≡ sizeOf edit = omega (arith, ps) in
       let t : take (size - 0) (drop 0 edit) ≡ encode (ops edit) = ap (λ i. take i edit) k ∙ sym (encode-ops edit z b) in
       let l : length (encode (ops edit)) ≡ sizeOf edit = ap length (encode-ops edit z b) ∙ length-take-le (sizeOf edit) edit (h .whole) in
-      subst (Holds (ops edit)) (sym (e ∙ ap (λ u. over 0 u cur) t ∙ over-front (encode (ops edit)) cur (omega (arith, l, h .records, h .text-bytes, room)))) (front-holds (ops edit) cur (ops-good edit z))
+      subst (Holds (ops edit)) (sym (e ∙ ap (λ u. over 0 u cur) t ∙ over-front (encode (ops edit)) cur (omega (arith, l, h .ops, h .text-bytes, room)))) (front-holds (ops edit) cur (ops-good edit z))
 
   -- against the newest revision nothing is passed
   module _ (r : ℕ) (log : List ℕ) (e : r ≡ countOf log) where

@@ -21,7 +21,7 @@ small : (n len : ℕ) (m : List ℕ) → RecordsFollow n len m → sizesIn n m �
 small zero len m h = omega arith
 small (suc n) len m h =
     let f = limits m .0 (faultless m .0 (lie-first (suc n) len m (λ z. absurd (omega (arith, z))) h .0) .in-limits) in
-    omega (arith, f .records, f .text-bytes, small n (targetOf m) (drop (sizeOf m) m) (lie-rest n len m h))
+    omega (arith, f .ops, f .text-bytes, small n (targetOf m) (drop (sizeOf m) m) (lie-rest n len m h))
 
 lie-behind : (r n len : ℕ) (m : List ℕ) → r ≤ n → RecordsFollow n len m → RecordsFollow (n - r) (lengthIn r len m) (drop (sizesIn r m) m)
 lie-behind zero n len m h l = subst (λ k. RecordsFollow k len m) (sym (sub-zero n)) l

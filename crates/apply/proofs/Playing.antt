@@ -23,7 +23,7 @@ use Rattle.edits.specs.Apply.{writes, apply}
 use Rattle.edits.specs.Sequence.{Seq}
 use Rattle.edits.proofs.Theorems.{apply-length}
 use Rattle.record.specs.InnerFront.{opsLeft}
-use Rattle.record.specs.Layout.{recordsOf, kindAt, countAt, textBytesOf, baseOf, textStart}
+use Rattle.record.specs.Layout.{opCountOf, kindAt, countAt, textBytesOf, baseOf, textStart}
 use Rattle.record.specs.Record.{inBytes, inserted, text, ops, recordFault}
 use Rattle.record.proofs.Records.{ops-text, ops-base, ops-good}
 use Rattle.record.proofs.Sequences.{fits-limits}
@@ -70,7 +70,7 @@ module _ (r t : List ℕ) (s : Progress) (g : Stage r t s) (o : Op Char) (to end
       }
 
 -- the record at k, as the code finds it
-module _ (r t : List ℕ) (n : ℕ) (s : Progress) (kind count : ℕ) (g : Stage r t s) (p : n ≡ recordsOf r) (h : s .k < n) (q : kind ≡ kindAt r (s .k)) (c : count ≡ countAt r (s .k)) (small : count < 65536) where
+module _ (r t : List ℕ) (n : ℕ) (s : Progress) (kind count : ℕ) (g : Stage r t s) (p : n ≡ opCountOf r) (h : s .k < n) (q : kind ≡ kindAt r (s .k)) (c : count ≡ countAt r (s .k)) (small : count < 65536) where
   module _ (e : kind ≡ 2) where
     pub insert-room : s .from + count ≤ length r
     insert-room = load-room r n (s .k) (s .from) kind count p (g .place) h q c small e
@@ -156,7 +156,7 @@ played-small r t z w e =
     let s = ops r in
     omega (arith, bytes-most (apply s (chars t)), apply-length s (chars t) (chars-length t w ∙ e ∙ sym (ops-base r z)), fits-limits s .0 (ops-good r z .in-limits))
 
-pub stage-start : (r t : List ℕ) (n from : ℕ) → recordFault r ≡ 0 → T (wellFormed t) → numChars t ≡ baseOf r → n ≡ recordsOf r → from ≡ textStart n
+pub stage-start : (r t : List ℕ) (n from : ℕ) → recordFault r ≡ 0 → T (wellFormed t) → numChars t ≡ baseOf r → n ≡ opCountOf r → from ≡ textStart n
     → Stage r t (record { k = 0; from = from; at = 0; len = 0 })
 stage-start r t n from z w e p q =
     let a = ops-start r n from z p q in
@@ -170,7 +170,7 @@ stage-start r t n from z w e p q =
       left = unfold played in ap (λ q. bytes (apply q (chars t))) (sym a);
     }
 
-pub stage-end : (r t : List ℕ) (n : ℕ) (s : Progress) → n ≡ recordsOf r → Stage r t s → n ≤ s .k → s .len ≡ length (played r t)
+pub stage-end : (r t : List ℕ) (n : ℕ) (s : Progress) → n ≡ opCountOf r → Stage r t s → n ≤ s .k → s .len ≡ length (played r t)
 unfolding bytes
 stage-end r t n s p g h =
     let e : drop (s .len) (played r t) ≡ [] = g .left ∙ ap (λ q. bytes (apply q (chars (drop (s .at) t)))) (begins-none r n (s .k) (s .from) p h) in

@@ -10,7 +10,7 @@ ghost use Rattle.buffers.specs.InnerOver.{over};
 ghost use Rattle.characters.specs.Form.{wellFormed};
 ghost use Rattle.characters.specs.Chars.{numChars};
 ghost use Rattle.characters.specs.InnerPlaces.{Passes};
-ghost use Rattle.record.specs.Layout.{recordsOf, baseOf};
+ghost use Rattle.record.specs.Layout.{opCountOf, baseOf};
 ghost use Rattle.record.specs.Record.{recordFault};
 ghost use Rattle.apply.specs.InnerSteps.{TakesRest, Stage, Steps, played};
 
@@ -54,7 +54,7 @@ fn apply_op(
     chars: usize,
     s: Progress,
 ) -> Progress
-    requires { ⌜ (recordFault (now rec) ≡ 0) × (n ≡ recordsOf (now rec)) × (chars ≡ numChars (now text)) × Stage (now rec) (now text) s × (s .k < n) ⌝ }
+    requires { ⌜ (recordFault (now rec) ≡ 0) × (n ≡ opCountOf (now rec)) × (chars ≡ numChars (now text)) × Stage (now rec) (now text) s × (s .k < n) ⌝ }
     ensures { λ r. ⌜ Steps (now (rec .entry)) (now (text .entry)) s (now (out .entry)) r (now (out .exit)) ⌝ }
 {
     let k = s.k;
@@ -96,7 +96,7 @@ pub fn apply_into(out: &mut [u8], rec: &[u8], text: &[u8]) -> usize
     requires { ⌜ (recordFault (now rec) ≡ 0) × T (wellFormed (now text)) × (numChars (now text) ≡ baseOf (now rec)) ⌝ }
     ensures { λ r. ⌜ (r ≡ length (played (now (rec .entry)) (now (text .entry)))) × (now (out .exit) ≡ over 0 (played (now (rec .entry)) (now (text .entry))) (now (out .entry))) ⌝ }
 {
-    let n = reader::core::records(rec);
+    let n = reader::core::op_count(rec);
     let chars = reader::core::base(rec);
     let from = layout::core::text_start(n);
     let mut s = Progress {

@@ -25,7 +25,7 @@ use Rattle.answers.specs.declared.Fact.the-variants as fact
 use Rattle.answers.specs.Answer.{factOf}
 use Rattle.answers.specs.declared.Refusal.the-variants.{Limit}
 use Rattle.record.specs.Record.{text, ops, recordFault, fits, inBytes, inserted}
-use Rattle.record.specs.Layout.{recordsOf, textBytesOf, textStart}
+use Rattle.record.specs.Layout.{opCountOf, textBytesOf, textStart}
 use Rattle.record.specs.Calls.{checkCall}
 use Rattle.record.proofs.Faults.{limits, faultless}
 use Rattle.record.proofs.Sequences.{fits-limits}
@@ -43,7 +43,7 @@ use Rattle.builders.proofs.Growing.{add-texts}
 
 module _ (f : Emitter) where
   pub closes : {x y z : ℕ} → x ≡ one (f .ins) → y ≡ one (f .del) → z ≡ one (f .ret)
-      → record { ins = 0; del = 0; ret = 0; records = f .records + x + y + z; text = f .text; base = f .base; target = f .target } ≡ closedOf f
+      → record { ins = 0; del = 0; ret = 0; ops = f .ops + x + y + z; text = f .text; base = f .base; target = f .target } ≡ closedOf f
   closes p q r = rw (p, q, r)
 
 -- ---- all that is written
@@ -51,7 +51,7 @@ module _ (f : Emitter) where
 module _ (r : List ℕ) (p : Op Char) (u : List ℕ) (f : Emitter) (a : Grown r p u f) where
   -- the buffer, all but the sizes
   abbrev laidOut : ℕ → List ℕ → List ℕ
-  laidOut n o = flushed n f (over (textStart n + textBytesOf r) u (relocated (recordsOf r) n (f .records) (textBytesOf r) r o))
+  laidOut n o = flushed n f (over (textStart n + textBytesOf r) u (relocated (opCountOf r) n (f .ops) (textBytesOf r) r o))
 
   grown-done : (n : ℕ) (o : List ℕ) → Done n (extend (ops r) p) o (closedOf f) (laidOut n o)
   unfolding extend
@@ -63,13 +63,13 @@ module _ (r : List ℕ) (p : Op Char) (u : List ℕ) (f : Emitter) (a : Grown r 
       record {
         small = omega (arith, flushed-few f, a .under);
         sizes = record {
-          records = sym (group-length f (a .held) (a .done) (a .records) (a .ins)) ∙ ap length (sym (a .is)) ∙ sym (length-reverse acc);
+          ops = sym (group-length f (a .held) (a .done) (a .count-is) (a .ins)) ∙ ap length (sym (a .is)) ∙ sym (length-reverse acc);
           text-bytes = a .texts ∙ ap length (sym t ∙ ap textsOf (sym (a .is)) ∙ sym (text-ahead acc));
           base-is = a .base-is;
           target-is = a .target-is;
         };
         wrote = λ w.
-            lay-group f (a .held) (a .done) (a .records) (a .ins) n (textsOf (a .done) ++ bytes (a .held)) o _ w (a .wrote n o (omega arith))
+            lay-group f (a .held) (a .done) (a .count-is) (a .ins) n (textsOf (a .done) ++ bytes (a .held)) o _ w (a .wrote n o (omega arith))
             ∙ ap (λ t. laid n full t o) (sym t)
             ∙ ap (λ s. laid n s (textsOf s) o) twice;
       }
@@ -78,29 +78,29 @@ module _ (r : List ℕ) (p : Op Char) (u : List ℕ) (f : Emitter) (a : Grown r 
     pub more-refused : (y : Refusal) → v ≡ written.Refused y → Gives (deliver 0 (extend (ops r) p) o) (written.Refused y) o
     more-refused y q = gives-refused (extend (ops r) p) o (closedOf f) o (laidOut 0 o) (grown-done 0 o) v (j ∙ ap (λ h. limitsThenRoom h (length o)) e) y q
 
-    pub text-written : (k m t : ℕ) {o₁ o₂ : List ℕ} → v ≡ written.Bytes k → m ≡ recordsOf r → t ≡ textBytesOf r
-        → o₁ ≡ over (textStart (g .records) + t) u (relocated m (g .records) (f .records) t r o) → o₂ ≡ headed g (flushed (g .records) f o₁)
+    pub text-written : (k m t : ℕ) {o₁ o₂ : List ℕ} → v ≡ written.Bytes k → m ≡ opCountOf r → t ≡ textBytesOf r
+        → o₁ ≡ over (textStart (g .ops) + t) u (relocated m (g .ops) (f .ops) t r o) → o₂ ≡ headed g (flushed (g .ops) f o₁)
         → Gives (deliver 0 (extend (ops r) p) o) (written.Bytes k) o₂
     text-written k m t {o₁} {o₂} q mp tp p₁ p₂ =
-        let n = g .records in
-        let same : o₁ ≡ over (textStart n + textBytesOf r) u (relocated (recordsOf r) n (f .records) (textBytesOf r) r o) = p₁ ∙ (λ i. over (textStart n + tp i) u (relocated (mp i) n (f .records) (tp i) r o)) in
-        let d : Done n (extend (ops r) p) o g (laidOut n o) = rw e (grown-done (closedOf f .records) o) in
+        let n = g .ops in
+        let same : o₁ ≡ over (textStart n + textBytesOf r) u (relocated (opCountOf r) n (f .ops) (textBytesOf r) r o) = p₁ ∙ (λ i. over (textStart n + tp i) u (relocated (mp i) n (f .ops) (tp i) r o)) in
+        let d : Done n (extend (ops r) p) o g (laidOut n o) = rw e (grown-done (closedOf f .ops) o) in
         gives-written (extend (ops r) p) o g o (laidOut n o) d v j k o₂ q (record { emitter = g; before = laidOut n o; done = d; is = p₂ ∙ ap (λ x. headed g (flushed n f x)) same })
 
 -- where no text is put in
 pub more-written : (r : List ℕ) (p : Op Char) (f : Emitter) (a : Grown r p [] f) (g : Emitter) (e : g ≡ closedOf f) (o : List ℕ) (v : Written) → v ≡ limitsThenRoom g (length o)
-    → (k m t : ℕ) {o₁ o₂ : List ℕ} → v ≡ written.Bytes k → m ≡ recordsOf r → t ≡ textBytesOf r
-    → o₁ ≡ relocated m (g .records) (f .records) t r o → o₂ ≡ headed g (flushed (g .records) f o₁)
+    → (k m t : ℕ) {o₁ o₂ : List ℕ} → v ≡ written.Bytes k → m ≡ opCountOf r → t ≡ textBytesOf r
+    → o₁ ≡ relocated m (g .ops) (f .ops) t r o → o₂ ≡ headed g (flushed (g .ops) f o₁)
     → Gives (deliver 0 (extend (ops r) p) o) (written.Bytes k) o₂
 more-written r p f a g e o v j k m t q mp tp p₁ p₂ = text-written r p [] f a g e o v j k m t q mp tp (p₁ ∙ sym (over-nil _ _)) p₂
 
 -- ---- what is needed to write it
 
 -- a checked record has all its text
-pub text-room : (r : List ℕ) (k t : ℕ) → recordFault r ≡ 0 → k ≡ recordsOf r → t ≡ textBytesOf r → textStart k + t ≤ length r
+pub text-room : (r : List ℕ) (k t : ℕ) → recordFault r ≡ 0 → k ≡ opCountOf r → t ≡ textBytesOf r → textStart k + t ≤ length r
 text-room r k t z p q = omega (arith, limits r .0 (faultless r .0 z .in-limits))
 
-pub before-few : (r : List ℕ) (p : Op Char) (u : List ℕ) (f : Emitter) → Grown r p u f → (k : ℕ) → k ≡ recordsOf r → f .records ≤ k
+pub before-few : (r : List ℕ) (p : Op Char) (u : List ℕ) (f : Emitter) → Grown r p u f → (k : ℕ) → k ≡ opCountOf r → f .ops ≤ k
 before-few r p u f a k e = omega (arith, a .few)
 
 -- `settle_with`

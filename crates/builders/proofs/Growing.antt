@@ -19,7 +19,7 @@ use Rattle.edits.specs.Sequence.{Seq}
 use Rattle.edits.specs.Build.{put, add, extend}
 use Rattle.edits.proofs.Building.{Back}
 use Rattle.record.specs.Record.{inBytes, code, recordFault, inserted, text, textOf, ops}
-use Rattle.record.specs.Layout.{kindAt, countAt, recordsOf, textBytesOf, baseOf, targetOf, kindsStart, countsStart, textStart}
+use Rattle.record.specs.Layout.{kindAt, countAt, opCountOf, textBytesOf, baseOf, targetOf, kindsStart, countsStart, textStart}
 use Rattle.record.proofs.Sequences.{inBytes-size}
 use Rattle.record.proofs.Records.{Bytes, ops-base, ops-target}
 use Rattle.record.proofs.Faults.{limits, faultless}
@@ -183,11 +183,11 @@ module _ (r : List ℕ) (b : Bytes r) (z : recordFault r ≡ 0) where
   abbrev back : Seq
   back = reverse (ops r)
 
-  grows : (p : Op Char) (u : List ℕ) (j : ℕ) (done : Seq) (held : List Char) (ins del ret t g h : ℕ) → u ≡ inserted (inBytes p) → j ≤ recordsOf r → At r j done
+  grows : (p : Op Char) (u : List ℕ) (j : ℕ) (done : Seq) (held : List Char) (ins del ret t g h : ℕ) → u ≡ inserted (inBytes p) → j ≤ opCountOf r → At r j done
       → add back p ≡ group held del ret done → length (bytes held) ≡ ins
       → ins ≤ 2 ^ 38 → del ≤ 2 ^ 38 → ret ≤ 2 ^ 38 → t ≤ 2 ^ 38 → g ≤ 2 ^ 38 → h ≤ 2 ^ 38
       → t ≡ textBytesOf r + length u → g ≡ baseOf r + takes p → h ≡ targetOf r + gives p
-      → Grown r p u (record { ins = ins; del = del; ret = ret; records = j; text = t; base = g; target = h })
+      → Grown r p u (record { ins = ins; del = del; ret = ret; ops = j; text = t; base = g; target = h })
   unfolding relocated laid textOf extend
   grows p u j done held ins del ret t g h up jl a is ip il dl rl tl gl hl tp gp hp =
       let l = limits r .0 (faultless r .0 z .in-limits) in
@@ -201,13 +201,13 @@ module _ (r : List ℕ) (b : Bytes r) (z : recordFault r ≡ 0) where
         held = held;
         is = is;
         ins = ip;
-        records = a .long;
+        count-is = a .long;
         text-is = tp;
         texts = omega (arith, m, length-append (textsOf back) u, ap length e);
         base-is = gp ∙ sym (add-base back p ∙ ap (λ s. base s + takes p) (reverse-reverse (ops r)) ∙ ap (λ k. k + takes p) (ops-base r z));
         target-is = hp ∙ sym (add-target back p ∙ ap (λ s. target s + gives p) (reverse-reverse (ops r)) ∙ ap (λ k. k + gives p) (ops-target r z));
         wrote = λ n o few.
-            let s : relocated (recordsOf r) n j (textBytesOf r) r o ≡ laid n done (textsOf back) o =
+            let s : relocated (opCountOf r) n j (textBytesOf r) r o ≡ laid n done (textsOf back) o =
             λ i. over kindsStart (kinds-at r z b j done a i) (over (countsStart n) (counts-at r z b j done a i) (over (textStart n) (text-at r z i) o)) in
             ap (over (textStart n + textBytesOf r) u) s
             ∙ ap (λ k. over (textStart n + k) u (laid n done (textsOf back) o)) (sym m)
@@ -215,9 +215,9 @@ module _ (r : List ℕ) (b : Bytes r) (z : recordFault r ≡ 0) where
             ∙ ap (λ x. laid n done x o) e;
       }
 
-  module _ (k : ℕ) (kp : k ≡ recordsOf r) where
+  module _ (k : ℕ) (kp : k ≡ opCountOf r) where
     pub retains-more : (c ret j t g h : ℕ) → c ≤ 32768 → ret ≡ lastCount r k 1 → ret < 65536 → j + one ret ≡ k → t ≡ textBytesOf r → g ≡ baseOf r → h ≡ targetOf r
-        → Grown r (retain c) [] (record { ins = 0; del = 0; ret = ret + c; records = j; text = t; base = g + c; target = h + c })
+        → Grown r (retain c) [] (record { ins = 0; del = 0; ret = ret + c; ops = j; text = t; base = g + c; target = h + c })
     unfolding inBytes bytes
     retains-more c ret j t g h cl rp rl jp tp gp hp =
         let l = limits r .0 (faultless r .0 z .in-limits) in
@@ -230,7 +230,7 @@ module _ (r : List ℕ) (b : Bytes r) (z : recordFault r ≡ 0) where
         (omega arith) (omega arith) (omega arith)
 
     pub deletes-more : (c del j t g h : ℕ) → c ≤ 32768 → del ≡ lastCount r k 3 → del < 65536 → j + one del ≡ k → t ≡ textBytesOf r → g ≡ baseOf r → h ≡ targetOf r
-        → Grown r (delete c) [] (record { ins = 0; del = del + c; ret = 0; records = j; text = t; base = g + c; target = h })
+        → Grown r (delete c) [] (record { ins = 0; del = del + c; ret = 0; ops = j; text = t; base = g + c; target = h })
     unfolding inBytes bytes
     deletes-more c del j t g h cl dp dl jp tp gp hp =
         let l = limits r .0 (faultless r .0 z .in-limits) in
@@ -245,7 +245,7 @@ module _ (r : List ℕ) (b : Bytes r) (z : recordFault r ≡ 0) where
     pub inserts-more : (u : List ℕ) (num del x ins j t g h : ℕ) → T (wellFormed u) → num ≡ numChars u → length u ≤ 32768
         → del ≡ lastCount r k 3 → del < 65536 → x + one del ≡ k → ins ≡ lastCount r x 2 → ins < 65536 → j + one ins ≡ x
         → t ≡ textBytesOf r → g ≡ baseOf r → h ≡ targetOf r
-        → Grown r (insert (chars u)) u (record { ins = ins + length u; del = del; ret = 0; records = j; text = t + length u; base = g; target = h + num })
+        → Grown r (insert (chars u)) u (record { ins = ins + length u; del = del; ret = 0; ops = j; text = t + length u; base = g; target = h + num })
     unfolding inBytes
     inserts-more u num del x ins j t g h well np ul dp dl xp ip il jp tp gp hp =
         let l = limits r .0 (faultless r .0 z .in-limits) in

@@ -24,7 +24,7 @@ ghost use Rattle.edits.specs.Op.{retain, delete, insert};
 ghost use Rattle.edits.specs.Build.{extend};
 ghost use Rattle.answers.specs.InnerGiven.{Gives};
 ghost use Rattle.answers.specs.Answer.{writtenOf};
-ghost use Rattle.record.specs.Layout.{recordsOf, maxOps, maxSize, textStart};
+ghost use Rattle.record.specs.Layout.{opCountOf, maxOps, maxSize, textStart};
 ghost use Rattle.record.specs.Record.{recordFault, ops};
 ghost use Rattle.operational_transform.specs.Calls.{deliver, retainCall, deleteCall, insertCall};
 ghost use Rattle.emitter.specs.InnerEmit.{one, Under, relocated, flushed, headed};
@@ -34,8 +34,8 @@ ghost use Rattle.builders.specs.InnerExtending.{lastCount, closedOf, Gro
 const LIMIT: u64 = MAX_SIZE as u64;
 
 // The count of the record before record k, where it is of this kind; else 0.
-fn ending(rec: &[u8], records: usize, k: usize, kind: u8) -> usize
-    requires { ⌜ (recordFault (now rec) ≡ 0) × (records ≡ recordsOf (now rec)) × (k ≤ records) ⌝ }
+fn ending(rec: &[u8], ops: usize, k: usize, kind: u8) -> usize
+    requires { ⌜ (recordFault (now rec) ≡ 0) × (ops ≡ opCountOf (now rec)) × (k ≤ ops) ⌝ }
     ensures { λ r. ⌜ (r ≡ lastCount (now (rec .entry)) k kind) × (r < 65536) ⌝ }
 {
     if k == 0 {
@@ -44,7 +44,7 @@ fn ending(rec: &[u8], records: usize, k: usize, kind: u8) -> usize
     if reader::core::kind(rec, k - 1) != kind {
         return 0;
     }
-    reader::core::count(rec, records, k - 1)
+    reader::core::count(rec, ops, k - 1)
 }
 
 // How many records stand before one of this count, which is none where the count is 0.
@@ -70,7 +70,7 @@ fn closed(f: Emitter) -> Emitter
         ins: 0,
         del: 0,
         ret: 0,
-        records: f.records + some(f.ins) + some(f.del) + some(f.ret),
+        ops: f.ops + some(f.ins) + some(f.del) + some(f.ret),
         text: f.text,
         base: f.base,
         target: f.target,
@@ -78,16 +78,16 @@ fn closed(f: Emitter) -> Emitter
 }
 
 // The sequence with k characters more retained: the retain at its end is pending.
-fn retain_more(rec: &[u8], records: usize, k: usize) -> Emitter
-    requires { ⌜ (recordFault (now rec) ≡ 0) × (records ≡ recordsOf (now rec)) × (records ≤ maxOps) × (k ≤ maxSize) ⌝ }
+fn retain_more(rec: &[u8], ops: usize, k: usize) -> Emitter
+    requires { ⌜ (recordFault (now rec) ≡ 0) × (ops ≡ opCountOf (now rec)) × (ops ≤ maxOps) × (k ≤ maxSize) ⌝ }
     ensures { λ r. ⌜ Grown (now (rec .entry)) (retain k) [] r × (r .ins ≡ 0) × (r .del ≡ 0) ⌝ }
 {
-    let ret = ending(rec, records, records, RETAIN);
+    let ret = ending(rec, ops, ops, RETAIN);
     Emitter {
         ins: 0,
         del: 0,
         ret: ret + k,
-        records: before(records, ret),
+        ops: before(ops, ret),
         text: reader::core::text_bytes(rec),
         base: reader::core::base(rec) + k,
         target: reader::core::target(rec) + k,
@@ -95,16 +95,16 @@ fn retain_more(rec: &[u8], records: usize, k: usize) -> Emitter
 }
 
 // With k characters more deleted: the delete at its end is pending.
-fn delete_more(rec: &[u8], records: usize, k: usize) -> Emitter
-    requires { ⌜ (recordFault (now rec) ≡ 0) × (records ≡ recordsOf (now rec)) × (records ≤ maxOps) × (k ≤ maxSize) ⌝ }
+fn delete_more(rec: &[u8], ops: usize, k: usize) -> Emitter
+    requires { ⌜ (recordFault (now rec) ≡ 0) × (ops ≡ opCountOf (now rec)) × (ops ≤ maxOps) × (k ≤ maxSize) ⌝ }
     ensures { λ r. ⌜ Grown (now (rec .entry)) (delete k) [] r × (r .ins ≡ 0) × (r .ret ≡ 0) ⌝ }
 {
-    let del = ending(rec, records, records, DELETE);
+    let del = ending(rec, ops, ops, DELETE);
     Emitter {
         ins: 0,
         del: del + k,
         ret: 0,
-        records: before(records, del),
+        ops: before(ops, del),
         text: reader::core::text_bytes(rec),
         base: reader::core::base(rec) + k,
         target: reader::core::target(rec),
@@ -112,18 +112,18 @@ fn delete_more(rec: &[u8], records: usize, k: usize) -> Emitter
 }
 
 // With the text inserted: a delete at the end and the insert before it are pending. (`text` is what the contract speaks of.)
-fn insert_more(rec: &[u8], records: usize, text: &[u8], num: usize) -> Emitter
-    requires { ⌜ (recordFault (now rec) ≡ 0) × (records ≡ recordsOf (now rec)) × (records ≤ maxOps) × T (wellFormed (now text)) × (num ≡ numChars (now text)) × (length (now text) ≤ maxSize) ⌝ }
+fn insert_more(rec: &[u8], ops: usize, text: &[u8], num: usize) -> Emitter
+    requires { ⌜ (recordFault (now rec) ≡ 0) × (ops ≡ opCountOf (now rec)) × (ops ≤ maxOps) × T (wellFormed (now text)) × (num ≡ numChars (now text)) × (length (now text) ≤ maxSize) ⌝ }
     ensures { λ r. ⌜ Grown (now (rec .entry)) (insert (chars (now (text .entry)))) (now (text .entry)) r × (r .ret ≡ 0) ⌝ }
 {
-    let del = ending(rec, records, records, DELETE);
-    let y = before(records, del);
-    let ins = ending(rec, records, y, INSERT);
+    let del = ending(rec, ops, ops, DELETE);
+    let y = before(ops, del);
+    let ins = ending(rec, ops, y, INSERT);
     Emitter {
         ins: ins + text.len(),
         del,
         ret: 0,
-        records: before(y, ins),
+        ops: before(y, ins),
         text: reader::core::text_bytes(rec) + text.len(),
         base: reader::core::base(rec),
         target: reader::core::target(rec) + num,
@@ -135,15 +135,15 @@ fn settle_with(
     out: &mut [u8],
     n: usize,
     rec: &[u8],
-    records: usize,
+    ops: usize,
     k: usize,
     bytes: usize,
     more: &[u8],
 )
-    requires { ⌜ (n ≤ 2 ^ 40) × (records ≤ 2 ^ 40) × (k ≤ records) × (bytes ≤ 2 ^ 40) × (textStart records + bytes ≤ length (now rec)) ⌝ }
-    ensures { λ _. ⌜ now (out .exit) ≡ over (textStart n + bytes) (now (more .entry)) (relocated records n k bytes (now (rec .entry)) (now (out .entry))) ⌝ }
+    requires { ⌜ (n ≤ 2 ^ 40) × (ops ≤ 2 ^ 40) × (k ≤ ops) × (bytes ≤ 2 ^ 40) × (textStart ops + bytes ≤ length (now rec)) ⌝ }
+    ensures { λ _. ⌜ now (out .exit) ≡ over (textStart n + bytes) (now (more .entry)) (relocated ops n k bytes (now (rec .entry)) (now (out .entry))) ⌝ }
 {
-    emitter::core::relocate(out, n, rec, records, k, bytes);
+    emitter::core::relocate(out, n, rec, ops, k, bytes);
     let at = layout::core::text_start(n) + bytes;
     buffers::core::copy(out, at, more, 0, more.len());
 }
@@ -151,9 +151,9 @@ fn settle_with(
 // The pending group, and the sizes in front.
 fn finish(out: &mut [u8], f: Emitter, g: Emitter)
     requires { ⌜ Under (2 ^ 38) f × Under (2 ^ 40) g ⌝ }
-    ensures { λ _. ⌜ now (out .exit) ≡ headed g (flushed (g .records) f (now (out .entry))) ⌝ }
+    ensures { λ _. ⌜ now (out .exit) ≡ headed g (flushed (g .ops) f (now (out .entry))) ⌝ }
 {
-    emitter::core::flush(out, g.records, f.records, f.ins, f.del, f.ret);
+    emitter::core::flush(out, g.ops, f.ops, f.ins, f.del, f.ret);
     emitter::core::write_header(out, g);
 }
 
@@ -162,14 +162,14 @@ fn retained(rec: &[u8], k: usize, out: &mut [u8]) -> Written
     requires { ⌜ (recordFault (now rec) ≡ 0) × (k ≤ maxSize) ⌝ }
     ensures { λ r. ⌜ Gives (deliver 0 (extend (ops (now (rec .entry))) (retain k)) (now (out .entry))) r (now (out .exit)) ⌝ }
 {
-    let records = reader::core::records(rec);
-    let f = retain_more(rec, records, k);
+    let ops = reader::core::op_count(rec);
+    let f = retain_more(rec, ops, k);
     let g = closed(f);
     match emitter::core::limits_then_room(g, out.len()) {
         Written::Refused(y) => Written::Refused(y),
         Written::Bytes(b) => {
             let bytes = reader::core::text_bytes(rec);
-            emitter::core::relocate(out, g.records, rec, records, f.records, bytes);
+            emitter::core::relocate(out, g.ops, rec, ops, f.ops, bytes);
             finish(out, f, g);
             Written::Bytes(b)
         }
@@ -180,14 +180,14 @@ fn deleted(rec: &[u8], k: usize, out: &mut [u8]) -> Written
     requires { ⌜ (recordFault (now rec) ≡ 0) × (k ≤ maxSize) ⌝ }
     ensures { λ r. ⌜ Gives (deliver 0 (extend (ops (now (rec .entry))) (delete k)) (now (out .entry))) r (now (out .exit)) ⌝ }
 {
-    let records = reader::core::records(rec);
-    let f = delete_more(rec, records, k);
+    let ops = reader::core::op_count(rec);
+    let f = delete_more(rec, ops, k);
     let g = closed(f);
     match emitter::core::limits_then_room(g, out.len()) {
         Written::Refused(y) => Written::Refused(y),
         Written::Bytes(b) => {
             let bytes = reader::core::text_bytes(rec);
-            emitter::core::relocate(out, g.records, rec, records, f.records, bytes);
+            emitter::core::relocate(out, g.ops, rec, ops, f.ops, bytes);
             finish(out, f, g);
             Written::Bytes(b)
         }
@@ -198,15 +198,15 @@ fn inserted(rec: &[u8], text: &[u8], num: usize, out: &mut [u8]) -> Written
     requires { ⌜ (recordFault (now rec) ≡ 0) × T (wellFormed (now text)) × (num ≡ numChars (now text)) × (length (now text) ≤ maxSize) ⌝ }
     ensures { λ r. ⌜ Gives (deliver 0 (extend (ops (now (rec .entry))) (insert (chars (now (text .entry))))) (now (out .entry))) r (now (out .exit)) ⌝ }
 {
-    let records = reader::core::records(rec);
-    let f = insert_more(rec, records, text, num);
+    let ops = reader::core::op_count(rec);
+    let f = insert_more(rec, ops, text, num);
     let g = closed(f);
     let room = out.len();
     match emitter::core::limits_then_room(g, room) {
         Written::Refused(y) => Written::Refused(y),
         Written::Bytes(b) => {
             let bytes = reader::core::text_bytes(rec);
-            settle_with(out, g.records, rec, records, f.records, bytes, text);
+            settle_with(out, g.ops, rec, ops, f.ops, bytes, text);
             finish(out, f, g);
             Written::Bytes(b)
         }

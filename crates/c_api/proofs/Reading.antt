@@ -97,7 +97,7 @@ module _ (r : List ℕ) where
 
   pub check-read : readOne (packed (checkCall r)) ≡ checkCall r
   unfolding checkCall
-  check-read = told (recordFault r) (sizeOf r) (λ z. omega (arith, within z .records, within z .text-bytes))
+  check-read = told (recordFault r) (sizeOf r) (λ z. omega (arith, within z .ops, within z .text-bytes))
 
   pub base-read : readOne (packed (baseCall r)) ≡ baseCall r
   unfolding baseCall

@@ -73,7 +73,7 @@ pub extern "C" fn ot_insert_text(rec: &[u8], k: u64) -> u64
     if size == 0 {
         return 0;
     }
-    let n = reader::core::records(rec);
+    let n = reader::core::op_count(rec);
     let from = operation::core::text_from(rec, n, k as usize);
     from as u64 + 0x1_0000_0000 * (size as u64)
 }

@@ -40,24 +40,24 @@ module _ (n : ℕ) (a b out0 : List ℕ) (za : recordFault a ≡ 0) (zb : record
   meets : target (ops a) ≡ base (ops b)
   meets = ops-target a za ∙ h ∙ sym (ops-base b zb)
 
-  done-between : (e : Emitter) (o : List ℕ) → Done n (compose (ops a) (ops b)) out0 e o → Done n (compose (ops a) (ops b)) out0 (between a b (record { records = e .records; text = e .text })) o
+  done-between : (e : Emitter) (o : List ℕ) → Done n (compose (ops a) (ops b)) out0 e o → Done n (compose (ops a) (ops b)) out0 (between a b (record { ops = e .ops; text = e .text })) o
   done-between e o d =
       let p : base (compose (ops a) (ops b)) ≡ baseOf a = compose-base (ops a) (ops b) meets ∙ ops-base a za in
       let q : target (compose (ops a) (ops b)) ≡ targetOf b = compose-target (ops a) (ops b) meets ∙ ops-target b zb in
       record {
-        small = record { ins = omega arith; del = omega arith; ret = omega arith; records = d .small .records; text = d .small .text; base = omega (arith, p, d .sizes .base-is, d .small .base); target = omega (arith, q, d .sizes .target-is, d .small .target) };
-        sizes = record { records = d .sizes .records; text-bytes = d .sizes .text-bytes; base-is = sym p; target-is = sym q };
+        small = record { ins = omega arith; del = omega arith; ret = omega arith; ops = d .small .ops; text = d .small .text; base = omega (arith, p, d .sizes .base-is, d .small .base); target = omega (arith, q, d .sizes .target-is, d .small .target) };
+        sizes = record { ops = d .sizes .ops; text-bytes = d .sizes .text-bytes; base-is = sym p; target-is = sym q };
         wrote = d .wrote;
       }
 
   pub going-done : (s : State) (o : List ℕ) (v : Bool) (e : Emitter) (o′ : List ℕ) → Going composeTurn made n a b out0 s o → v ≡ liveIs (s .x) (s .y) → v ≡ false → Finishes n (s .e) o e o′
-      → Done n (compose (ops a) (ops b)) out0 (between a b (record { records = e .records; text = e .text })) o′
+      → Done n (compose (ops a) (ops b)) out0 (between a b (record { ops = e .ops; text = e .text })) o′
   going-done s o v e o′ g w l f =
       done-between e o′ (rw (compose-runs (ops a) (ops b), ← going-all composeTurn made n a b out0 s o g (sym w ∙ l)) (f .done out0 (g .acc) (g .rep)))
 
 -- all sizes, as they were found
 module _ (a b : List ℕ) (z : Sizes) where
-  pub sized-is : (p q : ℕ) → p ≡ baseOf a → q ≡ targetOf b → _≡_ {A = Emitter} (record { ins = 0; del = 0; ret = 0; records = z .records; text = z .text; base = p; target = q }) (between a b z)
+  pub sized-is : (p q : ℕ) → p ≡ baseOf a → q ≡ targetOf b → _≡_ {A = Emitter} (record { ins = 0; del = 0; ret = 0; ops = z .ops; text = z .text; base = p; target = q }) (between a b z)
   sized-is p q e f = rw (e, f)
 
   module _ (n : ℕ) (s : Seq) (o o′ : List ℕ) (e : Emitter) (d : Done n s o (between a b z) o′) (p : e ≡ between a b z) where
@@ -95,7 +95,7 @@ module _ (a b o : List ℕ) (za : recordFault a ≡ 0) (zb : recordFault b ≡ 0
   pub composes-refused : (x : Refusal) → v ≡ written.Refused x → Gives (composeCall a b o) (written.Refused x) o
   composes-refused x z = passes (written.Refused x) o (gives-refused (compose (ops a) (ops b)) o e m q d v j x z)
 
-  pub composes-written : (k : ℕ) (o′ : List ℕ) → v ≡ written.Bytes k → Writes (e .records) (compose (ops a) (ops b)) o o′ → Gives (composeCall a b o) (written.Bytes k) o′
+  pub composes-written : (k : ℕ) (o′ : List ℕ) → v ≡ written.Bytes k → Writes (e .ops) (compose (ops a) (ops b)) o o′ → Gives (composeCall a b o) (written.Bytes k) o′
   composes-written k o′ z u = passes (written.Bytes k) o′ (gives-written (compose (ops a) (ops b)) o e m q d v j k o′ z u)
 
 module _ (a b o : List ℕ) (f : Fact) where

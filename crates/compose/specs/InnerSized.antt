@@ -7,4 +7,4 @@ use Rattle.compose.specs.declared.core.Sizes.{Sizes}
 
 -- the sizes of a result from the base of `a` to the target of `b`
 abbrev pub between : List ℕ → List ℕ → Sizes → Emitter
-between a b z = record { ins = 0; del = 0; ret = 0; records = z .records; text = z .text; base = baseOf a; target = targetOf b }
+between a b z = record { ins = 0; del = 0; ret = 0; ops = z .ops; text = z .text; base = baseOf a; target = targetOf b }

@@ -7,7 +7,7 @@ ghost use mathlib.Core.Path.{_≡_};
 ghost use Prim.Native.Nat.{_^_, _≤_};
 ghost use Rattle.edits.specs.Compose.{compose as composeOf};
 ghost use Rattle.answers.specs.InnerGiven.{Gives};
-ghost use Rattle.record.specs.Layout.{recordsOf, baseOf, targetOf, maxOps};
+ghost use Rattle.record.specs.Layout.{opCountOf, baseOf, targetOf, maxOps};
 ghost use Rattle.record.specs.Record.{ops, recordFault};
 ghost use Rattle.operational_transform.specs.Calls.{composeCall};
 ghost use Rattle.emitter.specs.InnerEmit.{Done, Writes, Under, Staged};
@@ -25,13 +25,13 @@ const LARGE_STAGE: usize = 8192;
 
 // How many records and bytes of text a result has. Its base is the first's and its target the second's: no sum of them is kept.
 pub struct Sizes {
-    pub records: usize,
+    pub ops: usize,
     pub text: usize,
 }
 
 // All of compose, for a result of n records.
 fn compose_into(a: &[u8], na: usize, b: &[u8], nb: usize, out: &mut [u8], n: usize) -> Sizes
-    requires { ⌜ (na ≡ recordsOf (now a)) × (na ≤ maxOps) × (nb ≡ recordsOf (now b)) × (nb ≤ maxOps) × (n ≤ 2 ^ 40) × (recordFault (now a) ≡ 0) × (recordFault (now b) ≡ 0) × (targetOf (now a) ≡ baseOf (now b)) ⌝ }
+    requires { ⌜ (na ≡ opCountOf (now a)) × (na ≤ maxOps) × (nb ≡ opCountOf (now b)) × (nb ≤ maxOps) × (n ≤ 2 ^ 40) × (recordFault (now a) ≡ 0) × (recordFault (now b) ≡ 0) × (targetOf (now a) ≡ baseOf (now b)) ⌝ }
     ensures { λ r. ⌜ Done n (composeOf (ops (now (a .entry))) (ops (now (b .entry)))) (now (out .entry)) (between (now (a .entry)) (now (b .entry)) r) (now (out .exit)) ⌝ }
 {
     let mut s = steps::core::begin(a, na, b, nb);
@@ -41,7 +41,7 @@ fn compose_into(a: &[u8], na: usize, b: &[u8], nb: usize, out: &mut [u8], n: usi
     let last = s.e;
     let e = emitter::core::finish(out, n, last);
     Sizes {
-        records: e.records,
+        ops: e.ops,
         text: e.text,
     }
 }
@@ -55,7 +55,7 @@ fn sized(a: &[u8], b: &[u8], z: Sizes) -> Emitter
         ins: 0,
         del: 0,
         ret: 0,
-        records: z.records,
+        ops: z.ops,
         text: z.text,
         base: reader::core::base(a),
         target: reader::core::target(b),
@@ -64,7 +64,7 @@ fn sized(a: &[u8], b: &[u8], z: Sizes) -> Emitter
 
 // The record of a result of n records.
 fn write(a: &[u8], na: usize, b: &[u8], nb: usize, out: &mut [u8], n: usize)
-    requires { ⌜ (na ≡ recordsOf (now a)) × (na ≤ maxOps) × (nb ≡ recordsOf (now b)) × (nb ≤ maxOps) × (n ≤ 2 ^ 40) × (recordFault (now a) ≡ 0) × (recordFault (now b) ≡ 0) × (targetOf (now a) ≡ baseOf (now b)) ⌝ }
+    requires { ⌜ (na ≡ opCountOf (now a)) × (na ≤ maxOps) × (nb ≡ opCountOf (now b)) × (nb ≤ maxOps) × (n ≤ 2 ^ 40) × (recordFault (now a) ≡ 0) × (recordFault (now b) ≡ 0) × (targetOf (now a) ≡ baseOf (now b)) ⌝ }
     ensures { λ _. ⌜ Writes n (composeOf (ops (now (a .entry))) (ops (now (b .entry)))) (now (out .entry)) (now (out .exit)) ⌝ }
 {
     let z = compose_into(a, na, b, nb, out, n);
@@ -83,14 +83,14 @@ fn place(
     e: Emitter,
     out: &mut [u8],
 )
-    requires { ⌜ (na ≡ recordsOf (now a)) × (na ≤ maxOps) × (nb ≡ recordsOf (now b)) × (nb ≤ maxOps) × (recordFault (now a) ≡ 0) × (recordFault (now b) ≡ 0) × (slots ≤ 2048) × (targetOf (now a) ≡ baseOf (now b)) × Under (2 ^ 40) e × Staged slots (composeOf (ops (now a)) (ops (now b))) e (now stage) ⌝ }
-    ensures { λ _. ⌜ Writes (e .records) (composeOf (ops (now (a .entry))) (ops (now (b .entry)))) (now (out .entry)) (now (out .exit)) ⌝ }
+    requires { ⌜ (na ≡ opCountOf (now a)) × (na ≤ maxOps) × (nb ≡ opCountOf (now b)) × (nb ≤ maxOps) × (recordFault (now a) ≡ 0) × (recordFault (now b) ≡ 0) × (slots ≤ 2048) × (targetOf (now a) ≡ baseOf (now b)) × Under (2 ^ 40) e × Staged slots (composeOf (ops (now a)) (ops (now b))) e (now stage) ⌝ }
+    ensures { λ _. ⌜ Writes (e .ops) (composeOf (ops (now (a .entry))) (ops (now (b .entry)))) (now (out .entry)) (now (out .exit)) ⌝ }
 {
     if !emitter::core::fits_stage(e, slots, stage.len()) {
-        write(a, na, b, nb, out, e.records);
+        write(a, na, b, nb, out, e.ops);
         return;
     }
-    emitter::core::relocate(out, e.records, stage, slots, e.records, e.text);
+    emitter::core::relocate(out, e.ops, stage, slots, e.ops, e.text);
     emitter::core::write_header(out, e);
 }
 
@@ -104,7 +104,7 @@ fn staged(
     slots: usize,
     out: &mut [u8],
 ) -> Written
-    requires { ⌜ (na ≡ recordsOf (now a)) × (na ≤ maxOps) × (nb ≡ recordsOf (now b)) × (nb ≤ maxOps) × (recordFault (now a) ≡ 0) × (recordFault (now b) ≡ 0) × (slots ≤ 2048) × (targetOf (now a) ≡ baseOf (now b)) ⌝ }
+    requires { ⌜ (na ≡ opCountOf (now a)) × (na ≤ maxOps) × (nb ≡ opCountOf (now b)) × (nb ≤ maxOps) × (recordFault (now a) ≡ 0) × (recordFault (now b) ≡ 0) × (slots ≤ 2048) × (targetOf (now a) ≡ baseOf (now b)) ⌝ }
     ensures { λ r. ⌜ Gives (composeCall (now (a .entry)) (now (b .entry)) (now (out .entry))) r (now (out .exit)) ⌝ }
 {
     // made anew, since a slice that is handed on as it came is copied, and the copy waits for its bytes
@@ -122,7 +122,7 @@ fn staged(
 // With stages of several lengths: what is cleared is paid for. (The answer is taken apart because one that is handed on whole is
 // copied, and the copy waits for the bytes.)
 fn in_small_stage(a: &[u8], na: usize, b: &[u8], nb: usize, out: &mut [u8]) -> Written
-    requires { ⌜ (na ≡ recordsOf (now a)) × (na ≤ maxOps) × (nb ≡ recordsOf (now b)) × (nb ≤ maxOps) × (recordFault (now a) ≡ 0) × (recordFault (now b) ≡ 0) × (targetOf (now a) ≡ baseOf (now b)) ⌝ }
+    requires { ⌜ (na ≡ opCountOf (now a)) × (na ≤ maxOps) × (nb ≡ opCountOf (now b)) × (nb ≤ maxOps) × (recordFault (now a) ≡ 0) × (recordFault (now b) ≡ 0) × (targetOf (now a) ≡ baseOf (now b)) ⌝ }
     ensures { λ r. ⌜ Gives (composeCall (now (a .entry)) (now (b .entry)) (now (out .entry))) r (now (out .exit)) ⌝ }
 {
     let mut stage = [0u8; SMALL_STAGE];
@@ -133,7 +133,7 @@ fn in_small_stage(a: &[u8], na: usize, b: &[u8], nb: usize, out: &mut [u8]) -> W
 }
 
 fn in_medium_stage(a: &[u8], na: usize, b: &[u8], nb: usize, out: &mut [u8]) -> Written
-    requires { ⌜ (na ≡ recordsOf (now a)) × (na ≤ maxOps) × (nb ≡ recordsOf (now b)) × (nb ≤ maxOps) × (recordFault (now a) ≡ 0) × (recordFault (now b) ≡ 0) × (targetOf (now a) ≡ baseOf (now b)) ⌝ }
+    requires { ⌜ (na ≡ opCountOf (now a)) × (na ≤ maxOps) × (nb ≡ opCountOf (now b)) × (nb ≤ maxOps) × (recordFault (now a) ≡ 0) × (recordFault (now b) ≡ 0) × (targetOf (now a) ≡ baseOf (now b)) ⌝ }
     ensures { λ r. ⌜ Gives (composeCall (now (a .entry)) (now (b .entry)) (now (out .entry))) r (now (out .exit)) ⌝ }
 {
     let mut stage = [0u8; MEDIUM_STAGE];
@@ -144,7 +144,7 @@ fn in_medium_stage(a: &[u8], na: usize, b: &[u8], nb: usize, out: &mut [u8]) -> 
 }
 
 fn in_large_stage(a: &[u8], na: usize, b: &[u8], nb: usize, slots: usize, out: &mut [u8]) -> Written
-    requires { ⌜ (na ≡ recordsOf (now a)) × (na ≤ maxOps) × (nb ≡ recordsOf (now b)) × (nb ≤ maxOps) × (recordFault (now a) ≡ 0) × (recordFault (now b) ≡ 0) × (slots ≤ 2048) × (targetOf (now a) ≡ baseOf (now b)) ⌝ }
+    requires { ⌜ (na ≡ opCountOf (now a)) × (na ≤ maxOps) × (nb ≡ opCountOf (now b)) × (nb ≤ maxOps) × (recordFault (now a) ≡ 0) × (recordFault (now b) ≡ 0) × (slots ≤ 2048) × (targetOf (now a) ≡ baseOf (now b)) ⌝ }
     ensures { λ r. ⌜ Gives (composeCall (now (a .entry)) (now (b .entry)) (now (out .entry))) r (now (out .exit)) ⌝ }
 {
     let mut stage = [0u8; LARGE_STAGE];
@@ -161,8 +161,8 @@ pub fn composed(a: &[u8], b: &[u8], out: &mut [u8]) -> Written
     if target != base {
         return Written::Refused(Refusal::IncompatibleLengths);
     }
-    let na = reader::core::records(a);
-    let nb = reader::core::records(b);
+    let na = reader::core::op_count(a);
+    let nb = reader::core::op_count(b);
     // a result of more than 1,024 is refused
     if MAX_OPS < na + nb {
         return in_large_stage(a, na, b, nb, MAX_OPS, out);

@@ -12,7 +12,7 @@ ghost use mathlib.Core.List.{[], _∷_};
 ghost use mathlib.Core.Bool.{true};
 ghost use Rattle.edits.specs.Compose.{composeTurn, made};
 ghost use Rattle.edits.specs.Op.{cut};
-ghost use Rattle.record.specs.Layout.{recordsOf};
+ghost use Rattle.record.specs.Layout.{opCountOf};
 ghost use Rattle.record.specs.InnerFront.{Stands, frontOp, Cut};
 ghost use Rattle.emitter.specs.InnerEmit.{Under, Adds};
 ghost use Rattle.steps.specs.declared.core.Turn.the-variants.{First, Second, Together};
@@ -20,7 +20,7 @@ ghost use Rattle.steps.specs.InnerSteps.{Chooses, Went, liveIs};
 
 // A delete of the first goes before all else.
 fn delete_first(a: &[u8], na: usize, b: &[u8], out: &mut [u8], n: usize, s: State) -> State
-    requires { ⌜ (na ≡ recordsOf (now a)) × (n ≤ 2 ^ 40) × Under (2 ^ 38) (s .e) × Stands (now a) (s .x) × Stands (now b) (s .y) × Chooses composeTurn (now a) (now b) (s .x) (s .y) First ⌝ }
+    requires { ⌜ (na ≡ opCountOf (now a)) × (n ≤ 2 ^ 40) × Under (2 ^ 38) (s .e) × Stands (now a) (s .x) × Stands (now b) (s .y) × Chooses composeTurn (now a) (now b) (s .x) (s .y) First ⌝ }
     ensures { λ r. ⌜ Went composeTurn made n (now (a .entry)) (now (b .entry)) s (now (out .entry)) r (now (out .exit)) ⌝ }
 {
     let x = s.x;
@@ -72,7 +72,7 @@ fn text_of_first(
 
 // An insert of the second.
 fn insert_second(a: &[u8], b: &[u8], nb: usize, out: &mut [u8], n: usize, s: State) -> State
-    requires { ⌜ (nb ≡ recordsOf (now b)) × (n ≤ 2 ^ 40) × Under (2 ^ 38) (s .e) × Stands (now a) (s .x) × Stands (now b) (s .y) × Chooses composeTurn (now a) (now b) (s .x) (s .y) Second × (s .y .kind ≡ 2) ⌝ }
+    requires { ⌜ (nb ≡ opCountOf (now b)) × (n ≤ 2 ^ 40) × Under (2 ^ 38) (s .e) × Stands (now a) (s .x) × Stands (now b) (s .y) × Chooses composeTurn (now a) (now b) (s .x) (s .y) Second × (s .y .kind ≡ 2) ⌝ }
     ensures { λ r. ⌜ Went composeTurn made n (now (a .entry)) (now (b .entry)) s (now (out .entry)) r (now (out .exit)) ⌝ }
 {
     let x = s.x;
@@ -87,7 +87,7 @@ fn insert_second(a: &[u8], b: &[u8], nb: usize, out: &mut [u8], n: usize, s: Sta
 
 // What is left of the second, where the first has ended.
 fn only_second(a: &[u8], b: &[u8], nb: usize, out: &mut [u8], n: usize, s: State) -> State
-    requires { ⌜ (nb ≡ recordsOf (now b)) × (n ≤ 2 ^ 40) × Under (2 ^ 38) (s .e) × Stands (now a) (s .x) × Stands (now b) (s .y) × Chooses composeTurn (now a) (now b) (s .x) (s .y) Second ⌝ }
+    requires { ⌜ (nb ≡ opCountOf (now b)) × (n ≤ 2 ^ 40) × Under (2 ^ 38) (s .e) × Stands (now a) (s .x) × Stands (now b) (s .y) × Chooses composeTurn (now a) (now b) (s .x) (s .y) Second ⌝ }
     ensures { λ r. ⌜ Went composeTurn made n (now (a .entry)) (now (b .entry)) s (now (out .entry)) r (now (out .exit)) ⌝ }
 {
     let x = s.x;
@@ -102,7 +102,7 @@ fn only_second(a: &[u8], b: &[u8], nb: usize, out: &mut [u8], n: usize, s: State
 
 // What is left of the first, where the second has ended.
 fn only_first(a: &[u8], na: usize, b: &[u8], out: &mut [u8], n: usize, s: State) -> State
-    requires { ⌜ (na ≡ recordsOf (now a)) × (n ≤ 2 ^ 40) × Under (2 ^ 38) (s .e) × Stands (now a) (s .x) × Stands (now b) (s .y) × Chooses composeTurn (now a) (now b) (s .x) (s .y) First ⌝ }
+    requires { ⌜ (na ≡ opCountOf (now a)) × (n ≤ 2 ^ 40) × Under (2 ^ 38) (s .e) × Stands (now a) (s .x) × Stands (now b) (s .y) × Chooses composeTurn (now a) (now b) (s .x) (s .y) First ⌝ }
     ensures { λ r. ⌜ Went composeTurn made n (now (a .entry)) (now (b .entry)) s (now (out .entry)) r (now (out .exit)) ⌝ }
 {
     let x = s.x;
@@ -117,7 +117,7 @@ fn only_first(a: &[u8], na: usize, b: &[u8], out: &mut [u8], n: usize, s: State)
 
 // As many characters of both: what the first retains, the second retains or deletes.
 fn retained(a: &[u8], na: usize, b: &[u8], nb: usize, out: &mut [u8], n: usize, s: State) -> State
-    requires { ⌜ (na ≡ recordsOf (now a)) × (nb ≡ recordsOf (now b)) × (n ≤ 2 ^ 40) × Under (2 ^ 38) (s .e) × Stands (now a) (s .x) × Stands (now b) (s .y) × Chooses composeTurn (now a) (now b) (s .x) (s .y) Together × (s .x .kind ≡ 1) ⌝ }
+    requires { ⌜ (na ≡ opCountOf (now a)) × (nb ≡ opCountOf (now b)) × (n ≤ 2 ^ 40) × Under (2 ^ 38) (s .e) × Stands (now a) (s .x) × Stands (now b) (s .y) × Chooses composeTurn (now a) (now b) (s .x) (s .y) Together × (s .x .kind ≡ 1) ⌝ }
     ensures { λ r. ⌜ Went composeTurn made n (now (a .entry)) (now (b .entry)) s (now (out .entry)) r (now (out .exit)) ⌝ }
 {
     let x = s.x;
@@ -142,7 +142,7 @@ fn insert_retain(
     n: usize,
     s: State,
 ) -> State
-    requires { ⌜ (na ≡ recordsOf (now a)) × (nb ≡ recordsOf (now b)) × (n ≤ 2 ^ 40) × Under (2 ^ 38) (s .e) × Stands (now a) (s .x) × Stands (now b) (s .y) × Chooses composeTurn (now a) (now b) (s .x) (s .y) Together × (s .x .kind ≡ 2) × (s .y .kind ≡ 1) ⌝ }
+    requires { ⌜ (na ≡ opCountOf (now a)) × (nb ≡ opCountOf (now b)) × (n ≤ 2 ^ 40) × Under (2 ^ 38) (s .e) × Stands (now a) (s .x) × Stands (now b) (s .y) × Chooses composeTurn (now a) (now b) (s .x) (s .y) Together × (s .x .kind ≡ 2) × (s .y .kind ≡ 1) ⌝ }
     ensures { λ r. ⌜ Went composeTurn made n (now (a .entry)) (now (b .entry)) s (now (out .entry)) r (now (out .exit)) ⌝ }
 {
     let x = s.x;
@@ -166,7 +166,7 @@ fn insert_delete(
     n: usize,
     s: State,
 ) -> State
-    requires { ⌜ (na ≡ recordsOf (now a)) × (nb ≡ recordsOf (now b)) × (n ≤ 2 ^ 40) × Under (2 ^ 38) (s .e) × Stands (now a) (s .x) × Stands (now b) (s .y) × Chooses composeTurn (now a) (now b) (s .x) (s .y) Together × (s .x .kind ≡ 2) × (s .y .kind ≡ 3) ⌝ }
+    requires { ⌜ (na ≡ opCountOf (now a)) × (nb ≡ opCountOf (now b)) × (n ≤ 2 ^ 40) × Under (2 ^ 38) (s .e) × Stands (now a) (s .x) × Stands (now b) (s .y) × Chooses composeTurn (now a) (now b) (s .x) (s .y) Together × (s .x .kind ≡ 2) × (s .y .kind ≡ 3) ⌝ }
     ensures { λ r. ⌜ Went composeTurn made n (now (a .entry)) (now (b .entry)) s (now (out .entry)) r (now (out .exit)) ⌝ }
 {
     let x = s.x;
@@ -181,7 +181,7 @@ fn insert_delete(
 }
 
 fn step_both(a: &[u8], na: usize, b: &[u8], nb: usize, out: &mut [u8], n: usize, s: State) -> State
-    requires { ⌜ (na ≡ recordsOf (now a)) × (nb ≡ recordsOf (now b)) × (n ≤ 2 ^ 40) × Under (2 ^ 38) (s .e) × Stands (now a) (s .x) × Stands (now b) (s .y) × Chooses composeTurn (now a) (now b) (s .x) (s .y) Together ⌝ }
+    requires { ⌜ (na ≡ opCountOf (now a)) × (nb ≡ opCountOf (now b)) × (n ≤ 2 ^ 40) × Under (2 ^ 38) (s .e) × Stands (now a) (s .x) × Stands (now b) (s .y) × Chooses composeTurn (now a) (now b) (s .x) (s .y) Together ⌝ }
     ensures { λ r. ⌜ Went composeTurn made n (now (a .entry)) (now (b .entry)) s (now (out .entry)) r (now (out .exit)) ⌝ }
 {
     let x = s.x;
@@ -197,7 +197,7 @@ fn step_both(a: &[u8], na: usize, b: &[u8], nb: usize, out: &mut [u8], n: usize,
 
 // One step. A delete of the first goes before an insert of the second.
 pub fn step(a: &[u8], na: usize, b: &[u8], nb: usize, out: &mut [u8], n: usize, s: State) -> State
-    requires { ⌜ (na ≡ recordsOf (now a)) × (nb ≡ recordsOf (now b)) × (n ≤ 2 ^ 40) × Under (2 ^ 38) (s .e) × Stands (now a) (s .x) × Stands (now b) (s .y) × (liveIs (s .x) (s .y) ≡ true) ⌝ }
+    requires { ⌜ (na ≡ opCountOf (now a)) × (nb ≡ opCountOf (now b)) × (n ≤ 2 ^ 40) × Under (2 ^ 38) (s .e) × Stands (now a) (s .x) × Stands (now b) (s .y) × (liveIs (s .x) (s .y) ≡ true) ⌝ }
     ensures { λ r. ⌜ Went composeTurn made n (now (a .entry)) (now (b .entry)) s (now (out .entry)) r (now (out .exit)) ⌝ }
 {
     let x = s.x;

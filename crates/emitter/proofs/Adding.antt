@@ -25,7 +25,7 @@ use Rattle.record.specs.Record.{inBytes, inserted}
 use Rattle.record.specs.declared.core.Front.{Front}
 use Rattle.record.specs.InnerFront.{frontText, frontOp, Stands, Cut}
 use Rattle.reader.proofs.Fronts.{op-retain, op-insert, op-delete, Kinds, retains, inserts, deletes, kinds}
-use Rattle.emitter.specs.InnerEmit.{nothing, textsOf, laid, first, Rep, Under, Adds, group, Fresh, later-insert, later-delete, flushedRecords, flushed, opens, flushedIfClosed, deletedBy, insertedBy, Retains}
+use Rattle.emitter.specs.InnerEmit.{nothing, textsOf, laid, first, Rep, Under, Adds, group, Fresh, later-insert, later-delete, flushedOps, flushed, opens, flushedIfClosed, deletedBy, insertedBy, Retains}
 use Rattle.emitter.specs.declared.core.Emitter.{Emitter}
 use Rattle.emitter.proofs.Growing.{total-reverse}
 use Rattle.emitter.proofs.Loops.{add-base, add-target}
@@ -41,7 +41,7 @@ rep-start n out = record {
   fresh = first;
   is = refl;
   ins = refl;
-  records = refl;
+  ops = refl;
   text = refl;
   base-is = refl;
   target-is = refl;
@@ -152,7 +152,7 @@ unfolding add addAll
 adds-none n p e o z = record { keeps = λ out acc h. rw z h; under = λ m u. omega arith }
 
 pub adds-retain : (n k : ℕ) (e : Emitter) (o : List ℕ) → k ≤ 65536
-    → Adds n (retain k ∷ []) e o (record { ins = e .ins; del = e .del; ret = e .ret + k; records = e .records; text = e .text; base = e .base + k; target = e .target + k }) o
+    → Adds n (retain k ∷ []) e o (record { ins = e .ins; del = e .del; ret = e .ret + k; ops = e .ops; text = e .text; base = e .base + k; target = e .target + k }) o
 unfolding addAll
 adds-retain n k e o kl = record {
   keeps = λ out acc h. record {
@@ -161,7 +161,7 @@ adds-retain n k e o kl = record {
     fresh = h .fresh;
     is = ap (λ s. add s (retain k)) (h .is) ∙ group-retain (h .fresh) k (e .ret);
     ins = h .ins;
-    records = h .records;
+    ops = h .ops;
     text = h .text;
     base-is = omega (arith, base-add acc (retain k), h .base-is);
     target-is = omega (arith, target-add acc (retain k), h .target-is);
@@ -174,7 +174,7 @@ pub adds-delete-none : (n k : ℕ) (e : Emitter) (o : List ℕ) → k ≡ 0 → 
 adds-delete-none n k e o z = adds-none n (delete k) e o z
 
 adds-delete : (n k : ℕ) (e : Emitter) (o : List ℕ) → k ≤ 65536 → e .ret ≤ 0
-    → Adds n (delete k ∷ []) e o (record { ins = e .ins; del = e .del + k; ret = e .ret; records = e .records; text = e .text; base = e .base + k; target = e .target }) o
+    → Adds n (delete k ∷ []) e o (record { ins = e .ins; del = e .del + k; ret = e .ret; ops = e .ops; text = e .text; base = e .base + k; target = e .target }) o
 unfolding addAll
 adds-delete n k e o kl z =
     let z₀ : e .ret ≡ 0 = omega arith in
@@ -185,7 +185,7 @@ adds-delete n k e o kl z =
         fresh = fresh-delete (h .fresh) k;
         is = ap (λ s. add s (delete k)) (rw z₀ at (h .is)) ∙ rw z₀ (group-delete (h .fresh) k);
         ins = h .ins;
-        records = h .records;
+        ops = h .ops;
         text = h .text;
         base-is = omega (arith, base-add acc (delete k), h .base-is);
         target-is = omega (arith, target-add acc (delete k), h .target-is);
@@ -199,19 +199,19 @@ module _ {n : ℕ} {out : List ℕ} {acc : Seq} {e : Emitter} {o : List ℕ} (h 
   abbrev pub full : Seq
   full = group (h .held) (e .del) (e .ret) (h .done)
 
-  pub full-length : length full ≡ flushedRecords e
-  full-length = group-length e (h .held) (h .done) (h .records) (h .ins)
+  pub full-length : length full ≡ flushedOps e
+  full-length = group-length e (h .held) (h .done) (h .ops) (h .ins)
 
   pub full-text : textsOf full ≡ textsOf (h .done) ++ bytes (h .held)
   full-text = group-text (h .held) (e .del) (e .ret) (h .done)
 
-  pub full-wrote : flushedRecords e ≤ n → flushed n e o ≡ laid n full (textsOf full) out
+  pub full-wrote : flushedOps e ≤ n → flushed n e o ≡ laid n full (textsOf full) out
   full-wrote r =
-      lay-group e (h .held) (h .done) (h .records) (h .ins) n (textsOf (h .done) ++ bytes (h .held)) out o r (h .wrote (omega arith))
+      lay-group e (h .held) (h .done) (h .ops) (h .ins) n (textsOf (h .done) ++ bytes (h .held)) out o r (h .wrote (omega arith))
       ∙ ap (λ t. laid n full t out) (sym full-text)
 
 adds-delete-new : (n k : ℕ) (e : Emitter) (o : List ℕ) → k ≤ 65536 → (k ≡ 0 → ⊥) → 0 < e .ret
-    → Adds n (delete k ∷ []) e o (record { ins = 0; del = k; ret = 0; records = flushedRecords e; text = e .text; base = e .base + k; target = e .target }) (flushed n e o)
+    → Adds n (delete k ∷ []) e o (record { ins = 0; del = k; ret = 0; ops = flushedOps e; text = e .text; base = e .base + k; target = e .target }) (flushed n e o)
 unfolding addAll bytes
 adds-delete-new n k e o kl z p = record {
   keeps = λ out acc h.
@@ -223,7 +223,7 @@ adds-delete-new n k e o kl z p = record {
         fresh = b .1;
         is = ap (λ s. add s (delete k)) (h .is) ∙ b .0;
         ins = refl;
-        records = full-length h;
+        ops = full-length h;
         text = ap length (t ∙ full-text h) ∙ h .text;
         base-is = omega (arith, base-add acc (delete k), h .base-is);
         target-is = omega (arith, target-add acc (delete k), h .target-is);
@@ -236,7 +236,7 @@ adds-delete-new n k e o kl z p = record {
 opened-same : (e : Emitter) → e .ret ≤ 0 → opens e ≡ e
 opened-same e h = sym (opens-same e (omega arith))
 
-opened-again : (e : Emitter) → 0 < e .ret → opens e ≡ record { ins = 0; del = 0; ret = 0; records = flushedRecords e; text = e .text; base = e .base; target = e .target }
+opened-again : (e : Emitter) → 0 < e .ret → opens e ≡ record { ins = 0; del = 0; ret = 0; ops = flushedOps e; text = e .text; base = e .base; target = e .target }
 opened-again e h = sym (opens-again e (λ z. absurd (omega arith)) refl refl refl)
 
 pub adds-deletes : (n k : ℕ) (e : Emitter) (o : List ℕ) {r : Emitter} {o′ : List ℕ} → k ≤ 65536 → (k ≡ 0 → ⊥) → r ≡ deletedBy k e → o′ ≡ flushedIfClosed n e o → Adds n (delete k ∷ []) e o r o′
@@ -251,11 +251,11 @@ adds-deletes n k e o {r} {o′} kl z q p = rw q (go (leb (e .ret) 0) refl)
 -- ---- `deleted`, `inserted`
 
 module _ (e g : Emitter) (p : g ≡ opens e) where
-  pub deletes-from : (k : ℕ) → record { ins = g .ins; del = g .del + k; ret = g .ret; records = g .records; text = e .text; base = e .base + k; target = e .target } ≡ deletedBy k e
+  pub deletes-from : (k : ℕ) → record { ins = g .ins; del = g .del + k; ret = g .ret; ops = g .ops; text = e .text; base = e .base + k; target = e .target } ≡ deletedBy k e
   deletes-from k = rw p
 
   pub inserts-from : (len num : ℕ)
-      → record { ins = g .ins + len; del = g .del; ret = g .ret; records = g .records; text = e .text + len; base = e .base; target = e .target + num } ≡ insertedBy len num e
+      → record { ins = g .ins + len; del = g .del; ret = g .ret; ops = g .ops; text = e .text + len; base = e .base; target = e .target + num } ≡ insertedBy len num e
   inserts-from len num = rw p
 
 -- ---- `insert`
@@ -271,7 +271,7 @@ module _ (n : ℕ) (y : List Char) (e : Emitter) (o : List ℕ) (k j : ℕ) (kl 
   few = omega (arith, bytes-length y)
 
   insert-on : e .ret ≤ 0 → (o′ : List ℕ) → o′ ≡ over (textStart n + e .text) (bytes y) o
-      → Adds n (insert y ∷ []) e o (record { ins = e .ins + k; del = e .del; ret = e .ret; records = e .records; text = e .text + k; base = e .base; target = e .target + j }) o′
+      → Adds n (insert y ∷ []) e o (record { ins = e .ins + k; del = e .del; ret = e .ret; ops = e .ops; text = e .text + k; base = e .base; target = e .target + j }) o′
   unfolding addAll
   insert-on z o′ oe =
       let z₀ : e .ret ≡ 0 = omega arith in
@@ -286,17 +286,17 @@ module _ (n : ℕ) (y : List Char) (e : Emitter) (o : List ℕ) (k j : ℕ) (kl 
               fresh = fresh-insert (h .fresh) y;
               is = ap (λ s. add s (insert y)) (rw z₀ at (h .is)) ∙ rw z₀ (group-insert (h .fresh) y);
               ins = ap length (bytes-append (h .held) y) ∙ length-append (bytes (h .held)) (bytes y) ∙ rw (h .ins, yk);
-              records = h .records;
+              ops = h .ops;
               text = ap length more ∙ length-append t (bytes y) ∙ rw (h .text, yk);
               base-is = omega (arith, base-add acc (insert y), h .base-is);
               target-is = omega (arith, target-add acc (insert y), h .target-is);
-              wrote = λ w. oe ∙ rw (h .wrote w, ← h .text) (lay-text n (h .done) t out (bytes y) (omega (arith, h .records))) ∙ ap (λ u. laid n (h .done) u out) (sym more);
+              wrote = λ w. oe ∙ rw (h .wrote w, ← h .text) (lay-text n (h .done) t out (bytes y) (omega (arith, h .ops))) ∙ ap (λ u. laid n (h .done) u out) (sym more);
             };
         under = λ m u. omega (arith, few);
       }
 
   insert-new : (k ≡ 0 → ⊥) → 0 < e .ret → (o′ : List ℕ) → o′ ≡ over (textStart n + e .text) (bytes y) (flushed n e o)
-      → Adds n (insert y ∷ []) e o (record { ins = k; del = 0; ret = 0; records = flushedRecords e; text = e .text + k; base = e .base; target = e .target + j }) o′
+      → Adds n (insert y ∷ []) e o (record { ins = k; del = 0; ret = 0; ops = flushedOps e; text = e .text + k; base = e .base; target = e .target + j }) o′
   unfolding addAll
   insert-new kz p o′ oe = record {
     keeps = λ out acc h.
@@ -308,7 +308,7 @@ module _ (n : ℕ) (y : List Char) (e : Emitter) (o : List ℕ) (k j : ℕ) (kl 
           fresh = b .1;
           is = ap (λ s. add s (insert y)) (h .is) ∙ b .0;
           ins = yk;
-          records = full-length h;
+          ops = full-length h;
           text = length-append (textsOf (full h)) (bytes y) ∙ rw (l, yk);
           base-is = omega (arith, base-add acc (insert y), h .base-is);
           target-is = omega (arith, target-add acc (insert y), h .target-is);

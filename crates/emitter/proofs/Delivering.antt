@@ -28,7 +28,7 @@ use Rattle.record.specs.Layout.{kindsStart, countsStart, textStart}
 use Rattle.record.proofs.Sequences.{Limits, fits-limits}
 use Rattle.record.proofs.Records.{encode-length}
 use Rattle.operational_transform.specs.Calls.{deliver}
-use Rattle.emitter.specs.InnerEmit.{kindsOf, countsOf, textsOf, flushedRecords, flushed, Under, laid, Finishes, one, nothing, Adds, Done, withinLimits, sizeIn, limitsThenRoom, headed, Sizes}
+use Rattle.emitter.specs.InnerEmit.{kindsOf, countsOf, textsOf, flushedOps, flushed, Under, laid, Finishes, one, nothing, Adds, Done, withinLimits, sizeIn, limitsThenRoom, headed, Sizes}
 use Rattle.emitter.specs.declared.core.Emitter.{Emitter}
 use Rattle.emitter.proofs.Growing.{total-reverse}
 use Rattle.emitter.proofs.Adding.{full, full-length, full-text, full-wrote, rep-start}
@@ -65,15 +65,15 @@ module _ (w : Seq) where
 
 -- ---- `finish`
 
-pub finishes : (n : ℕ) (e : Emitter) (o : List ℕ) → Under (2 ^ 39) e → {r : ℕ} {o′ : List ℕ} → r ≡ flushedRecords e → r ≤ e .records + 3 → o′ ≡ flushed n e o
-    → Finishes n e o (record { ins = 0; del = 0; ret = 0; records = r; text = e .text; base = e .base; target = e .target }) o′
+pub finishes : (n : ℕ) (e : Emitter) (o : List ℕ) → Under (2 ^ 39) e → {r : ℕ} {o′ : List ℕ} → r ≡ flushedOps e → r ≤ e .ops + 3 → o′ ≡ flushed n e o
+    → Finishes n e o (record { ins = 0; del = 0; ret = 0; ops = r; text = e .text; base = e .base; target = e .target }) o′
 finishes n e o u {r} {o′} re rl oe = record {
   done = λ out acc h.
       let twice : full h ≡ reverse (reverse acc) = sym (h .is) ∙ sym (reverse-reverse acc) in
       record {
         small = omega arith;
         sizes = record {
-          records = re ∙ sym (full-length h) ∙ ap length (sym (h .is)) ∙ sym (length-reverse acc);
+          ops = re ∙ sym (full-length h) ∙ ap length (sym (h .is)) ∙ sym (length-reverse acc);
           text-bytes = sym (h .text) ∙ ap length (sym (full-text h) ∙ ap textsOf (sym (h .is)) ∙ sym (text-ahead acc));
           base-is = sym (h .base-is) ∙ sym (total-reverse takes acc);
           target-is = sym (h .target-is) ∙ sym (total-reverse given acc);
@@ -84,9 +84,9 @@ finishes n e o u {r} {o′} re rl oe = record {
 
 -- on a buffer of no bytes
 pub closes : (e : Emitter) → Under (2 ^ 39) e → {a b c : ℕ} → a ≡ one (e .ins) → b ≡ one (e .del) → c ≡ one (e .ret)
-    → Finishes 0 e [] (record { ins = 0; del = 0; ret = 0; records = e .records + a + b + c; text = e .text; base = e .base; target = e .target }) []
+    → Finishes 0 e [] (record { ins = 0; del = 0; ret = 0; ops = e .ops + a + b + c; text = e .text; base = e .base; target = e .target }) []
 closes e u {a} {b} {c} pa pb pc =
-    let r : e .records + a + b + c ≡ flushedRecords e = omega arith in
+    let r : e .ops + a + b + c ≡ flushedOps e = omega arith in
     finishes 0 e [] u r (omega (arith, flushed-few e)) (sym (flushed-none 0 e))
 
 -- a whole run: what was added is built
@@ -98,7 +98,7 @@ builds n out xs z a f = f .done out (addAll [] xs) (a .keeps out [] (rw z (rep-s
 
 -- an emitter whose numbers keep the limits
 pub record Inside (e : Emitter) : Type 0 where
-  pub records : e .records ≤ 1024
+  pub ops : e .ops ≤ 1024
   pub text : e .text ≤ 32768
   pub base : e .base ≤ 32768
   pub target : e .target ≤ 32768
@@ -106,21 +106,21 @@ pub record Inside (e : Emitter) : Type 0 where
 module _ (e : Emitter) where
   pub within-inside : T (withinLimits e) → Inside e
   within-inside h =
-      let (a, h₁) = le-and (e .records) 1024 _ .0 h in
+      let (a, h₁) = le-and (e .ops) 1024 _ .0 h in
       let (b, h₂) = le-and (e .text) 32768 _ .0 h₁ in
       let (c, d) = le-and (e .base) 32768 _ .0 h₂ in
-      record { records = a; text = b; base = c; target = leb→le (e .target) 32768 d }
+      record { ops = a; text = b; base = c; target = leb→le (e .target) 32768 d }
 
-  pub limits-no : (1024 < e .records) ⊎ ((32768 < e .text) ⊎ (32768 < e .base)) → false ≡ withinLimits e
+  pub limits-no : (1024 < e .ops) ⊎ ((32768 < e .text) ⊎ (32768 < e .base)) → false ≡ withinLimits e
   limits-no f = go (withinLimits e) refl f
     where
-      go : (t : Bool) → withinLimits e ≡ t → (1024 < e .records) ⊎ ((32768 < e .text) ⊎ (32768 < e .base)) → false ≡ t
+      go : (t : Bool) → withinLimits e ≡ t → (1024 < e .ops) ⊎ ((32768 < e .text) ⊎ (32768 < e .base)) → false ≡ t
       go true p (inl h) = absurd (omega (arith, within-inside (known p)))
       go true p (inr (inl h)) = absurd (omega (arith, within-inside (known p)))
       go true p (inr (inr h)) = absurd (omega (arith, within-inside (known p)))
       go false p h = refl
 
-  pub limits-records : 1024 < e .records → false ≡ withinLimits e
+  pub limits-records : 1024 < e .ops → false ≡ withinLimits e
   limits-records h = limits-no (inl h)
 
   pub limits-text : 32768 < e .text → false ≡ withinLimits e
@@ -129,8 +129,8 @@ module _ (e : Emitter) where
   pub limits-base : 32768 < e .base → false ≡ withinLimits e
   limits-base h = limits-no (inr (inr h))
 
-  pub limits-last : e .records ≤ 1024 → e .text ≤ 32768 → e .base ≤ 32768 → leb (e .target) 32768 ≡ withinLimits e
-  limits-last a b c = rw (le-leb (e .records) 1024 a, le-leb (e .text) 32768 b, le-leb (e .base) 32768 c)
+  pub limits-last : e .ops ≤ 1024 → e .text ≤ 32768 → e .base ≤ 32768 → leb (e .target) 32768 ≡ withinLimits e
+  limits-last a b c = rw (le-leb (e .ops) 1024 a, le-leb (e .text) 32768 b, le-leb (e .base) 32768 c)
 
   module _ (room : ℕ) (v : Bool) (p : v ≡ withinLimits e) where
     pub judge-limit : not v ≡ true → Refused Limit ≡ limitsThenRoom e room
@@ -181,9 +181,9 @@ laid-run n w out e =
     ∙ over-join kindsStart k (c ++ t) out
 
 -- the sizes, as `header` writes them
-headed-run : (e : Emitter) (o : List ℕ) → headed e o ≡ over 0 (bytes16 (e .records) ++ (bytes16 (e .text) ++ (bytes16 (e .base) ++ bytes16 (e .target)))) o
+headed-run : (e : Emitter) (o : List ℕ) → headed e o ≡ over 0 (bytes16 (e .ops) ++ (bytes16 (e .text) ++ (bytes16 (e .base) ++ bytes16 (e .target)))) o
 headed-run e o =
-    let n = bytes16 (e .records) in
+    let n = bytes16 (e .ops) in
     let t = bytes16 (e .text) in
     let b = bytes16 (e .base) in
     let g = bytes16 (e .target) in
@@ -197,7 +197,7 @@ module _ (s : Seq) (l : Limits s) where
   headed-sizes e o z =
       headed-run e o
       ∙ ap (λ x. over 0 x o)
-      (ap₂ _++_ (word (e .records) (length s) (z .records) (omega (arith, l .records)))
+      (ap₂ _++_ (word (e .ops) (length s) (z .ops) (omega (arith, l .ops)))
       (ap₂ _++_ (word (e .text) (length (text (map inBytes s))) (z .text-bytes) (omega (arith, l .text-bytes)))
       (ap₂ _++_ (word (e .base) (base s) (z .base-is) (omega (arith, l .bases))) (word (e .target) (target s) (z .target-is) (omega (arith, l .targets))))))
     where
@@ -220,17 +220,17 @@ module _ (s : Seq) (l : Limits s) where
 module _ (s : Seq) (e : Emitter) (z : Sizes s e) where
   pub sized-fits : withinLimits e ≡ fits s
   unfolding fits
-  sized-fits = rw (z .records, z .text-bytes, z .base-is, z .target-is)
+  sized-fits = rw (z .ops, z .text-bytes, z .base-is, z .target-is)
 
   pub sized-length : sizeIn e ≡ length (encode s)
-  sized-length = rw (encode-length s, z .records, z .text-bytes)
+  sized-length = rw (encode-length s, z .ops, z .text-bytes)
 
 -- what the writing run leaves, with the sizes in front, is the record at the front of the buffer
 pub written-front : (s : Seq) (n : ℕ) (out : List ℕ) (e : Emitter) (o o′ : List ℕ) → Limits s → length (encode s) ≤ length out → Done n s out e o → n ≡ length s → o′ ≡ headed e o → o′ ≡ atFront (encode s) out
 written-front s n out e o o′ l r d m w =
     w
     ∙ headed-sizes s l e o (d .sizes)
-    ∙ ap (over 0 (sizes s l)) (d .wrote (omega (arith, d .sizes .records)) ∙ ap (λ k. laid k (reverse s) (textsOf (reverse s)) out) m)
+    ∙ ap (over 0 (sizes s l)) (d .wrote (omega (arith, d .sizes .ops)) ∙ ap (λ k. laid k (reverse s) (textsOf (reverse s)) out) m)
     ∙ laid-encode s l out
     ∙ over-front (encode s) out r
 
@@ -245,7 +245,7 @@ module _ (s : Seq) (e : Emitter) (out : List ℕ) (z : Sizes s e) where
 
   judged-is : limitsThenRoom e (length out) ≡ cond (fits s) (cond (leb (length (encode s)) (length out)) (Bytes (length (encode s))) (Refused Room)) (Refused Limit)
   unfolding limitsThenRoom fits
-  judged-is = rw (encode-length s, z .records, z .text-bytes, z .base-is, z .target-is)
+  judged-is = rw (encode-length s, z .ops, z .text-bytes, z .base-is, z .target-is)
 
   outcome : Outcome
   unfolding deliver writing
@@ -271,12 +271,12 @@ module _ (s : Seq) (e : Emitter) (out : List ℕ) (z : Sizes s e) where
       go (writes l r p q) = let z : _≡_ {A = ℕ} 0 1 = cc in absurd (omega arith)
 
   -- `e` is the emitter of the run that finds the sizes, `e′` that of the run that writes
-  pub judged-written : (k : ℕ) → limitsThenRoom e (length out) ≡ Bytes k → (n : ℕ) (e′ : Emitter) (o′ o″ : List ℕ) → Done n s out e′ o′ → n ≡ e .records → o″ ≡ headed e′ o′ → o″ ≡ deliver 0 s out .out
+  pub judged-written : (k : ℕ) → limitsThenRoom e (length out) ≡ Bytes k → (n : ℕ) (e′ : Emitter) (o′ o″ : List ℕ) → Done n s out e′ o′ → n ≡ e .ops → o″ ≡ headed e′ o′ → o″ ≡ deliver 0 s out .out
   judged-written k h n e′ o′ o″ d ne w = go outcome
     where
       go : Outcome → o″ ≡ deliver 0 s out .out
       go (refuses x p q) = let z : _≡_ {A = ℕ} 0 1 = cc in absurd (omega arith)
-      go (writes l r p q) = written-front s n out e′ o′ o″ l r d (ne ∙ z .records) w ∙ sym (ap (λ o. o .out) q)
+      go (writes l r p q) = written-front s n out e′ o′ o″ l r d (ne ∙ z .ops) w ∙ sym (ap (λ o. o .out) q)
 
 -- the same, of the answer `v` as the code finds it
 module _ (s : Seq) (e : Emitter) (out : List ℕ) (z : Sizes s e) (v : Written) (j : v ≡ limitsThenRoom e (length out)) where
@@ -286,7 +286,7 @@ module _ (s : Seq) (e : Emitter) (out : List ℕ) (z : Sizes s e) (v : Written) 
   pub left-alone : (x : Refusal) → v ≡ Refused x → out ≡ deliver 0 s out .out
   left-alone x p = sym (judged-refused s e out z x (sym j ∙ p))
 
-  pub delivered : (k : ℕ) → v ≡ Bytes k → (n : ℕ) (e′ : Emitter) (o′ o″ : List ℕ) → Done n s out e′ o′ → n ≡ e .records → o″ ≡ headed e′ o′ → o″ ≡ deliver 0 s out .out
+  pub delivered : (k : ℕ) → v ≡ Bytes k → (n : ℕ) (e′ : Emitter) (o′ o″ : List ℕ) → Done n s out e′ o′ → n ≡ e .ops → o″ ≡ headed e′ o′ → o″ ≡ deliver 0 s out .out
   delivered k p n e′ o′ o″ d ne w = judged-written s e out z k (sym j ∙ p) n e′ o′ o″ d ne w
 
 -- a fault in front refuses the call

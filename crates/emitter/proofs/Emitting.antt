@@ -18,7 +18,7 @@ use Rattle.edits.proofs.Meaning.{ifZero-elim}
 use Rattle.record.specs.Layout.{kindsStart, countsStart, textStart}
 use Rattle.record.specs.Record.{inBytes, code, inserted}
 use Rattle.record.proofs.Sequences.{inBytes-size}
-use Rattle.emitter.specs.InnerEmit.{one, writtenOp, writtenOpIfAny, flushedAt, flushedRecords, flushed, opens, flushedIfClosed, Under, kindsOf, countsOf, laid, kept, textsOf, group}
+use Rattle.emitter.specs.InnerEmit.{one, writtenOp, writtenOpIfAny, flushedAt, flushedOps, flushed, opens, flushedIfClosed, Under, kindsOf, countsOf, laid, kept, textsOf, group}
 use Rattle.emitter.specs.declared.core.Emitter.{Emitter}
 use Rattle.emitter.proofs.Loops.{empty-bytes}
 
@@ -78,12 +78,12 @@ count-some k c z = omega (arith, one-some c (omega arith))
 
 -- ---- `flush`
 
-module _ (records ins del ret : ℕ) {x y : ℕ} (p : x ≡ records + one ins) (q : y ≡ x + one del) where
-  pub count-all : {z : ℕ} → z ≡ y + one ret → z ≡ records + one ins + one del + one ret
+module _ (ops ins del ret : ℕ) {x y : ℕ} (p : x ≡ ops + one ins) (q : y ≡ x + one del) where
+  pub count-all : {z : ℕ} → z ≡ y + one ret → z ≡ ops + one ins + one del + one ret
   count-all r = simp (r, q, p)
 
-  pub flush-all : (n : ℕ) (o : List ℕ) {o₁ o₂ o₃ : List ℕ} → o₁ ≡ writtenOpIfAny n records 2 ins o → o₂ ≡ writtenOpIfAny n x 3 del o₁ → o₃ ≡ writtenOpIfAny n y 1 ret o₂
-      → o₃ ≡ flushedAt n records ins del ret o
+  pub flush-all : (n : ℕ) (o : List ℕ) {o₁ o₂ o₃ : List ℕ} → o₁ ≡ writtenOpIfAny n ops 2 ins o → o₂ ≡ writtenOpIfAny n x 3 del o₁ → o₃ ≡ writtenOpIfAny n y 1 ret o₂
+      → o₃ ≡ flushedAt n ops ins del ret o
   unfolding flushedAt
   flush-all n o f g h = simp (h, g, f, q, p)
 
@@ -103,50 +103,50 @@ unfolding writtenOpIfAny
 enter-next n k i zero j d o h = rw (add-zero k) (enter-again n k j d i 0 o h)
 enter-next n k i (suc c) j d o h = refl
 
-pub close-count : (records ins del ret : ℕ) {x y : ℕ} → 0 < ret → x ≡ one ins → y ≡ one del → records + x + y + 1 ≡ records + one ins + one del + one ret
-close-count records ins del ret r p q = simp (p, q, one-some ret r)
+pub close-count : (ops ins del ret : ℕ) {x y : ℕ} → 0 < ret → x ≡ one ins → y ≡ one del → ops + x + y + 1 ≡ ops + one ins + one del + one ret
+close-count ops ins del ret r p q = simp (p, q, one-some ret r)
 
-pub close-all : (n records ins del ret : ℕ) (o : List ℕ) {x y : ℕ} {o₁ o₂ o₃ : List ℕ} → 0 < ret → records + 2 < n → x ≡ one ins → y ≡ one del
-    → o₁ ≡ writtenOp n records 2 ins o → o₂ ≡ writtenOp n (records + x) 3 del o₁ → o₃ ≡ writtenOp n (records + x + y) 1 ret o₂ → o₃ ≡ flushedAt n records ins del ret o
+pub close-all : (n ops ins del ret : ℕ) (o : List ℕ) {x y : ℕ} {o₁ o₂ o₃ : List ℕ} → 0 < ret → ops + 2 < n → x ≡ one ins → y ≡ one del
+    → o₁ ≡ writtenOp n ops 2 ins o → o₂ ≡ writtenOp n (ops + x) 3 del o₁ → o₃ ≡ writtenOp n (ops + x + y) 1 ret o₂ → o₃ ≡ flushedAt n ops ins del ret o
 unfolding flushedAt
-close-all n records ins del ret o r h p q f g k =
-    let x = records + one ins in
-    let u = writtenOpIfAny n records 2 ins o in
-    let v = g ∙ ap₂ (λ i l. writtenOp n (records + i) 3 del l) p f ∙ enter-next n records 2 ins 3 del o (omega arith) in
+close-all n ops ins del ret o r h p q f g k =
+    let x = ops + one ins in
+    let u = writtenOpIfAny n ops 2 ins o in
+    let v = g ∙ ap₂ (λ i l. writtenOp n (ops + i) 3 del l) p f ∙ enter-next n ops 2 ins 3 del o (omega arith) in
     k
-    ∙ (λ i. writtenOp n (records + p i + q i) 1 ret (v i))
+    ∙ (λ i. writtenOp n (ops + p i + q i) 1 ret (v i))
     ∙ enter-next n x 3 del 1 ret u (omega (arith, one-few ins))
     ∙ sym (emitted-some n (x + one del) 1 ret (writtenOpIfAny n x 3 del u) r)
 
 -- ---- `fits`
 
-module _ (room n records ret : ℕ) where
+module _ (room n ops ret : ℕ) where
   abbrev fitting : Bool
-  fitting = leb 1 ret && (leb (records + 3) n && leb (countsStart n + 2 * records + 6) room)
+  fitting = leb 1 ret && (leb (ops + 3) n && leb (countsStart n + 2 * ops + 6) room)
 
   pub fits-none : ret ≡ 0 → false ≡ fitting
   fits-none h = rw h
 
-  pub fits-over : (ret ≡ 0 → ⊥) → n ≤ records + 2 → false ≡ fitting
-  fits-over h g = rw (le-leb 1 ret (omega arith), lt-leb (records + 3) n (omega arith))
+  pub fits-over : (ret ≡ 0 → ⊥) → n ≤ ops + 2 → false ≡ fitting
+  fits-over h g = rw (le-leb 1 ret (omega arith), lt-leb (ops + 3) n (omega arith))
 
-  pub fits-room : (x : ℕ) → (ret ≡ 0 → ⊥) → records + 2 < n → x ≡ countsStart n + 2 * records → leb (x + 6) room ≡ fitting
-  fits-room x h g p = rw (le-leb 1 ret (omega arith), le-leb (records + 3) n (omega arith), p)
+  pub fits-room : (x : ℕ) → (ret ≡ 0 → ⊥) → ops + 2 < n → x ≡ countsStart n + 2 * ops → leb (x + 6) room ≡ fitting
+  fits-room x h g p = rw (le-leb 1 ret (omega arith), le-leb (ops + 3) n (omega arith), p)
 
   module _ (v : Bool) (p : v ≡ fitting) (y : v ≡ true) where
-    fitted : (1 ≤ ret) × T (leb (records + 3) n && leb (countsStart n + 2 * records + 6) room)
+    fitted : (1 ≤ ret) × T (leb (ops + 3) n && leb (countsStart n + 2 * ops + 6) room)
     fitted = le-and 1 ret _ .0 (known (sym p ∙ y))
 
     pub fits-ret : 0 < ret
     fits-ret = fitted .0
 
-    pub fits-few : records + 2 < n
-    fits-few = omega (arith, le-and (records + 3) n _ .0 (fitted .1) .0)
+    pub fits-few : ops + 2 < n
+    fits-few = omega (arith, le-and (ops + 3) n _ .0 (fitted .1) .0)
 
-    pub fits-three : countsStart n + 2 * records + 5 < room
-    fits-three = omega (arith, leb→le (countsStart n + 2 * records + 6) room (le-and (records + 3) n _ .0 (fitted .1) .1))
+    pub fits-three : countsStart n + 2 * ops + 5 < room
+    fits-three = omega (arith, leb→le (countsStart n + 2 * ops + 6) room (le-and (ops + 3) n _ .0 (fitted .1) .1))
 
-pub flushed-few : (e : Emitter) → flushedRecords e ≤ e .records + 3
+pub flushed-few : (e : Emitter) → flushedOps e ≤ e .ops + 3
 flushed-few e = omega (arith, one-few (e .ins), one-few (e .del), one-few (e .ret))
 
 -- ---- `some`, `opened`, `spill`
@@ -160,19 +160,19 @@ module _ (e : Emitter) where
   opens-same z = rw z
 
   abbrev again : ℕ → Emitter
-  again r = record { ins = 0; del = 0; ret = 0; records = r; text = e .text; base = e .base; target = e .target }
+  again r = record { ins = 0; del = 0; ret = 0; ops = r; text = e .text; base = e .base; target = e .target }
 
   pub opens-again : {x y z : ℕ} → (e .ret ≡ 0 → ⊥) → x ≡ one (e .ins) → y ≡ one (e .del) → z ≡ one (e .ret)
-      → record { ins = 0; del = 0; ret = 0; records = e .records + x + y + z; text = e .text; base = e .base; target = e .target } ≡ opens e
+      → record { ins = 0; del = 0; ret = 0; ops = e .ops + x + y + z; text = e .text; base = e .base; target = e .target } ≡ opens e
   unfolding opens
   opens-again {x} {y} {z} h p q r =
-      let s : e .records + x + y + z ≡ flushedRecords e = simp (p, q, r) in
-      ap again s ∙ sym (ifZero-elim (λ w. w ≡ again (flushedRecords e)) (e .ret) (λ w. absurd (h w)) (λ _. refl))
+      let s : e .ops + x + y + z ≡ flushedOps e = simp (p, q, r) in
+      ap again s ∙ sym (ifZero-elim (λ w. w ≡ again (flushedOps e)) (e .ret) (λ w. absurd (h w)) (λ _. refl))
 
   pub opens-few : Under (2 ^ 40) e → Under (2 ^ 40 + 3) e
   opens-few u = omega arith
 
-  pub opens-less : {x y z : ℕ} → x ≤ 1 → y ≤ 1 → z ≤ 1 → Under (2 ^ 40) e → Under (2 ^ 40 + 3) (again (e .records + x + y + z))
+  pub opens-less : {x y z : ℕ} → x ≤ 1 → y ≤ 1 → z ≤ 1 → Under (2 ^ 40) e → Under (2 ^ 40 + 3) (again (e .ops + x + y + z))
   opens-less p q r u = omega arith
 
   pub spilled-same : (n : ℕ) (o : List ℕ) → e .ret ≤ 0 → o ≡ flushedIfClosed n e o
@@ -271,30 +271,30 @@ group-text x d r s =
     ∙ text-kept (delete d) (kept (insert x) s) ∙ append-nil _
     ∙ text-kept (insert x) s
 
-module _ (e : Emitter) (x : List Char) (s : Seq) (p : length s ≡ e .records) (q : length (bytes x) ≡ e .ins) where
+module _ (e : Emitter) (x : List Char) (s : Seq) (p : length s ≡ e .ops) (q : length (bytes x) ≡ e .ins) where
   abbrev s₁ : Seq
   s₁ = kept (insert x) s
 
   abbrev s₂ : Seq
   s₂ = kept (delete (e .del)) s₁
 
-  length-s₁ : length s₁ ≡ e .records + one (e .ins)
+  length-s₁ : length s₁ ≡ e .ops + one (e .ins)
   unfolding inBytes
   length-s₁ = rw (← p, ← q) (length-kept (insert x) s)
 
-  length-s₂ : length s₂ ≡ e .records + one (e .ins) + one (e .del)
+  length-s₂ : length s₂ ≡ e .ops + one (e .ins) + one (e .del)
   unfolding inBytes
   length-s₂ = rw (← length-s₁) (length-kept (delete (e .del)) s₁)
 
-  pub group-length : length (group x (e .del) (e .ret) s) ≡ flushedRecords e
+  pub group-length : length (group x (e .del) (e .ret) s) ≡ flushedOps e
   unfolding inBytes
   group-length = rw (← length-s₂) (length-kept (retain (e .ret)) s₂)
 
-  pub lay-group : (n : ℕ) (t out o : List ℕ) → flushedRecords e ≤ n → o ≡ laid n s t out → flushed n e o ≡ laid n (group x (e .del) (e .ret) s) t out
+  pub lay-group : (n : ℕ) (t out o : List ℕ) → flushedOps e ≤ n → o ≡ laid n s t out → flushed n e o ≡ laid n (group x (e .del) (e .ret) s) t out
   unfolding flushedAt inBytes
   lay-group n t out o h w =
-      let a : writtenOpIfAny n (e .records) 2 (e .ins) o ≡ laid n s₁ t out = rw (w, ← p, ← q) (lay-kept (insert x) s n t out (omega (arith, ap one q))) in
-      let b : writtenOpIfAny n (e .records + one (e .ins)) 3 (e .del) (laid n s₁ t out) ≡ laid n s₂ t out = rw (← length-s₁) (lay-kept (delete (e .del)) s₁ n t out (omega (arith, length-s₁))) in
-      let d : writtenOpIfAny n (e .records + one (e .ins) + one (e .del)) 1 (e .ret) (laid n s₂ t out) ≡ laid n (kept (retain (e .ret)) s₂) t out =
+      let a : writtenOpIfAny n (e .ops) 2 (e .ins) o ≡ laid n s₁ t out = rw (w, ← p, ← q) (lay-kept (insert x) s n t out (omega (arith, ap one q))) in
+      let b : writtenOpIfAny n (e .ops + one (e .ins)) 3 (e .del) (laid n s₁ t out) ≡ laid n s₂ t out = rw (← length-s₁) (lay-kept (delete (e .del)) s₁ n t out (omega (arith, length-s₁))) in
+      let d : writtenOpIfAny n (e .ops + one (e .ins) + one (e .del)) 1 (e .ret) (laid n s₂ t out) ≡ laid n (kept (retain (e .ret)) s₂) t out =
       rw (← length-s₂) (lay-kept (retain (e .ret)) s₂ n t out (omega (arith, length-s₂))) in
       rw (a, b) d

@@ -45,11 +45,11 @@ module _ (s : Seq) (o : List ℕ) where
     pub gives-refused : (y : Refusal) → v ≡ written.Refused y → Gives (deliver 0 s o) (written.Refused y) o
     gives-refused y z = record { answer = ap writtenOf (sym z) ∙ answered s e o (d .sizes) v j; out = left-alone s e o (d .sizes) v j y z }
 
-    pub gives-written : (k : ℕ) (o′ : List ℕ) → v ≡ written.Bytes k → Writes (e .records) s o o′ → Gives (deliver 0 s o) (written.Bytes k) o′
+    pub gives-written : (k : ℕ) (o′ : List ℕ) → v ≡ written.Bytes k → Writes (e .ops) s o o′ → Gives (deliver 0 s o) (written.Bytes k) o′
     gives-written k o′ z u =
         record {
           answer = ap writtenOf (sym z) ∙ answered s e o (d .sizes) v j;
-          out = delivered s e o (d .sizes) v j k z (e .records) (u .emitter) (u .before) o′ (u .done) refl (u .is);
+          out = delivered s e o (d .sizes) v j k z (e .ops) (u .emitter) (u .before) o′ (u .done) refl (u .is);
         }
 
   -- a call that takes a record and a text

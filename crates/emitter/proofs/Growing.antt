@@ -85,7 +85,7 @@ fits-early r u h =
       deletes = λ m n. omega arith;
     } in
     fits-limits (reverse r) .1 (record {
-      records = omega (arith, l .records, records-total w, records-total (reverse r), total-reverse one (addAll r u), total-reverse one r, addAll-grows one G₁ r u);
+      ops = omega (arith, l .ops, records-total w, records-total (reverse r), total-reverse one (addAll r u), total-reverse one r, addAll-grows one G₁ r u);
       text-bytes = omega (arith, l .text-bytes, text-total w, text-total (reverse r), total-reverse textBytes (addAll r u), total-reverse textBytes r, addAll-grows textBytes G₂ r u);
       bases = omega (arith, l .bases, total-reverse takes (addAll r u), total-reverse takes r, addAll-grows takes G₃ r u);
       targets = omega (arith, l .targets, total-reverse gives (addAll r u), total-reverse gives r, addAll-grows gives G₄ r u);

@@ -12,7 +12,7 @@ use Rattle.edits.specs.Sequence.{Seq}
 use Rattle.edits.specs.Op.{Op, retain, insert, delete, size, base, takes}
 use Rattle.edits.proofs.Building.{Back, built-back}
 use Rattle.record.specs.Record.{inBytes, code, inserted, ops, text, textOf, recordFault, encode}
-use Rattle.record.specs.Layout.{recordsOf, textBytesOf, kindsStart, countsStart, sizeOf, kindAt, countAt}
+use Rattle.record.specs.Layout.{opCountOf, textBytesOf, kindsStart, countsStart, sizeOf, kindAt, countAt}
 use Rattle.record.proofs.Sequences.{fits-limits}
 use Rattle.record.proofs.Records.{text-length, inBytes-text, inBytes-ops, ops-length, ops-good, Bytes, drop-kinds, drop-counts, encode-ops}
 use Rattle.emitter.specs.InnerEmit.{kindsOf, textsOf, countsOf}
@@ -85,7 +85,7 @@ module _ (r : List ℕ) (z : recordFault r ≡ 0) where
   pub text-long : length (textsOf (reverse (ops r))) ≡ textBytesOf r
   text-long = ap length (sym text-at) ∙ text-length r z
 
-  pub at-end : (k : ℕ) → k ≡ recordsOf r → At r k (reverse (ops r))
+  pub at-end : (k : ℕ) → k ≡ opCountOf r → At r k (reverse (ops r))
   at-end k e =
       let g = ops-good r z in
       let l = fits-limits (ops r) .0 (g .in-limits) in
@@ -119,12 +119,12 @@ module _ (r : List ℕ) (z : recordFault r ≡ 0) (b : Bytes r) where
         ∙ append-assoc (kindsOf w) (map code (map inBytes u)) y)
         ∙ take-at (kindsOf w) _ k (length-kinds w ∙ a .long)
 
-    pub counts-at : take (2 * k) (drop (countsStart (recordsOf r)) r) ≡ countsOf w
+    pub counts-at : take (2 * k) (drop (countsStart (opCountOf r)) r) ≡ countsOf w
     counts-at =
         let u = a .behind in
         let y = text (map inBytes (ops r)) ++ more in
         ap (take (2 * k))
-        (ap (λ l. drop (countsStart (recordsOf l)) l) whole
+        (ap (λ l. drop (countsStart (opCountOf l)) l) whole
         ∙ drop-counts (ops r) more
         ∙ ap (λ s. words (map size (map inBytes s)) ++ y) (a .is)
         ∙ ap (λ l. l ++ y) (counts-before w u (a .bases) (a .texts))
@@ -147,7 +147,7 @@ module _ (r : List ℕ) (z : recordFault r ≡ 0) (b : Bytes r) where
     unfolding countsOf
     count-last =
         let v = size (inBytes o) in
-        let i = countsStart (recordsOf r) in
+        let i = countsStart (opCountOf r) in
         let l = drop i r in
         let m : length (countsOf w) ≡ 2 * k = length-counts w ∙ ap (λ n. 2 * n) long-w in
         let e = begins (2 * suc k) l (countsOf w) (bytes16 v) (counts-at (suc k) (o ∷ w) a) in

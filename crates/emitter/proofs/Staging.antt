@@ -66,14 +66,14 @@ text-of : (s : Seq) → text (map inBytes s) ≡ textsOf (reverse s)
 text-of s = ap (λ u. text (map inBytes u)) (sym (reverse-reverse s)) ∙ text-ahead (reverse s)
 
 -- `settle_records` with the text in its place gives what a run of as many places as there are operations writes
-pub marked-writes : (slots : ℕ) (s : Seq) (e : Emitter) (stage t out out′ : List ℕ) → Marked slots s stage → Sizes s e → Under (2 ^ 40) e → e .records ≤ slots → textStart slots ≤ length stage → t ≡ text (map inBytes s)
-    → out′ ≡ headed e (relocatedOps slots (e .records) (e .records) stage (over (textStart (e .records)) t out)) → Writes (e .records) s out out′
+pub marked-writes : (slots : ℕ) (s : Seq) (e : Emitter) (stage t out out′ : List ℕ) → Marked slots s stage → Sizes s e → Under (2 ^ 40) e → e .ops ≤ slots → textStart slots ≤ length stage → t ≡ text (map inBytes s)
+    → out′ ≡ headed e (relocatedOps slots (e .ops) (e .ops) stage (over (textStart (e .ops)) t out)) → Writes (e .ops) s out out′
 unfolding laid
 marked-writes slots s e stage t out out′ g z u few room tt p =
     let o = g .before in
     let w = reverse s in
-    let n : e .records ≡ length w = z .records ∙ sym (length-reverse s) in
-    let q = g .wrote (omega (arith, z .records)) in
+    let n : e .ops ≡ length w = z .ops ∙ sym (length-reverse s) in
+    let q = g .wrote (omega (arith, z .ops)) in
     let fw : length w ≤ slots = omega arith in
     let r : textStart slots ≤ length o = omega (arith, g .as-long) in
     let kr = (λ i. take (n i) (drop kindsStart (q i))) ∙ kinds-read slots w (textsOf w) o fw r in
@@ -81,28 +81,28 @@ marked-writes slots s e stage t out out′ g z u few room tt p =
     let tr = tt ∙ text-of s in
     record {
       emitter = e;
-      before = relocatedOps slots (e .records) (e .records) stage (over (textStart (e .records)) t out);
+      before = relocatedOps slots (e .ops) (e .ops) stage (over (textStart (e .ops)) t out);
       done = record {
         small = u;
         sizes = z;
-        wrote = λ _ i. over kindsStart (kr i) (over (countsStart (e .records)) (cr i) (over (textStart (e .records)) (tr i) out));
+        wrote = λ _ i. over kindsStart (kr i) (over (countsStart (e .ops)) (cr i) (over (textStart (e .ops)) (tr i) out));
       };
       is = p;
     }
 
 pub marks : {slots : ℕ} {s : Seq} {o stage : List ℕ} {e : Emitter} → Done slots s o e stage → length stage ≡ length o → Marked slots s stage
-marks {slots} {s} {o} d l = record { before = o; as-long = l; wrote = λ h. d .wrote (omega (arith, d .sizes .records)) }
+marks {slots} {s} {o} d l = record { before = o; as-long = l; wrote = λ h. d .wrote (omega (arith, d .sizes .ops)) }
 
 -- and so does `settle` with the stage's text
-pub staged-writes : (slots : ℕ) (s : Seq) (e : Emitter) (stage out out′ : List ℕ) → Staged slots s e stage → e .records ≤ slots → textStart slots + e .text ≤ length stage
-    → out′ ≡ headed e (relocated slots (e .records) (e .records) (e .text) stage out) → Writes (e .records) s out out′
+pub staged-writes : (slots : ℕ) (s : Seq) (e : Emitter) (stage out out′ : List ℕ) → Staged slots s e stage → e .ops ≤ slots → textStart slots + e .text ≤ length stage
+    → out′ ≡ headed e (relocated slots (e .ops) (e .ops) (e .text) stage out) → Writes (e .ops) s out out′
 unfolding relocated
 staged-writes slots s e stage out out′ g few room p =
     let d = g .done in
     let o = g .before in
     let l = g .as-long in
     let w = reverse s in
-    let n : e .records ≡ length w = d .sizes .records ∙ sym (length-reverse s) in
+    let n : e .ops ≡ length w = d .sizes .ops ∙ sym (length-reverse s) in
     let t : e .text ≡ length (textsOf w) = d .sizes .text-bytes ∙ ap length (text-of s) in
     let q = d .wrote few in
     let tr = (λ i. take (t i) (drop (textStart slots) (q i))) ∙ text-read slots w (textsOf w) o (omega arith) (omega arith) (omega arith) in
@@ -112,27 +112,27 @@ pub stages : {slots : ℕ} {s : Seq} {o stage : List ℕ} {e : Emitter} → Done
 stages {slots} {s} {o} d l = record { before = o; done = d; as-long = l }
 
 -- where `has_place` says so
-module _ (slots : ℕ) (e : Emitter) (stage : List ℕ) (v : Bool) (p : v ≡ (leb (e .records) slots && leb (textStart slots + e .text) (length stage))) (h : not v ≡ false) where
-  has : T (leb (e .records) slots && leb (textStart slots + e .text) (length stage))
+module _ (slots : ℕ) (e : Emitter) (stage : List ℕ) (v : Bool) (p : v ≡ (leb (e .ops) slots && leb (textStart slots + e .text) (length stage))) (h : not v ≡ false) where
+  has : T (leb (e .ops) slots && leb (textStart slots + e .text) (length stage))
   has = known (sym p ∙ not-false v h)
 
-  pub has-records : e .records ≤ slots
-  has-records = le-and (e .records) slots _ .0 has .0
+  pub has-records : e .ops ≤ slots
+  has-records = le-and (e .ops) slots _ .0 has .0
 
   pub has-text : textStart slots + e .text ≤ length stage
-  has-text = leb→le (textStart slots + e .text) (length stage) (le-and (e .records) slots _ .0 has .1)
+  has-text = leb→le (textStart slots + e .text) (length stage) (le-and (e .ops) slots _ .0 has .1)
 
-  pub settled-writes : (s : Seq) (out out₁ out₂ : List ℕ) → Staged slots s e stage → out₁ ≡ relocated slots (e .records) (e .records) (e .text) stage out → out₂ ≡ headed e out₁ → Writes (e .records) s out out₂
+  pub settled-writes : (s : Seq) (out out₁ out₂ : List ℕ) → Staged slots s e stage → out₁ ≡ relocated slots (e .ops) (e .ops) (e .text) stage out → out₂ ≡ headed e out₁ → Writes (e .ops) s out out₂
   settled-writes s out out₁ out₂ g a b = staged-writes slots s e stage out out₂ g has-records has-text (b ∙ ap (headed e) a)
 
 -- ---- `has_place`, `settle`
 
 module _ (e : Emitter) (slots room : ℕ) where
-  pub place-few : slots < e .records → false ≡ (leb (e .records) slots && leb (textStart slots + e .text) room)
-  place-few h = rw (lt-leb (e .records) slots h)
+  pub place-few : slots < e .ops → false ≡ (leb (e .ops) slots && leb (textStart slots + e .text) room)
+  place-few h = rw (lt-leb (e .ops) slots h)
 
-  pub place-text : (x : ℕ) → x ≡ textStart slots → e .records ≤ slots → leb (x + e .text) room ≡ (leb (e .records) slots && leb (textStart slots + e .text) room)
-  place-text x p h = rw (le-leb (e .records) slots h, p)
+  pub place-text : (x : ℕ) → x ≡ textStart slots → e .ops ≤ slots → leb (x + e .text) room ≡ (leb (e .ops) slots && leb (textStart slots + e .text) room)
+  place-text x p h = rw (le-leb (e .ops) slots h, p)
 
 part-is : (p q a b m : ℕ) (s o : List ℕ) → p ≡ q → a ≡ b → over p (take (a + m - a) (drop a s)) o ≡ over q (take m (drop b s)) o
 part-is p q a b m s o x y = let z : a + m - a ≡ m = omega arith in λ i. over (x i) (take (z i) (drop (y i) s)) o

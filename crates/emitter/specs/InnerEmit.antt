@@ -34,19 +34,19 @@ unfolding over
 writtenOpIfAny n k kind c o = ifZero c o (writtenOp n k kind c o)
 
 -- how many records there are once the group is flushed, and the buffer then
-abbrev pub flushedRecords : Emitter → ℕ
-flushedRecords e = e .records + one (e .ins) + one (e .del) + one (e .ret)
+abbrev pub flushedOps : Emitter → ℕ
+flushedOps e = e .ops + one (e .ins) + one (e .del) + one (e .ret)
 
 unfoldable pub flushedAt : ℕ → ℕ → ℕ → ℕ → ℕ → List ℕ → List ℕ
 unfolding writtenOpIfAny
-flushedAt n records ins del ret o = writtenOpIfAny n (records + one ins + one del) retainKind ret (writtenOpIfAny n (records + one ins) deleteKind del (writtenOpIfAny n records insertKind ins o))
+flushedAt n ops ins del ret o = writtenOpIfAny n (ops + one ins + one del) retainKind ret (writtenOpIfAny n (ops + one ins) deleteKind del (writtenOpIfAny n ops insertKind ins o))
 
 abbrev pub flushed : ℕ → Emitter → List ℕ → List ℕ
-flushed n e o = flushedAt n (e .records) (e .ins) (e .del) (e .ret) o
+flushed n e o = flushedAt n (e .ops) (e .ins) (e .del) (e .ret) o
 
 -- a pending retain closes the group: what is added behind it begins another
 unfoldable pub opens : Emitter → Emitter
-opens e = ifZero (e .ret) e (record { ins = 0; del = 0; ret = 0; records = flushedRecords e; text = e .text; base = e .base; target = e .target })
+opens e = ifZero (e .ret) e (record { ins = 0; del = 0; ret = 0; ops = flushedOps e; text = e .text; base = e .base; target = e .target })
 
 unfoldable pub flushedIfClosed : ℕ → Emitter → List ℕ → List ℕ
 unfolding flushedAt
@@ -54,23 +54,23 @@ flushedIfClosed n e o = ifZero (e .ret) o (flushed n e o)
 
 -- the numbers after an insert of `len` bytes and `num` characters, and after a delete of k characters
 abbrev pub insertedBy : ℕ → ℕ → Emitter → Emitter
-insertedBy len num e = record { ins = opens e .ins + len; del = opens e .del; ret = opens e .ret; records = opens e .records; text = e .text + len; base = e .base; target = e .target + num }
+insertedBy len num e = record { ins = opens e .ins + len; del = opens e .del; ret = opens e .ret; ops = opens e .ops; text = e .text + len; base = e .base; target = e .target + num }
 
 abbrev pub deletedBy : ℕ → Emitter → Emitter
-deletedBy k e = record { ins = opens e .ins; del = opens e .del + k; ret = opens e .ret; records = opens e .records; text = e .text; base = e .base + k; target = e .target }
+deletedBy k e = record { ins = opens e .ins; del = opens e .del + k; ret = opens e .ret; ops = opens e .ops; text = e .text; base = e .base + k; target = e .target }
 
 -- every number of an emitter is at most k
 pub record Under (k : ℕ) (e : Emitter) : Type 0 where
   pub ins : e .ins ≤ k
   pub del : e .del ≤ k
   pub ret : e .ret ≤ k
-  pub records : e .records ≤ k
+  pub ops : e .ops ≤ k
   pub text : e .text ≤ k
   pub base : e .base ≤ k
   pub target : e .target ≤ k
 
 abbrev pub nothing : Emitter
-nothing = record { ins = 0; del = 0; ret = 0; records = 0; text = 0; base = 0; target = 0 }
+nothing = record { ins = 0; del = 0; ret = 0; ops = 0; text = 0; base = 0; target = 0 }
 
 -- ---- what an emitter stands for
 
@@ -116,11 +116,11 @@ pub record Rep (n : ℕ) (out0 : List ℕ) (acc : Seq) (e : Emitter) (out : List
   pub fresh : Fresh held (e .del) done
   pub is : acc ≡ group held (e .del) (e .ret) done
   pub ins : length (bytes held) ≡ e .ins
-  pub records : length done ≡ e .records
+  pub ops : length done ≡ e .ops
   pub text : length (textsOf done ++ bytes held) ≡ e .text
   pub base-is : base acc ≡ e .base
   pub target-is : target acc ≡ e .target
-  pub wrote : e .records ≤ n → out ≡ laid n done (textsOf done ++ bytes held) out0
+  pub wrote : e .ops ≤ n → out ≡ laid n done (textsOf done ++ bytes held) out0
 
 -- the emitter takes operations as the builders do
 pub record Adds (n : ℕ) (ops : Seq) (e : Emitter) (o : List ℕ) (e′ : Emitter) (o′ : List ℕ) : Type 0 where
@@ -133,7 +133,7 @@ pub record Retains (k : ℕ) (e e′ : Emitter) : Type 0 where
 
 -- the numbers of an emitter that has no group pending are the sizes of a sequence
 pub record Sizes (s : Seq) (e : Emitter) : Type 0 where
-  pub records : e .records ≡ length s
+  pub ops : e .ops ≡ length s
   pub text-bytes : e .text ≡ length (text (map inBytes s))
   pub base-is : e .base ≡ base s
   pub target-is : e .target ≡ target s
@@ -142,14 +142,14 @@ pub record Sizes (s : Seq) (e : Emitter) : Type 0 where
 pub record Done (n : ℕ) (s : Seq) (out0 : List ℕ) (e : Emitter) (out : List ℕ) : Type 0 where
   pub small : Under (2 ^ 40) e
   pub sizes : Sizes s e
-  pub wrote : e .records ≤ n → out ≡ laid n (reverse s) (textsOf (reverse s)) out0
+  pub wrote : e .ops ≤ n → out ≡ laid n (reverse s) (textsOf (reverse s)) out0
 
 pub record Finishes (n : ℕ) (e : Emitter) (o : List ℕ) (e′ : Emitter) (o′ : List ℕ) : Type 0 where
   pub done : (out0 : List ℕ) (acc : Seq) → Rep n out0 acc e o → Done n (reverse acc) out0 e′ o′
 
 -- with the sizes in front
 abbrev pub headed : Emitter → List ℕ → List ℕ
-headed e o = over 6 (bytes16 (e .target)) (over 4 (bytes16 (e .base)) (over 2 (bytes16 (e .text)) (over 0 (bytes16 (e .records)) o)))
+headed e o = over 6 (bytes16 (e .target)) (over 4 (bytes16 (e .base)) (over 2 (bytes16 (e .text)) (over 0 (bytes16 (e .ops)) o)))
 
 pub record Writes (n : ℕ) (s : Seq) (out0 out : List ℕ) : Type 0 where
   pub emitter : Emitter
@@ -181,10 +181,10 @@ relocated slots n k t stage o = relocatedOps slots n k stage (over (textStart n)
 -- ---- the answer of a call that would write a record of these sizes: 9, then 10
 
 abbrev pub withinLimits : Emitter → Bool
-withinLimits e = leb (e .records) maxOps && (leb (e .text) maxSize && (leb (e .base) maxSize && leb (e .target) maxSize))
+withinLimits e = leb (e .ops) maxOps && (leb (e .text) maxSize && (leb (e .base) maxSize && leb (e .target) maxSize))
 
 abbrev pub sizeIn : Emitter → ℕ
-sizeIn e = textStart (e .records) + e .text
+sizeIn e = textStart (e .ops) + e .text
 
 unfoldable pub limitsThenRoom : Emitter → ℕ → Written
 limitsThenRoom e room = cond (withinLimits e) (cond (leb (sizeIn e) room) (written.Bytes (sizeIn e)) (written.Refused Room)) (written.Refused Limit)

@@ -34,7 +34,7 @@ pub struct Emitter {
     pub del: usize,
     pub ret: usize,
     // records written, text bytes, base and target so far
-    pub records: usize,
+    pub ops: usize,
     pub text: usize,
     pub base: usize,
     pub target: usize,
@@ -47,7 +47,7 @@ pub fn new_emitter() -> Emitter
         ins: 0,
         del: 0,
         ret: 0,
-        records: 0,
+        ops: 0,
         text: 0,
         base: 0,
         target: 0,
@@ -56,24 +56,24 @@ pub fn new_emitter() -> Emitter
 
 // One record, unless its count is 0: the number of records afterwards. (Its bytes are written out: with `enter` here the compiler no
 // longer inlines `part`.)
-fn write_op_if_any(out: &mut [u8], n: usize, records: usize, kind: u8, count: usize) -> usize
-    requires { ⌜ (n ≤ 2 ^ 41) × (records ≤ 2 ^ 41) ⌝ }
-    ensures { λ r. ⌜ (r ≡ records + one count) × (r ≤ records + 1) × (now (out .exit) ≡ writtenOpIfAny n records kind count (now (out .entry))) ⌝ }
+fn write_op_if_any(out: &mut [u8], n: usize, ops: usize, kind: u8, count: usize) -> usize
+    requires { ⌜ (n ≤ 2 ^ 41) × (ops ≤ 2 ^ 41) ⌝ }
+    ensures { λ r. ⌜ (r ≡ ops + one count) × (r ≤ ops + 1) × (now (out .exit) ≡ writtenOpIfAny n ops kind count (now (out .entry))) ⌝ }
 {
     if count == 0 {
-        return records;
+        return ops;
     }
-    let k = layout::core::kind_place(records);
-    let at = layout::core::count_place(n, records);
+    let k = layout::core::kind_place(ops);
+    let at = layout::core::count_place(n, ops);
     if at + 1 < out.len() {
         out[k] = kind;
         out[at] = (count % 256) as u8;
         out[at + 1] = (count / 256 % 256) as u8;
-        return records + 1;
+        return ops + 1;
     }
     buffers::core::put(out, k, kind);
     buffers::core::put16(out, at, count);
-    records + 1
+    ops + 1
 }
 
 // Kind and count of record k of n, which have their places in the buffer.
@@ -88,33 +88,26 @@ pub fn write_op(out: &mut [u8], n: usize, k: usize, kind: u8, count: usize)
 }
 
 // Whether a group ends with a retain, and three records have their places.
-fn group_fits(room: usize, n: usize, records: usize, ret: usize) -> bool
-    requires { ⌜ (n ≤ 2 ^ 40) × (records ≤ 2 ^ 40) ⌝ }
-    ensures { λ r. ⌜ r ≡ (leb 1 ret && (leb (records + 3) n && leb (countsStart n + 2 * records + 6) room)) ⌝ }
+fn group_fits(room: usize, n: usize, ops: usize, ret: usize) -> bool
+    requires { ⌜ (n ≤ 2 ^ 40) × (ops ≤ 2 ^ 40) ⌝ }
+    ensures { λ r. ⌜ r ≡ (leb 1 ret && (leb (ops + 3) n && leb (countsStart n + 2 * ops + 6) room)) ⌝ }
 {
     if ret == 0 {
         return false;
     }
-    if n <= records + 2 {
+    if n <= ops + 2 {
         return false;
     }
-    layout::core::count_place(n, records) + 6 <= room
+    layout::core::count_place(n, ops) + 6 <= room
 }
 
 // `flush` for such a group. No count is asked about: a record of count 0 is written, too, and the next one over it.
-fn write_group(
-    out: &mut [u8],
-    n: usize,
-    records: usize,
-    ins: usize,
-    del: usize,
-    ret: usize,
-) -> usize
-    requires { ⌜ (n ≤ 2 ^ 40) × (records ≤ 2 ^ 40) × (0 < ret) × (records + 2 < n) × (countsStart n + 2 * records + 5 < length (now out)) ⌝ }
-    ensures { λ r. ⌜ (r ≡ records + one ins + one del + one ret) × (r ≤ records + 3) × (now (out .exit) ≡ flushedAt n records ins del ret (now (out .entry))) ⌝ }
+fn write_group(out: &mut [u8], n: usize, ops: usize, ins: usize, del: usize, ret: usize) -> usize
+    requires { ⌜ (n ≤ 2 ^ 40) × (ops ≤ 2 ^ 40) × (0 < ret) × (ops + 2 < n) × (countsStart n + 2 * ops + 5 < length (now out)) ⌝ }
+    ensures { λ r. ⌜ (r ≡ ops + one ins + one del + one ret) × (r ≤ ops + 3) × (now (out .exit) ≡ flushedAt n ops ins del ret (now (out .entry))) ⌝ }
 {
-    write_op(out, n, records, INSERT, ins);
-    let x = records + one_if_any(ins);
+    write_op(out, n, ops, INSERT, ins);
+    let x = ops + one_if_any(ins);
     write_op(out, n, x, DELETE, del);
     let y = x + one_if_any(del);
     write_op(out, n, y, RETAIN, ret);
@@ -122,14 +115,14 @@ fn write_group(
 }
 
 // A group's records, by numbers: a struct would go through memory. The number of records afterwards.
-pub fn flush(out: &mut [u8], n: usize, records: usize, ins: usize, del: usize, ret: usize) -> usize
-    requires { ⌜ (n ≤ 2 ^ 40) × (records ≤ 2 ^ 40) ⌝ }
-    ensures { λ r. ⌜ (r ≡ records + one ins + one del + one ret) × (r ≤ records + 3) × (now (out .exit) ≡ flushedAt n records ins del ret (now (out .entry))) ⌝ }
+pub fn flush(out: &mut [u8], n: usize, ops: usize, ins: usize, del: usize, ret: usize) -> usize
+    requires { ⌜ (n ≤ 2 ^ 40) × (ops ≤ 2 ^ 40) ⌝ }
+    ensures { λ r. ⌜ (r ≡ ops + one ins + one del + one ret) × (r ≤ ops + 3) × (now (out .exit) ≡ flushedAt n ops ins del ret (now (out .entry))) ⌝ }
 {
-    if group_fits(out.len(), n, records, ret) {
-        return write_group(out, n, records, ins, del, ret);
+    if group_fits(out.len(), n, ops, ret) {
+        return write_group(out, n, ops, ins, del, ret);
     }
-    let x = write_op_if_any(out, n, records, INSERT, ins);
+    let x = write_op_if_any(out, n, ops, INSERT, ins);
     let y = write_op_if_any(out, n, x, DELETE, del);
     write_op_if_any(out, n, y, RETAIN, ret)
 }
@@ -140,7 +133,7 @@ pub fn flush_if_closed(out: &mut [u8], n: usize, e: Emitter)
     ensures { λ _. ⌜ now (out .exit) ≡ flushedIfClosed n e (now (out .entry)) ⌝ }
 {
     if 0 < e.ret {
-        flush(out, n, e.records, e.ins, e.del, e.ret);
+        flush(out, n, e.ops, e.ins, e.del, e.ret);
     }
 }
 
@@ -149,8 +142,8 @@ fn write_if_closed(out: &mut [u8], n: usize, e: Emitter)
     requires { ⌜ (n ≤ 2 ^ 40) × Under (2 ^ 40) e ⌝ }
     ensures { λ _. ⌜ now (out .exit) ≡ flushedIfClosed n e (now (out .entry)) ⌝ }
 {
-    if group_fits(out.len(), n, e.records, e.ret) {
-        write_group(out, n, e.records, e.ins, e.del, e.ret);
+    if group_fits(out.len(), n, e.ops, e.ret) {
+        write_group(out, n, e.ops, e.ins, e.del, e.ret);
         return;
     }
     flush_if_closed(out, n, e);
@@ -173,7 +166,7 @@ fn reopened(e: Emitter) -> Emitter
         ins: 0,
         del: 0,
         ret: 0,
-        records: e.records + one_if_any(e.ins) + one_if_any(e.del) + one_if_any(e.ret),
+        ops: e.ops + one_if_any(e.ins) + one_if_any(e.del) + one_if_any(e.ret),
         text: e.text,
         base: e.base,
         target: e.target,
@@ -190,7 +183,7 @@ pub fn inserted(e: Emitter, len: usize, num: usize) -> Emitter
         ins: g.ins + len,
         del: g.del,
         ret: g.ret,
-        records: g.records,
+        ops: g.ops,
         text: e.text + len,
         base: e.base,
         target: e.target + num,
@@ -207,7 +200,7 @@ fn deleted(e: Emitter, k: usize) -> Emitter
         ins: g.ins,
         del: g.del + k,
         ret: g.ret,
-        records: g.records,
+        ops: g.ops,
         text: e.text,
         base: e.base + k,
         target: e.target,
@@ -222,7 +215,7 @@ pub fn retain(e: Emitter, k: usize) -> Emitter
         ins: e.ins,
         del: e.del,
         ret: e.ret + k,
-        records: e.records,
+        ops: e.ops,
         text: e.text,
         base: e.base + k,
         target: e.target + k,
@@ -317,12 +310,12 @@ pub fn finish(out: &mut [u8], n: usize, e: Emitter) -> Emitter
     requires { ⌜ (n ≤ 2 ^ 40) × Under (2 ^ 39) e ⌝ }
     ensures { λ r. ⌜ Finishes n e (now (out .entry)) r (now (out .exit)) ⌝ }
 {
-    let records = flush(out, n, e.records, e.ins, e.del, e.ret);
+    let ops = flush(out, n, e.ops, e.ins, e.del, e.ret);
     Emitter {
         ins: 0,
         del: 0,
         ret: 0,
-        records,
+        ops,
         text: e.text,
         base: e.base,
         target: e.target,
@@ -333,7 +326,7 @@ pub fn finish(out: &mut [u8], n: usize, e: Emitter) -> Emitter
 pub fn keeps_limits(e: Emitter) -> bool
     ensures { λ r. ⌜ r ≡ withinLimits e ⌝ }
 {
-    if MAX_OPS < e.records {
+    if MAX_OPS < e.ops {
         return false;
     }
     if MAX_SIZE < e.text {
@@ -350,7 +343,7 @@ pub fn size(e: Emitter) -> usize
     requires { ⌜ Under (2 ^ 40) e ⌝ }
     ensures { λ r. ⌜ r ≡ sizeIn e ⌝ }
 {
-    layout::core::text_start(e.records) + e.text
+    layout::core::text_start(e.ops) + e.text
 }
 
 // The answer of a call that would write what was emitted: 9, then 10.
@@ -373,7 +366,7 @@ pub fn write_header(out: &mut [u8], e: Emitter)
     requires { ⌜ Under (2 ^ 40) e ⌝ }
     ensures { λ _. ⌜ now (out .exit) ≡ headed e (now (out .entry)) ⌝ }
 {
-    buffers::core::put16(out, 0, e.records);
+    buffers::core::put16(out, 0, e.ops);
     buffers::core::put16(out, 2, e.text);
     buffers::core::put16(out, 4, e.base);
     buffers::core::put16(out, 6, e.target);
@@ -383,9 +376,9 @@ pub fn write_header(out: &mut [u8], e: Emitter)
 // has a place in a stage of `room` bytes.
 pub fn fits_stage(e: Emitter, slots: usize, room: usize) -> bool
     requires { ⌜ (slots ≤ 2 ^ 40) × Under (2 ^ 40) e ⌝ }
-    ensures { λ r. ⌜ r ≡ (leb (e .records) slots && leb (textStart slots + e .text) room) ⌝ }
+    ensures { λ r. ⌜ r ≡ (leb (e .ops) slots && leb (textStart slots + e .text) room) ⌝ }
 {
-    if slots < e.records {
+    if slots < e.ops {
         return false;
     }
     layout::core::text_start(slots) + e.text <= room

@@ -17,7 +17,7 @@ use Rattle.edits.specs.Op.{retain}
 use Rattle.record.specs.declared.core.Front.{Front}
 use Rattle.record.specs.Record.{ops, recordFault}
 use Rattle.record.specs.InnerFront.{ahead, Stands, frontOp, Place, Loads}
-use Rattle.record.specs.Layout.{recordsOf}
+use Rattle.record.specs.Layout.{opCountOf}
 use Rattle.record.proofs.Records.{ops-length}
 use Rattle.reader.proofs.Fronts.{fault-few, some-ahead, ended-ahead, op-retain, begins-none}
 use Rattle.emitter.specs.declared.core.Emitter.{Emitter}
@@ -29,11 +29,11 @@ use Rattle.invert_in_place.proofs.Passing.{taken-is, undone-is}
 
 -- ---- `is_last_retain`
 
-module _ (f : Front) (records : ℕ) where
-  pub retain-last : f .kind ≡ 1 → leb records (f .next) ≡ lastRetain f records
+module _ (f : Front) (count : ℕ) where
+  pub retain-last : f .kind ≡ 1 → leb count (f .next) ≡ lastRetain f count
   retain-last e = rw (eq-eqb (f .kind) 1 e)
 
-  pub no-retain : (f .kind ≡ 1 → ⊥) → false ≡ lastRetain f records
+  pub no-retain : (f .kind ≡ 1 → ⊥) → false ≡ lastRetain f count
   no-retain e = rw (ne-eqb (f .kind) 1 e)
 
 -- what was emitted, and what undoes all that lies ahead, undo the whole
@@ -53,7 +53,7 @@ going-start n r t o f e z w s h p =
       place = omega arith;
       well = w;
       done = [];
-      few = omega (arith, ap length h, ops-length r z, fault-few r (recordsOf r) z refl);
+      few = omega (arith, ap length h, ops-length r z, fault-few r (opCountOf r) z refl);
       adds = rw p (adds-nil n nothing o);
       all = ap (λ s. undoAll s (chars t)) h;
     }
@@ -76,14 +76,14 @@ module _ (n : ℕ) (r t out : List ℕ) (f : Front) (at : ℕ) (e : Emitter) (o 
       rw (← p) (builds n out (g .done) refl (g .adds) h)
 
   -- a last retain is repeated, wherever the text goes on
-  module _ (records : ℕ) (p : records ≡ recordsOf r) (v : Bool) (z : v ≡ lastRetain f records) (y : v ≡ true) where
+  module _ (count : ℕ) (p : count ≡ opCountOf r) (v : Bool) (z : v ≡ lastRetain f count) (y : v ≡ true) where
     last : ahead r f ≡ retain (f .left) ∷ []
     last = go (eqb (f .kind) 1) refl (known (sym z ∙ y))
       where
-        go : (b : Bool) → eqb (f .kind) 1 ≡ b → T (cond b (leb records (f .next)) false) → ahead r f ≡ retain (f .left) ∷ []
+        go : (b : Bool) → eqb (f .kind) 1 ≡ b → T (cond b (leb count (f .next)) false) → ahead r f ≡ retain (f .left) ∷ []
         go true q h =
             let k = eqb-true (f .kind) 1 q in
-            some-ahead r f (g .stands .some (omega arith)) ∙ ap₂ _∷_ (op-retain r f k) (begins-none r records (f .next) (f .to) p (leb→le records (f .next) h))
+            some-ahead r f (g .stands .some (omega arith)) ∙ ap₂ _∷_ (op-retain r f k) (begins-none r count (f .next) (f .to) p (leb→le count (f .next) h))
         go false q h = absurd h
 
     module _ (d : Emitter) (a : Retains (f .left) e d) where

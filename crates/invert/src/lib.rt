@@ -22,7 +22,7 @@ ghost use Rattle.characters.specs.Text.{chars as charsOf};
 ghost use Rattle.edits.specs.Invert.{invert as invertOf};
 ghost use Rattle.answers.specs.InnerGiven.{Gives};
 ghost use Rattle.answers.specs.Answer.{writtenOf};
-ghost use Rattle.record.specs.Layout.{recordsOf, maxOps, baseOf, textStart, maxSize};
+ghost use Rattle.record.specs.Layout.{opCountOf, maxOps, baseOf, textStart, maxSize};
 ghost use Rattle.record.specs.Record.{ops, recordFault};
 ghost use Rattle.operational_transform.specs.Calls.{deliver, invertCall};
 ghost use Rattle.emitter.specs.InnerEmit.{Under, Adds, Done, Writes};
@@ -75,11 +75,11 @@ fn emit_inverse(
 }
 
 // Behind a last retain no character is asked for, so its own need not be passed.
-fn is_last_retain(f: Front, records: usize) -> bool
-    ensures { λ r. ⌜ r ≡ lastRetain f records ⌝ }
+fn is_last_retain(f: Front, count: usize) -> bool
+    ensures { λ r. ⌜ r ≡ lastRetain f count ⌝ }
 {
     if f.kind == AT_RETAIN {
-        return records <= f.next;
+        return count <= f.next;
     }
     false
 }
@@ -87,45 +87,45 @@ fn is_last_retain(f: Front, records: usize) -> bool
 // All of invert, for a result of n records.
 fn invert_into(
     rec: &[u8],
-    records: usize,
+    count: usize,
     text: &[u8],
     chars: usize,
     out: &mut [u8],
     n: usize,
 ) -> Emitter
-    requires { ⌜ (recordFault (now rec) ≡ 0) × (records ≡ recordsOf (now rec)) × (records ≤ maxOps) × T (wellFormed (now text)) × (chars ≡ numChars (now text)) × (n ≤ 2 ^ 40) ⌝ }
+    requires { ⌜ (recordFault (now rec) ≡ 0) × (count ≡ opCountOf (now rec)) × (count ≤ maxOps) × T (wellFormed (now text)) × (chars ≡ numChars (now text)) × (n ≤ 2 ^ 40) ⌝ }
     ensures { λ r. ⌜ Done n (invertOf (ops (now (rec .entry))) (charsOf (now (text .entry)))) (now (out .entry)) r (now (out .exit)) ⌝ }
 {
     let mut e = emitter::core::new_emitter();
-    let mut f = reader::core::first_front(rec, records);
+    let mut f = reader::core::first_front(rec, count);
     let mut at = 0;
     while f.kind != AT_END {
-        if is_last_retain(f, records) {
+        if is_last_retain(f, count) {
             let d = emitter::core::retain(e, f.left);
             return emitter::core::finish(out, n, d);
         }
         let to = after_taken(text, chars, at, f);
         e = emit_inverse(text, out, n, e, f, at, to);
-        f = reader::core::load(rec, records, f.next, f.to);
+        f = reader::core::load(rec, count, f.next, f.to);
         at = to;
     }
     emitter::core::finish(out, n, e)
 }
 
 // The record of a result of n records.
-fn write(rec: &[u8], records: usize, text: &[u8], chars: usize, out: &mut [u8], n: usize)
-    requires { ⌜ (recordFault (now rec) ≡ 0) × (records ≡ recordsOf (now rec)) × (records ≤ maxOps) × T (wellFormed (now text)) × (chars ≡ numChars (now text)) × (n ≤ 2 ^ 40) ⌝ }
+fn write(rec: &[u8], count: usize, text: &[u8], chars: usize, out: &mut [u8], n: usize)
+    requires { ⌜ (recordFault (now rec) ≡ 0) × (count ≡ opCountOf (now rec)) × (count ≤ maxOps) × T (wellFormed (now text)) × (chars ≡ numChars (now text)) × (n ≤ 2 ^ 40) ⌝ }
     ensures { λ _. ⌜ Writes n (invertOf (ops (now (rec .entry))) (charsOf (now (text .entry)))) (now (out .entry)) (now (out .exit)) ⌝ }
 {
-    let e = invert_into(rec, records, text, chars, out, n);
+    let e = invert_into(rec, count, text, chars, out, n);
     emitter::core::write_header(out, e);
 }
 
 // Whether nothing can be refused: on a text of base characters the inverse has as many records as the record, and no more text
 // than the text.
-fn surely_fits(rec: &[u8], records: usize, text: &[u8], chars: usize, room: usize) -> bool
-    requires { ⌜ (recordFault (now rec) ≡ 0) × (records ≤ maxOps) ⌝ }
-    ensures { λ r. ⌜ r ≡ (eqb chars (baseOf (now (rec .entry))) && (leb (length (now (text .entry))) maxSize && leb (textStart records + length (now (text .entry))) room)) ⌝ }
+fn surely_fits(rec: &[u8], count: usize, text: &[u8], chars: usize, room: usize) -> bool
+    requires { ⌜ (recordFault (now rec) ≡ 0) × (count ≤ maxOps) ⌝ }
+    ensures { λ r. ⌜ r ≡ (eqb chars (baseOf (now (rec .entry))) && (leb (length (now (text .entry))) maxSize && leb (textStart count + length (now (text .entry))) room)) ⌝ }
 {
     if chars != reader::core::base(rec) {
         return false;
@@ -133,26 +133,26 @@ fn surely_fits(rec: &[u8], records: usize, text: &[u8], chars: usize, room: usiz
     if MAX_SIZE < text.len() {
         return false;
     }
-    layout::core::text_start(records) + text.len() <= room
+    layout::core::text_start(count) + text.len() <= room
 }
 
 // Else a first run yields the sizes and writes nothing.
 fn measure_then_write(
     rec: &[u8],
-    records: usize,
+    count: usize,
     text: &[u8],
     chars: usize,
     out: &mut [u8],
 ) -> Written
-    requires { ⌜ (recordFault (now rec) ≡ 0) × (records ≡ recordsOf (now rec)) × (records ≤ maxOps) × T (wellFormed (now text)) × (chars ≡ numChars (now text)) ⌝ }
+    requires { ⌜ (recordFault (now rec) ≡ 0) × (count ≡ opCountOf (now rec)) × (count ≤ maxOps) × T (wellFormed (now text)) × (chars ≡ numChars (now text)) ⌝ }
     ensures { λ r. ⌜ Gives (deliver 0 (invertOf (ops (now (rec .entry))) (charsOf (now (text .entry)))) (now (out .entry))) r (now (out .exit)) ⌝ }
 {
     let mut none = [0u8; 0];
-    let e = invert_into(rec, records, text, chars, &mut none, records);
+    let e = invert_into(rec, count, text, chars, &mut none, count);
     match emitter::core::limits_then_room(e, out.len()) {
         Written::Refused(x) => Written::Refused(x),
         Written::Bytes(k) => {
-            write(rec, records, text, chars, out, e.records);
+            write(rec, count, text, chars, out, e.ops);
             Written::Bytes(k)
         }
     }
@@ -163,11 +163,11 @@ fn inverted(rec: &[u8], text: &[u8], chars: usize, out: &mut [u8]) -> Written
     requires { ⌜ (recordFault (now rec) ≡ 0) × T (wellFormed (now text)) × (chars ≡ numChars (now text)) ⌝ }
     ensures { λ r. ⌜ Gives (deliver 0 (invertOf (ops (now (rec .entry))) (charsOf (now (text .entry)))) (now (out .entry))) r (now (out .exit)) ⌝ }
 {
-    let records = reader::core::records(rec);
-    if surely_fits(rec, records, text, chars, out.len()) {
-        return invert_in_place::core::write_in_place(rec, records, text, chars, out);
+    let count = reader::core::op_count(rec);
+    if surely_fits(rec, count, text, chars, out.len()) {
+        return invert_in_place::core::write_in_place(rec, count, text, chars, out);
     }
-    measure_then_write(rec, records, text, chars, out)
+    measure_then_write(rec, count, text, chars, out)
 }
 
 // The sequence that undoes the record's on the text that it was applied to.

@@ -24,7 +24,7 @@ use Rattle.edits.proofs.Kept.{typed-lasts}
 use Rattle.answers.specs.declared.Written.the-variants.{Bytes}
 use Rattle.answers.specs.InnerGiven.{Gives}
 use Rattle.record.specs.Record.{inBytes, text, ops, recordFault}
-use Rattle.record.specs.Layout.{recordsOf, baseOf, textStart}
+use Rattle.record.specs.Layout.{opCountOf, baseOf, textStart}
 use Rattle.record.proofs.Sequences.{Limits, fits-limits}
 use Rattle.record.proofs.Records.{ops-length, ops-base, ops-good}
 use Rattle.operational_transform.specs.Calls.{deliver}
@@ -87,32 +87,32 @@ module _ (r t : List ℕ) (z : recordFault r ≡ 0) (w : T (wellFormed t)) (n : 
   pub inverse-text : length (text (map inBytes inverse)) ≤ length t
   inverse-text = omega (arith, invert-text (ops r) (chars t), ap length (bytes-chars t w))
 
-  inverse-limits : length t ≤ 32768 → length inverse ≡ recordsOf r → Limits inverse
+  inverse-limits : length t ≤ 32768 → length inverse ≡ opCountOf r → Limits inverse
   inverse-limits l m =
       let g = fits-limits (ops r) .0 (ops-good r z .in-limits) in
       record {
-        records = omega (arith, g .records, ops-length r z);
+        ops = omega (arith, g .ops, ops-length r z);
         text-bytes = omega (arith, inverse-text);
         bases = omega (arith, g .targets, invert-base (ops r) (chars t));
         targets = omega (arith, g .bases, invert-target (ops r) (chars t) enough);
       }
 
   -- so, where it has as many operations as the record, nothing is refused, and a run with places for so many leaves what is to be delivered
-  module _ (l : length t ≤ 32768) (records : ℕ) (p : records ≡ recordsOf r) (m : length inverse ≡ records) (o : List ℕ) (room : textStart records + length t ≤ length o) where
-    pub straight-gives : (o′ : List ℕ) (k : ℕ) → k ≡ textStart records + length (text (map inBytes inverse)) → Writes records inverse o o′ → Gives (deliver 0 inverse o) (Bytes k) o′
+  module _ (l : length t ≤ 32768) (count : ℕ) (p : count ≡ opCountOf r) (m : length inverse ≡ count) (o : List ℕ) (room : textStart count + length t ≤ length o) where
+    pub straight-gives : (o′ : List ℕ) (k : ℕ) → k ≡ textStart count + length (text (map inBytes inverse)) → Writes count inverse o o′ → Gives (deliver 0 inverse o) (Bytes k) o′
     straight-gives o′ k q u =
         let e = u .emitter in
         let d = u .done in
-        let n : e .records ≡ records = d .sizes .records ∙ m in
+        let n : e .ops ≡ count = d .sizes .ops ∙ m in
         let f = sym (sized-fits inverse e (d .sizes) ∙ holds _ (fits-limits inverse .1 (inverse-limits l (m ∙ p)))) in
-        let j : k ≡ textStart (e .records) + e .text = omega (arith, d .sizes .text-bytes) in
+        let j : k ≡ textStart (e .ops) + e .text = omega (arith, d .sizes .text-bytes) in
         gives-written inverse o e o (u .before) d (Bytes k) (judge-bytes e (length o) true f k refl j (omega (arith, inverse-text))) k o′ refl (rw n u)
 
 -- ---- `evident`
 
-module _ (t : List ℕ) (n b records room : ℕ) where
+module _ (t : List ℕ) (n b count room : ℕ) where
   abbrev evidently : Bool
-  evidently = eqb n b && (leb (length t) 32768 && leb (textStart records + length t) room)
+  evidently = eqb n b && (leb (length t) 32768 && leb (textStart count + length t) room)
 
   -- where the record's base was found to be m
   module _ (m : ℕ) (q : m ≡ b) where
@@ -123,11 +123,11 @@ module _ (t : List ℕ) (n b records room : ℕ) where
       pub evident-long : 32768 < length t → false ≡ evidently
       evident-long h = rw (eq-eqb n b (e ∙ q), lt-leb (length t) 32768 h)
 
-      pub evident-room : (x : ℕ) → length t ≤ 32768 → x ≡ textStart records → leb (x + length t) room ≡ evidently
+      pub evident-room : (x : ℕ) → length t ≤ 32768 → x ≡ textStart count → leb (x + length t) room ≡ evidently
       evident-room x h p = rw (eq-eqb n b (e ∙ q), le-leb (length t) 32768 h, p)
 
   module _ (v : Bool) (p : v ≡ evidently) (y : v ≡ true) where
-    told : (n ≡ b) × T (leb (length t) 32768 && leb (textStart records + length t) room)
+    told : (n ≡ b) × T (leb (length t) 32768 && leb (textStart count + length t) room)
     told = eq-and n b _ .0 (known (sym p ∙ y))
 
     pub evident-base : n ≡ b
@@ -136,5 +136,5 @@ module _ (t : List ℕ) (n b records room : ℕ) where
     pub evident-few : length t ≤ 32768
     evident-few = le-and (length t) 32768 _ .0 (told .1) .0
 
-    pub evident-fits : textStart records + length t ≤ room
-    evident-fits = leb→le (textStart records + length t) room (le-and (length t) 32768 _ .0 (told .1) .1)
+    pub evident-fits : textStart count + length t ≤ room
+    evident-fits = leb→le (textStart count + length t) room (le-and (length t) 32768 _ .0 (told .1) .1)

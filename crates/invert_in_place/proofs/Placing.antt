@@ -26,7 +26,7 @@ use Rattle.edits.proofs.Meaning.{ifZero-elim}
 use Rattle.edits.proofs.Links.{Links, built-links, links-built}
 use Rattle.answers.specs.declared.Written.the-variants.{Bytes}
 use Rattle.answers.specs.InnerGiven.{Gives}
-use Rattle.record.specs.Layout.{kindAt, textStart, kindsStart, countsStart, recordsOf, countAt, baseOf, targetOf}
+use Rattle.record.specs.Layout.{kindAt, textStart, kindsStart, countsStart, opCountOf, countAt, baseOf, targetOf}
 use Rattle.record.specs.Record.{inBytes, code, inserted, inChars, recordFault, text, ops}
 use Rattle.record.specs.InnerFront.{opsLeft, Place}
 use Rattle.record.proofs.Walks.{left-retain, left-insert, sound-next}
@@ -131,11 +131,11 @@ module _ (r : List ℕ) (n k : ℕ) where
       go false u d = (leb-false n (k + 1) u, eqb-true (kindAt r (k + 1)) 3 d)
 
   -- where no delete does, what may follow the insert may follow a delete
-  lone : (at : ℕ) → n ≡ recordsOf r → Place r (k + 1) at → deleteBehind r n k ≡ false → (y : List Char) → T (next (insert y) (opsLeft r (k + 1) at)) → T (next (delete 0) (opsLeft r (k + 1) at))
+  lone : (at : ℕ) → n ≡ opCountOf r → Place r (k + 1) at → deleteBehind r n k ≡ false → (y : List Char) → T (next (insert y) (opsLeft r (k + 1) at)) → T (next (delete 0) (opsLeft r (k + 1) at))
   unfolding opsLeft inChars
   lone at e p d y f = go (leb n (k + 1)) refl d
     where
-      other : (i : k + 1 < recordsOf r) → (kindAt r (k + 1) ≡ 3 → ⊥) → (b : Bool) → eqb (kindAt r (k + 1)) 1 ≡ b → T (next (delete 0) (opsLeft r (k + 1) at))
+      other : (i : k + 1 < opCountOf r) → (kindAt r (k + 1) ≡ 3 → ⊥) → (b : Bool) → eqb (kindAt r (k + 1)) 1 ≡ b → T (next (delete 0) (opsLeft r (k + 1) at))
       other i z true u = rw (ap (map inChars) (left-retain r (k + 1) i at (eqb-true (kindAt r (k + 1)) 1 u))) tt
       other i z false u =
           let j = eqb-false (kindAt r (k + 1)) 1 u in
@@ -295,7 +295,7 @@ module _ {n : ℕ} {r t o₀ : List ℕ} {s : Inversion} {o : List ℕ} (g : Und
 -- ---- `undo_insert`, `undo`
 
 -- the record at k, as the code finds it
-module _ (n : ℕ) (r t : List ℕ) (s : Inversion) (g : Reached n r t s) (e : n ≡ recordsOf r) (h : s .k < n) (kind count : ℕ) (q : kind ≡ kindAt r (s .k)) (c : count ≡ countAt r (s .k)) (small : count < 65536) (o : List ℕ) where
+module _ (n : ℕ) (r t : List ℕ) (s : Inversion) (g : Reached n r t s) (e : n ≡ opCountOf r) (h : s .k < n) (kind count : ℕ) (q : kind ≡ kindAt r (s .k)) (c : count ≡ countAt r (s .k)) (small : count < 65536) (o : List ℕ) where
   module _ (z : kind ≡ 1) (o′ : List ℕ) (w : o′ ≡ writtenOp n (s .k) 1 count o) where
     retains : Begins r (s .k) (s .from) (retain count) (s .from)
     retains = begins-retain r n (s .k) (s .from) kind count e (g .place) h q c small z
@@ -341,10 +341,10 @@ module _ (n : ℕ) (r t : List ℕ) (s : Inversion) (g : Reached n r t s) (e : n
         there p w = rw p w
 
   pub kind-insert : (kind ≡ 1 → ⊥) → (kind ≡ 3 → ⊥) → kindAt r (s .k) ≡ 2
-  kind-insert x z = let i : s .k < recordsOf r = omega arith in let f = sound-next r (s .k) i (g .place .sound) in omega (arith, f .least, f .most)
+  kind-insert x z = let i : s .k < opCountOf r = omega arith in let f = sound-next r (s .k) i (g .place .sound) in omega (arith, f .least, f .most)
 
 -- an insert
-module _ (n : ℕ) (r t : List ℕ) (s : Inversion) (g : Reached n r t s) (e : n ≡ recordsOf r) (h : s .k < n) (count : ℕ) (q : kindAt r (s .k) ≡ 2) (c : count ≡ countAt r (s .k)) (small : count < 65536) where
+module _ (n : ℕ) (r t : List ℕ) (s : Inversion) (g : Reached n r t s) (e : n ≡ opCountOf r) (h : s .k < n) (count : ℕ) (q : kindAt r (s .k) ≡ 2) (c : count ≡ countAt r (s .k)) (small : count < 65536) where
   pub text-in : s .from + count ≤ length r
   text-in = load-room r n (s .k) (s .from) 2 count e (g .place) h (sym q) c small refl
 
@@ -376,7 +376,7 @@ module _ (n : ℕ) (r t : List ℕ) (s : Inversion) (g : Reached n r t s) (e : n
       more-follow : s .k + 1 < n
       more-follow = found r n (s .k) (sym f ∙ y) .0
 
-      pub next-in : s .k + 1 < recordsOf r
+      pub next-in : s .k + 1 < opCountOf r
       next-in = rw (← e) more-follow
 
       pub next-room : textStart n ≤ length o → countsStart n + 2 * (s .k + 1) + 1 < length o
@@ -394,7 +394,7 @@ module _ (n : ℕ) (r t : List ℕ) (s : Inversion) (g : Reached n r t s) (e : n
 
 -- ---- `straight`
 
-module _ (n : ℕ) (r t : List ℕ) (z : recordFault r ≡ 0) (e : n ≡ recordsOf r) (start : ℕ) (ps : start ≡ textStart n) where
+module _ (n : ℕ) (r t : List ℕ) (z : recordFault r ≡ 0) (e : n ≡ opCountOf r) (start : ℕ) (ps : start ≡ textStart n) where
   module _ (l : n ≤ 1024) (w : T (wellFormed t)) (num : ℕ) (c : num ≡ numChars t) (b : num ≡ baseOf r) (o : List ℕ) where
     pub undone-start : Undone n r t o (record { k = 0; from = start; at = 0; put = start }) o
     unfolding laid textsOf
@@ -424,7 +424,7 @@ pub undone-more : (n : ℕ) (r t o : List ℕ) (s : Inversion) (o₁ : List ℕ)
 undone-more n r t o s o₁ g u o₂ w = w .keeps o g
 
 -- all is undone, and the sizes are written
-module _ (n : ℕ) (r t : List ℕ) (z : recordFault r ≡ 0) (e : n ≡ recordsOf r) (w : T (wellFormed t)) (num : ℕ) (c : num ≡ numChars t) (b : num ≡ baseOf r) (l : length t ≤ 32768) (o : List ℕ) (room : textStart n + length t ≤ length o) (start : ℕ) (ps : start ≡ textStart n) (s : Inversion) (o₁ : List ℕ) (g : Undone n r t o s o₁) (h : n ≤ s .k) where
+module _ (n : ℕ) (r t : List ℕ) (z : recordFault r ≡ 0) (e : n ≡ opCountOf r) (w : T (wellFormed t)) (num : ℕ) (c : num ≡ numChars t) (b : num ≡ baseOf r) (l : length t ≤ 32768) (o : List ℕ) (room : textStart n + length t ≤ length o) (start : ℕ) (ps : start ≡ textStart n) (s : Inversion) (o₁ : List ℕ) (g : Undone n r t o s o₁) (h : n ≤ s .k) where
   is-held : invert (ops r) (chars t) ≡ reverse (g .held)
   unfolding invert build addAll
   is-held = ap reverse (sym (ap (λ q. addAll (g .held) (undoAll q (chars (drop (s .at) t)))) (sym (begins-none r n (s .k) (s .from) e h)) ∙ g .all))
@@ -440,15 +440,15 @@ module _ (n : ℕ) (r t : List ℕ) (z : recordFault r ≡ 0) (e : n ≡ records
       → Gives (deliver 0 (invert (ops r) (chars t)) o) (Bytes (s .put)) o′
   undone-gives after before pa pb {o₂} {o₃} {o₄} {o′} w₀ w₂ w₄ w₆ =
       let f = fits-limits (ops r) .0 (ops-good r z .in-limits) in
-      let sizes : Emitter = record { ins = 0; del = 0; ret = 0; records = n; text = s .put - start; base = after; target = before } in
+      let sizes : Emitter = record { ins = 0; del = 0; ret = 0; ops = n; text = s .put - start; base = after; target = before } in
       straight-gives r t z w num c b l n e undone-length o room o′ (s .put) (omega (arith, has-text, g .texts))
       (record {
         emitter = sizes;
         before = o₁;
         done = record {
-          small = omega (arith, f .records, f .bases, f .targets, ops-length r z, ops-base r z, ops-target r z, has-text, inverse-text r t z w num c b);
+          small = omega (arith, f .ops, f .bases, f .targets, ops-length r z, ops-base r z, ops-target r z, has-text, inverse-text r t z w num c b);
           sizes = record {
-            records = sym undone-length;
+            ops = sym undone-length;
             text-bytes = has-text;
             base-is = pa ∙ sym (ops-target r z) ∙ sym (invert-base (ops r) (chars t));
             target-is = pb ∙ sym (ops-base r z) ∙ sym (invert-target (ops r) (chars t) (enough-chars r t z w num c b));

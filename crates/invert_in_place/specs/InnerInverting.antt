@@ -30,7 +30,7 @@ undone f t = cond (eqb (f .kind) retainKind) (retain (f .left)) (cond (eqb (f .k
 
 -- the front is a retain, the last of so many records
 abbrev pub lastRetain : Front → ℕ → Bool
-lastRetain f records = cond (eqb (f .kind) retainKind) (leb records (f .next)) false
+lastRetain f count = cond (eqb (f .kind) retainKind) (leb count (f .next)) false
 
 -- ---- each record at its place at once
 

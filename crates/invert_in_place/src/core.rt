@@ -13,7 +13,7 @@ ghost use Rattle.characters.specs.InnerPlaces.{Passes};
 ghost use Rattle.characters.specs.Text.{chars as charsOf};
 ghost use Rattle.edits.specs.Invert.{invert as invertOf};
 ghost use Rattle.answers.specs.InnerGiven.{Gives};
-ghost use Rattle.record.specs.Layout.{textStart, maxOps, maxSize, recordsOf, kindAt, countAt, baseOf};
+ghost use Rattle.record.specs.Layout.{textStart, maxOps, maxSize, opCountOf, kindAt, countAt, baseOf};
 ghost use Rattle.record.specs.Record.{recordFault, ops};
 ghost use Rattle.operational_transform.specs.Calls.{deliver};
 ghost use Rattle.invert_in_place.specs.InnerInverting.{Restores, restored, deleteBehind, Reached, Undoes};
@@ -82,7 +82,7 @@ fn undo_delete(
 
 // Whether a delete stands behind record k of n.
 fn delete_follows(rec: &[u8], n: usize, k: usize) -> bool
-    requires { ⌜ (recordFault (now rec) ≡ 0) × (n ≡ recordsOf (now rec)) × (k < n) ⌝ }
+    requires { ⌜ (recordFault (now rec) ≡ 0) × (n ≡ opCountOf (now rec)) × (k < n) ⌝ }
     ensures { λ r. ⌜ r ≡ deleteBehind (now (rec .entry)) n k ⌝ }
 {
     if k + 1 < n {
@@ -101,7 +101,7 @@ fn undo_insert(
     s: Inversion,
     count: usize,
 ) -> Inversion
-    requires { ⌜ (recordFault (now rec) ≡ 0) × (n ≡ recordsOf (now rec)) × (chars ≡ numChars (now text)) × (length (now text) ≤ maxSize) × (textStart n ≤ length (now out)) × Reached n (now rec) (now text) s × (s .k < n) × (kindAt (now rec) (s .k) ≡ 2) × (count ≡ countAt (now rec) (s .k)) × (count < 65536) ⌝ }
+    requires { ⌜ (recordFault (now rec) ≡ 0) × (n ≡ opCountOf (now rec)) × (chars ≡ numChars (now text)) × (length (now text) ≤ maxSize) × (textStart n ≤ length (now out)) × Reached n (now rec) (now text) s × (s .k < n) × (kindAt (now rec) (s .k) ≡ 2) × (count ≡ countAt (now rec) (s .k)) × (count < 65536) ⌝ }
     ensures { λ u. ⌜ Undoes n (now (rec .entry)) (now (text .entry)) s (now (out .entry)) u (now (out .exit)) ⌝ }
 {
     let k = s.k;
@@ -129,7 +129,7 @@ fn undo_insert(
 
 // The next operation, or an insert and the delete behind it. Behind a last retain no character is asked for.
 fn undo(rec: &[u8], n: usize, text: &[u8], chars: usize, out: &mut [u8], s: Inversion) -> Inversion
-    requires { ⌜ (recordFault (now rec) ≡ 0) × (n ≡ recordsOf (now rec)) × (chars ≡ numChars (now text)) × (length (now text) ≤ maxSize) × (textStart n ≤ length (now out)) × Reached n (now rec) (now text) s × (s .k < n) ⌝ }
+    requires { ⌜ (recordFault (now rec) ≡ 0) × (n ≡ opCountOf (now rec)) × (chars ≡ numChars (now text)) × (length (now text) ≤ maxSize) × (textStart n ≤ length (now out)) × Reached n (now rec) (now text) s × (s .k < n) ⌝ }
     ensures { λ u. ⌜ Undoes n (now (rec .entry)) (now (text .entry)) s (now (out .entry)) u (now (out .exit)) ⌝ }
 {
     let kind = reader::core::kind(rec, s.k);
@@ -161,25 +161,25 @@ fn undo(rec: &[u8], n: usize, text: &[u8], chars: usize, out: &mut [u8], s: Inve
 // Where nothing can be refused each record is written to its place at once.
 pub fn write_in_place(
     rec: &[u8],
-    records: usize,
+    count: usize,
     text: &[u8],
     chars: usize,
     out: &mut [u8],
 ) -> Written
-    requires { ⌜ (recordFault (now rec) ≡ 0) × (records ≡ recordsOf (now rec)) × (records ≤ maxOps) × T (wellFormed (now text)) × (chars ≡ numChars (now text)) × (chars ≡ baseOf (now rec)) × (length (now text) ≤ maxSize) × (textStart records + length (now text) ≤ length (now out)) ⌝ }
+    requires { ⌜ (recordFault (now rec) ≡ 0) × (count ≡ opCountOf (now rec)) × (count ≤ maxOps) × T (wellFormed (now text)) × (chars ≡ numChars (now text)) × (chars ≡ baseOf (now rec)) × (length (now text) ≤ maxSize) × (textStart count + length (now text) ≤ length (now out)) ⌝ }
     ensures { λ r. ⌜ Gives (deliver 0 (invertOf (ops (now (rec .entry))) (charsOf (now (text .entry)))) (now (out .entry))) r (now (out .exit)) ⌝ }
 {
-    let start = layout::core::text_start(records);
+    let start = layout::core::text_start(count);
     let mut s = Inversion {
         k: 0,
         from: start,
         at: 0,
         put: start,
     };
-    while s.k < records {
-        s = undo(rec, records, text, chars, out, s);
+    while s.k < count {
+        s = undo(rec, count, text, chars, out, s);
     }
-    buffers::core::put16(out, 0, records);
+    buffers::core::put16(out, 0, count);
     buffers::core::put16(out, 2, s.put - start);
     // base and target change places
     buffers::core::put16(out, 4, reader::core::target(rec));

@@ -4,11 +4,11 @@ use record::core::OP_BYTES;
 ghost use mathlib.Core.Path.{_≡_};
 ghost use Prim.Native.Nat.{_≤_, _<_, _+_, _^_, _*_};
 ghost use lib.ListN.{length};
-ghost use Rattle.record.specs.Layout.{recordsOf, textBytesOf, baseOf, targetOf, kindsStart, countsStart, textStart, kindAt, countAt};
+ghost use Rattle.record.specs.Layout.{opCountOf, textBytesOf, baseOf, targetOf, kindsStart, countsStart, textStart, kindAt, countAt};
 
-pub fn records(rec: &[u8]) -> usize
+pub fn op_count(rec: &[u8]) -> usize
     requires { ⌜ 8 ≤ length (now rec) ⌝ }
-    ensures { λ r. ⌜ (r ≡ recordsOf (now (rec .entry))) × (r < 65536) ⌝ }
+    ensures { λ r. ⌜ (r ≡ opCountOf (now (rec .entry))) × (r < 65536) ⌝ }
 {
     buffers::core::word(rec, 0)
 }
@@ -57,7 +57,7 @@ pub fn text_start(n: usize) -> usize
 }
 
 pub fn kind(rec: &[u8], k: usize) -> u8
-    requires { ⌜ (textStart (recordsOf (now rec)) ≤ length (now rec)) × (k < recordsOf (now rec)) ⌝ }
+    requires { ⌜ (textStart (opCountOf (now rec)) ≤ length (now rec)) × (k < opCountOf (now rec)) ⌝ }
     ensures { λ r. ⌜ r ≡ kindAt (now (rec .entry)) k ⌝ }
 {
     rec[kind_place(k)]
@@ -65,7 +65,7 @@ pub fn kind(rec: &[u8], k: usize) -> u8
 
 // The count of record k of n.
 pub fn count(rec: &[u8], n: usize, k: usize) -> usize
-    requires { ⌜ (n ≡ recordsOf (now rec)) × (textStart (recordsOf (now rec)) ≤ length (now rec)) × (k < recordsOf (now rec)) ⌝ }
+    requires { ⌜ (n ≡ opCountOf (now rec)) × (textStart (opCountOf (now rec)) ≤ length (now rec)) × (k < opCountOf (now rec)) ⌝ }
     ensures { λ r. ⌜ (r ≡ countAt (now (rec .entry)) k) × (r < 65536) ⌝ }
 {
     buffers::core::word(rec, count_place(n, k))

@@ -21,7 +21,7 @@ use Rattle.answers.specs.declared.Refusal.{Refusal}
 use Rattle.answers.specs.declared.Fact.{Fact}
 use Rattle.answers.specs.declared.Fact.the-variants as fact
 use Rattle.answers.specs.declared.Noop.the-variants as noop
-use Rattle.record.specs.Layout.{recordsOf, textBytesOf, baseOf, textStart, targetOf, sizeOf, kindAt, countAt}
+use Rattle.record.specs.Layout.{opCountOf, textBytesOf, baseOf, textStart, targetOf, sizeOf, kindAt, countAt}
 use Rattle.record.specs.Record.{byteOps, inLimits, sound, wellInserted, givesChars, entries, soundEntry, textOf, insertBytes, adds, recordFault, ByteSeq, inChars, inserted, ops}
 use Rattle.record.specs.Calls.{checkCall, baseCall, targetCall, noEffect, noopCall, textCall, textFrom}
 use Rattle.record.specs.InnerFront.{byteOpsLeft}
@@ -66,7 +66,7 @@ pub record Agreed (r : List ℕ) (n t g : ℕ) : Type 0 where
   pub chain : chained (byteOps r) ≡ true
   pub base-is : base (byteOps r) ≡ baseOf r
   pub target-is : g ≡ total givesChars (byteOps r)
-  pub records : n ≡ recordsOf r
+  pub ops : n ≡ opCountOf r
   pub text-bytes : t ≡ textBytesOf r
   pub few : n ≤ 1024
   pub short : t ≤ 32768
@@ -91,7 +91,7 @@ module _ (r : List ℕ) (a : Bool) (pa : a ≡ inLimits r) where
     pub has-header : 8 ≤ length r
     has-header = bounds .header
 
-    module _ (n : ℕ) (pn : n ≡ recordsOf r) where
+    module _ (n : ℕ) (pn : n ≡ opCountOf r) where
       pub few-entries : n ≤ 1024
       few-entries = omega (arith, bounds)
 
@@ -124,7 +124,7 @@ module _ (r : List ℕ) (a : Bool) (pa : a ≡ inLimits r) where
           is-sound = rw (given .0, eq-eqb (insertBytes (entries r)) (textBytesOf r) adds-up)
 
           pub sounds : Sound r
-          sounds = record { few = bounds .records; short = bounds .text-bytes; room = bounds .whole; entries-sound = known (given .0); adds-up = adds-up }
+          sounds = record { few = bounds .ops; short = bounds .text-bytes; room = bounds .whole; entries-sound = known (given .0); adds-up = adds-up }
 
           module _ (o : Inserted) (po : o ≡ insertedOf r) where
             pub check-3 : o ≡ IllFormed → refused 3 ≡ checkCall r
@@ -145,7 +145,7 @@ module _ (r : List ℕ) (a : Bool) (pa : a ≡ inLimits r) where
                 unfolding checkCall recordFault adds
                 check-5 u = rw (limited, is-sound, texts .0, sym (sums .ordered) ∙ not-false (q .ordered) ml, ne-eqb (base (byteOps r)) (baseOf r) (λ z. u (sums .base-is ∙ z ∙ sym pb)))
 
-                pub agreed : (n : ℕ) → n ≡ recordsOf r → q .base ≡ b′ → Agreed r n t (q .kept + c)
+                pub agreed : (n : ℕ) → n ≡ opCountOf r → q .base ≡ b′ → Agreed r n t (q .kept + c)
                 unfolding textOf
                 agreed n pn mb =
                     record {
@@ -155,11 +155,11 @@ module _ (r : List ℕ) (a : Bool) (pa : a ≡ inLimits r) where
                       chain = sym (sums .ordered) ∙ not-false (q .ordered) ml;
                       base-is = sym (sums .base-is) ∙ mb ∙ pb;
                       target-is = rw (texts .1) at (sums .target-is adds-up);
-                      records = pn;
+                      ops = pn;
                       text-bytes = pt;
                       few = omega (arith, bounds);
                       short = omega (arith, bounds);
-                      small = omega (arith, sums .less, bounds, texts .1, num-le (textOf r), length-take (textBytesOf r) (drop (textStart (recordsOf r)) r));
+                      small = omega (arith, sums .less, bounds, texts .1, num-le (textOf r), length-take (textBytesOf r) (drop (textStart (opCountOf r)) r));
                     }
 
 module _ (r : List ℕ) (n t g : ℕ) (a : Agreed r n t g) (g′ : ℕ) (pg : g′ ≡ targetOf r) where
@@ -172,7 +172,7 @@ module _ (r : List ℕ) (n t g : ℕ) (a : Agreed r n t g) (g′ : ℕ) (pg : g�
   unfolding checkCall recordFault adds
   check-0 z pz mg =
       rw (a .in-limits, a .is-sound, a .texts, a .chain, eq-eqb (base (byteOps r)) (baseOf r) (a .base-is), eq-eqb (total givesChars (byteOps r)) (targetOf r) (sym (a .target-is) ∙ mg ∙ pg))
-      (ap (λ k. success (k ∷ [])) (omega (arith, a .records, a .text-bytes)))
+      (ap (λ k. success (k ∷ [])) (omega (arith, a .ops, a .text-bytes)))
 
 -- ---- after the check
 
@@ -181,7 +181,7 @@ pub no-fault : (r : List ℕ) → recordFault r ≡ 0 → Sound r
 no-fault r z =
     let f = faultless r .0 z in
     let l = limits r .0 (f .in-limits) in
-    record { few = l .records; short = l .text-bytes; room = l .whole; entries-sound = f .sound; adds-up = f .adds-up }
+    record { few = l .ops; short = l .text-bytes; room = l .whole; entries-sound = f .sound; adds-up = f .adds-up }
 
 module _ (r : List ℕ) (f : Fact) (p : factOf f ≡ checkCall r) where
   pub base-refused : (x : Refusal) → f ≡ fact.Refused x → refused (number x) ≡ baseCall r
@@ -211,7 +211,7 @@ module _ (r : List ℕ) (f : Fact) (p : factOf f ≡ checkCall r) where
     pub passed-header : 8 ≤ length r
     passed-header = omega (arith, passed-sound)
 
-    pub passed-kinds : textStart (recordsOf r) ≤ length r
+    pub passed-kinds : textStart (opCountOf r) ≤ length r
     passed-kinds = omega (arith, passed-sound)
 
     pub base-is : (b : ℕ) → b ≡ baseOf r → success (b ∷ []) ≡ baseCall r
@@ -224,8 +224,8 @@ module _ (r : List ℕ) (f : Fact) (p : factOf f ≡ checkCall r) where
 
     -- ---- no effect
 
-    module _ (n : ℕ) (pn : n ≡ recordsOf r) where
-      all-ahead : byteOps r ≡ byteOpsLeft r 0 (textStart (recordsOf r))
+    module _ (n : ℕ) (pn : n ≡ opCountOf r) where
+      all-ahead : byteOps r ≡ byteOpsLeft r 0 (textStart (opCountOf r))
       all-ahead = sym (left-all r (passed-sound .adds-up))
 
       noop-by : (m : ℕ) → noEffect (ops r) ≡ m → success (m ∷ []) ≡ noopCall r
@@ -249,7 +249,7 @@ module _ (r : List ℕ) (f : Fact) (p : factOf f ≡ checkCall r) where
         unfolding ops inChars
         noop-one = go (eqb kind 1) refl
           where
-            one : (o : Op ℕ) (m at : ℕ) → byteOpsLeft r 0 (textStart (recordsOf r)) ≡ o ∷ byteOpsLeft r 1 at → noEffect (inChars o ∷ []) ≡ m → success (m ∷ []) ≡ noopCall r
+            one : (o : Op ℕ) (m at : ℕ) → byteOpsLeft r 0 (textStart (opCountOf r)) ≡ o ∷ byteOpsLeft r 1 at → noEffect (inChars o ∷ []) ≡ m → success (m ∷ []) ≡ noopCall r
             one o m at a e = noop-by m (ap (λ q. noEffect (map inChars q)) (all-ahead ∙ a ∙ ap (λ q. o ∷ q) (left-done r 1 at (omega arith))) ∙ e)
 
             go : (b : Bool) → eqb kind 1 ≡ b → noopOf (noop.Is b) ≡ noopCall r
@@ -265,7 +265,7 @@ module _ (r : List ℕ) (f : Fact) (p : factOf f ≡ checkCall r) where
 
     -- ---- the text of record k
 
-    module _ (n k : ℕ) (pn : n ≡ recordsOf r) where
+    module _ (n k : ℕ) (pn : n ≡ opCountOf r) where
       text-by : (x : List ℕ) → x ≡ getD (map inserted (byteOps r)) k [] → x ≡ textCall r k
       unfolding textCall
       text-by x e = rw (passed r f p s q) e
@@ -305,7 +305,7 @@ module _ (r : List ℕ) (f : Fact) (p : factOf f ≡ checkCall r) where
 -- ---- where it begins
 
 -- behind the text of the records before it
-module _ (r : List ℕ) (k from : ℕ) (z : recordFault r ≡ 0) (h : k < recordsOf r) (g : Reached r k from) where
+module _ (r : List ℕ) (k from : ℕ) (z : recordFault r ≡ 0) (h : k < opCountOf r) (g : Reached r k from) where
   pub text-from : from ≡ textFrom r k
   unfolding textFrom
   text-from = omega (arith, g .ends, inserts-all r k (omega arith), no-fault r z .adds-up)
@@ -326,19 +326,19 @@ module _ (r : List ℕ) (k : ℕ) (h : 0 < length (textCall r k)) where
   unfolding checkCall
   checked = rw text-passed
 
-  pub text-index : k < recordsOf r
-  text-index = go (leb (recordsOf r) k) refl
+  pub text-index : k < opCountOf r
+  text-index = go (leb (opCountOf r) k) refl
     where
-      go : (b : Bool) → leb (recordsOf r) k ≡ b → k < recordsOf r
-      go true e = absurd (omega (arith, ap length (text-past r (fact.Is (sizeOf r)) checked (sizeOf r) refl (recordsOf r) k refl (leb-true (recordsOf r) k e))))
-      go false e = leb-false (recordsOf r) k e
+      go : (b : Bool) → leb (opCountOf r) k ≡ b → k < opCountOf r
+      go true e = absurd (omega (arith, ap length (text-past r (fact.Is (sizeOf r)) checked (sizeOf r) refl (opCountOf r) k refl (leb-true (opCountOf r) k e))))
+      go false e = leb-false (opCountOf r) k e
 
   text-kind : kindAt r k ≡ 2
   text-kind = go (eqb (kindAt r k) 2) refl
     where
       go : (b : Bool) → eqb (kindAt r k) 2 ≡ b → kindAt r k ≡ 2
       go true e = eqb-true (kindAt r k) 2 e
-      go false e = absurd (omega (arith, ap length (text-other r (fact.Is (sizeOf r)) checked (sizeOf r) refl (recordsOf r) k refl text-index (kindAt r k) refl (eqb-false (kindAt r k) 2 e))))
+      go false e = absurd (omega (arith, ap length (text-other r (fact.Is (sizeOf r)) checked (sizeOf r) refl (opCountOf r) k refl text-index (kindAt r k) refl (eqb-false (kindAt r k) 2 e))))
 
   reached : Reach r k
   reached = reach r (no-fault r text-passed) k (omega (arith, text-index))
@@ -349,7 +349,7 @@ module _ (r : List ℕ) (k : ℕ) (h : 0 < length (textCall r k)) where
       let from = reached .at in
       let e : from + countAt r k - from ≡ countAt r k = omega arith in
       ap₂ (λ n i. take n (drop i r)) (sym e) (sym (text-from r k from text-passed text-index (reached .reached)))
-      ∙ text-is r (fact.Is (sizeOf r)) checked (sizeOf r) refl (recordsOf r) k refl text-index (kindAt r k) refl from (countAt r k) text-kind (reached .reached) refl
+      ∙ text-is r (fact.Is (sizeOf r)) checked (sizeOf r) refl (opCountOf r) k refl text-index (kindAt r k) refl from (countAt r k) text-kind (reached .reached) refl
 
   pub text-small : length (textCall r k) ≤ 32768
   text-small =

@@ -23,7 +23,7 @@ use Rattle.characters.proofs.Cuts.{loose-first, well-join, well-first, plain-fi
 use Rattle.characters.proofs.Passed.{form-ill, form-well, form-num}
 use Rattle.edits.specs.Built.{kind, chained}
 use Rattle.record.specs.Record.{Entry, insertBytes, operations, wellInserted, soundEntry, entries, byteOps, entriesFrom, entryAt, textOf}
-use Rattle.record.specs.Layout.{recordsOf, textStart, kindAt, countAt, textBytesOf}
+use Rattle.record.specs.Layout.{opCountOf, textStart, kindAt, countAt, textBytesOf}
 use Rattle.record.specs.InnerFront.{byteOpsLeft, entriesLeft}
 use Rattle.record.proofs.Records.{sound-kind}
 use Rattle.record.proofs.Walks.{left-all, left-insert, inserts-more, inserts-same, left-other, entries-done, entries-next, sound-next}
@@ -99,16 +99,16 @@ plain-starts (e ∷ es) t s l h =
 
 -- ---- where the text of a record begins
 
-pub reached-start : (r : List ℕ) (n at : ℕ) → Sound r → n ≡ recordsOf r → at ≡ textStart n → Reached r 0 at
+pub reached-start : (r : List ℕ) (n at : ℕ) → Sound r → n ≡ opCountOf r → at ≡ textStart n → Reached r 0 at
 unfolding entries
 reached-start r n at s e f =
     record {
       whole = s .room;
-      ends = rw (sub-zero (recordsOf r)) (omega (arith, s .adds-up));
+      ends = rw (sub-zero (opCountOf r)) (omega (arith, s .adds-up));
       left = sym (left-all r (s .adds-up)) ∙ ap (byteOpsLeft r 0) (sym (f ∙ ap textStart e));
     }
 
-module _ (r : List ℕ) (n k at kind : ℕ) (h : k < n) (e : n ≡ recordsOf r) (g : Reached r k at) (f : kind ≡ kindAt r k) where
+module _ (r : List ℕ) (n k at kind : ℕ) (h : k < n) (e : n ≡ opCountOf r) (g : Reached r k at) (f : kind ≡ kindAt r k) where
   past : drop (k + 1) (byteOps r) ≡ drop 1 (byteOpsLeft r k at)
   past = sym (drop-drop 1 k (byteOps r)) ∙ ap (drop 1) (g .left)
 
@@ -137,13 +137,13 @@ pub record Reach (r : List ℕ) (k : ℕ) : Type 0 where
   pub reached : Reached r k at
 
 -- every record's text begins somewhere
-pub reach : (r : List ℕ) → Sound r → (k : ℕ) → k ≤ recordsOf r → Reach r k
-reach r s zero h = record { at = textStart (recordsOf r); reached = reached-start r (recordsOf r) (textStart (recordsOf r)) s refl refl }
+pub reach : (r : List ℕ) → Sound r → (k : ℕ) → k ≤ opCountOf r → Reach r k
+reach r s zero h = record { at = textStart (opCountOf r); reached = reached-start r (opCountOf r) (textStart (opCountOf r)) s refl refl }
 reach r s (suc k) h = go (eqb (kindAt r k) 2) refl (reach r s k (omega arith))
   where
     go : (b : Bool) → eqb (kindAt r k) 2 ≡ b → Reach r k → Reach r (suc k)
-    go true e g = record { at = g .at + countAt r k; reached = rw (← add-one k) (reached-insert r (recordsOf r) k (g .at) (kindAt r k) h refl (g .reached) refl (countAt r k) refl (eqb-true (kindAt r k) 2 e)) }
-    go false e g = record { at = g .at; reached = rw (← add-one k) (reached-other r (recordsOf r) k (g .at) (kindAt r k) h refl (g .reached) refl (eqb-false (kindAt r k) 2 e)) }
+    go true e g = record { at = g .at + countAt r k; reached = rw (← add-one k) (reached-insert r (opCountOf r) k (g .at) (kindAt r k) h refl (g .reached) refl (countAt r k) refl (eqb-true (kindAt r k) 2 e)) }
+    go false e g = record { at = g .at; reached = rw (← add-one k) (reached-other r (opCountOf r) k (g .at) (kindAt r k) h refl (g .reached) refl (eqb-false (kindAt r k) 2 e)) }
 
 -- ---- whether inserts begin with a continuation
 
@@ -153,20 +153,20 @@ pub record Starting (r : List ℕ) (k at : ℕ) (w : Bool) : Type 0 where
   pub reached : Reached r k at
   pub same : startWell (entriesLeft r k) (drop at r) ≡ w
 
-pub starting : (r : List ℕ) (n at : ℕ) → Sound r → n ≡ recordsOf r → at ≡ textStart n → Starting r 0 at (startWell (entries r) (drop (textStart n) r))
+pub starting : (r : List ℕ) (n at : ℕ) → Sound r → n ≡ opCountOf r → at ≡ textStart n → Starting r 0 at (startWell (entries r) (drop (textStart n) r))
 unfolding entries
 starting r n at s e f =
-    let z = sub-zero (recordsOf r) in
+    let z = sub-zero (opCountOf r) in
     record {
       sound = rw z (s .entries-sound);
       reached = reached-start r n at s e f;
       same = ap₂ (λ m i. startWell (entriesFrom r 0 m) (drop i r)) z f;
     }
 
-pub starting-end : (r : List ℕ) (n k at : ℕ) {w : Bool} → n ≤ k → n ≡ recordsOf r → Starting r k at w → true ≡ w
+pub starting-end : (r : List ℕ) (n k at : ℕ) {w : Bool} → n ≤ k → n ≡ opCountOf r → Starting r k at w → true ≡ w
 starting-end r n k at h e g = sym (ap (λ es. startWell es (drop at r)) (entries-done r k (omega arith))) ∙ g .same
 
-module _ (r : List ℕ) (n k at kind : ℕ) {w : Bool} (h : k < n) (e : n ≡ recordsOf r) (g : Starting r k at w) (f : kind ≡ kindAt r k) where
+module _ (r : List ℕ) (n k at kind : ℕ) {w : Bool} (h : k < n) (e : n ≡ opCountOf r) (g : Starting r k at w) (f : kind ≡ kindAt r k) where
   front : startWell (entryAt r k ∷ entriesLeft r (k + 1)) (drop at r) ≡ w
   front = sym (ap (λ es. startWell es (drop at r)) (entries-next r k (omega arith))) ∙ g .same
 
@@ -208,7 +208,7 @@ pub record Began (r : List ℕ) (n k at : ℕ) (w : Bool) : Type 0 where
   pub here : k ≤ n → Starting r k at w
   pub past : n ≤ k → true ≡ w
 
-pub began : (r : List ℕ) (n k at : ℕ) {w : Bool} → n ≡ recordsOf r → Starting r k at w → Began r n k at w
+pub began : (r : List ℕ) (n k at : ℕ) {w : Bool} → n ≡ opCountOf r → Starting r k at w → Began r n k at w
 began r n k at e s = record { here = λ h. s; past = λ h. starting-end r n k at h e s }
 
 not-twice : (k l : ℕ) → mayFollow k l ≡ true → k ≡ 2 → l ≡ 2 → ⊥
@@ -216,7 +216,7 @@ unfolding mayFollow
 not-twice k l f p q = absurd (known (sym (ap₂ mayFollow p q) ∙ f))
 
 -- behind an insert, where all neighbours may stand so, one record is passed without a look
-module _ (r : List ℕ) (n k at : ℕ) {w : Bool} (s : Sound r) (e : n ≡ recordsOf r) (z : kindAt r k ≡ 2) (g : Starting r (k + 1) at w) where
+module _ (r : List ℕ) (n k at : ℕ) {w : Bool} (s : Sound r) (e : n ≡ opCountOf r) (z : kindAt r k ≡ 2) (g : Starting r (k + 1) at w) where
   began-second : chained (byteOps r) ≡ true → k + 1 < n → Starting r (k + 1 + 1) at w
   began-second p h =
       let f = ordered-follow r n k e (s .entries-sound) p h in
@@ -237,7 +237,7 @@ module _ (r : List ℕ) (n k at : ℕ) {w : Bool} (s : Sound r) (e : n ≡ recor
 
 -- ---- all inserts at once
 
-module _ (r : List ℕ) (n t from : ℕ) (s : Sound r) (e : n ≡ recordsOf r) (f : t ≡ textBytesOf r) (g : from ≡ textStart n) where
+module _ (r : List ℕ) (n t from : ℕ) (s : Sound r) (e : n ≡ opCountOf r) (f : t ≡ textBytesOf r) (g : from ≡ textStart n) where
   part : take (from + t - from) (drop from r) ≡ textOf r
   unfolding textOf
   part = let z : from + t - from ≡ textBytesOf r = omega arith in ap₂ (λ m i. take m (drop i r)) z (g ∙ ap textStart e)
@@ -245,9 +245,9 @@ module _ (r : List ℕ) (n t from : ℕ) (s : Sound r) (e : n ≡ recordsOf r) (
   each : allOf wellInserted (byteOps r) ≡ (wellFormed (textOf r) && startWell (entries r) (drop (textStart n) r))
   unfolding byteOpsLeft entries textOf
   each =
-      let es = entriesFrom r 0 (recordsOf r) in
-      let u = drop (textStart (recordsOf r)) r in
-      ap (allOf wellInserted) (sym (left-all r (s .adds-up)) ∙ ap (λ m. operations (entriesFrom r 0 m) u) (sub-zero (recordsOf r)))
+      let es = entriesFrom r 0 (opCountOf r) in
+      let u = drop (textStart (opCountOf r)) r in
+      ap (allOf wellInserted) (sym (left-all r (s .adds-up)) ∙ ap (λ m. operations (entriesFrom r 0 m) u) (sub-zero (opCountOf r)))
       ∙ starts-well es u (s .entries-sound) (simp length-drop (omega (arith, s .room, s .adds-up)))
       ∙ ap₂ (λ m i. wellFormed (take m u) && startWell es (drop (textStart i) r)) (s .adds-up) (sym e)
 
@@ -280,12 +280,12 @@ module _ (r : List ℕ) (n t from : ℕ) (s : Sound r) (e : n ≡ recordsOf r) (
       pub text-plain : t ≤ chars → Chars chars ≡ insertedOf r
       unfolding textOf
       text-plain h =
-          let u = drop (textStart (recordsOf r)) r in
+          let u = drop (textStart (opCountOf r)) r in
           let v : insertBytes (entries r) ≤ numChars (take (insertBytes (entries r)) u) = omega (arith, num ∙ ap (λ m. numChars (take m u)) (sym (s .adds-up)), s .adds-up) in
           settled true refl (sym (ap (λ i. startWell (entries r) (drop (textStart i) r)) e ∙ plain-starts (entries r) u (s .entries-sound) (simp length-drop (omega (arith, s .room, s .adds-up))) v))
 
 -- where there is no text, none is looked at
-pub no-text : (r : List ℕ) (n t : ℕ) → Sound r → n ≡ recordsOf r → t ≡ textBytesOf r → t ≡ 0 → Chars 0 ≡ insertedOf r
+pub no-text : (r : List ℕ) (n t : ℕ) → Sound r → n ≡ opCountOf r → t ≡ textBytesOf r → t ≡ 0 → Chars 0 ≡ insertedOf r
 unfolding formOf
 no-text r n t s e f z =
     let from = textStart n in

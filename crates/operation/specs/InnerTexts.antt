@@ -8,7 +8,7 @@ use mathlib.Core.Path.{_≡_}
 use Rattle.buffers.specs.Lists.{allOf}
 use Rattle.characters.specs.Chars.{isCont, numChars}
 use Rattle.record.specs.Record.{Entry, textOf, byteOps, wellInserted, entries, soundEntry, insertBytes}
-use Rattle.record.specs.Layout.{insertKind, recordsOf, textBytesOf, sizeOf, maxOps, maxSize}
+use Rattle.record.specs.Layout.{insertKind, opCountOf, textBytesOf, sizeOf, maxOps, maxSize}
 use Rattle.record.specs.InnerFront.{entriesLeft, byteOpsLeft}
 use Rattle.operation.specs.declared.checks.Inserted.{Inserted}
 use Rattle.operation.specs.declared.checks.Inserted.the-variants.{IllFormed, Chars}
@@ -24,7 +24,7 @@ insertedOf r = cond (allOf wellInserted (byteOps r)) (Chars (numChars (textOf r)
 
 -- neither 1 nor 2 is found
 pub record Sound (r : List ℕ) : Type 0 where
-  pub few : recordsOf r ≤ maxOps
+  pub few : opCountOf r ≤ maxOps
   pub short : textBytesOf r ≤ maxSize
   pub room : sizeOf r ≤ length r
   pub entries-sound : T (allOf soundEntry (entries r))

@@ -9,7 +9,7 @@ ghost use lib.ListN.{drop};
 ghost use Prim.Native.Nat.{_<_};
 ghost use Rattle.edits.specs.Built.{chained};
 ghost use Rattle.record.specs.Record.{inLimits, entries, byteOps};
-ghost use Rattle.record.specs.Layout.{recordsOf, textStart, textBytesOf};
+ghost use Rattle.record.specs.Layout.{opCountOf, textStart, textBytesOf};
 ghost use Rattle.operation.specs.InnerTexts.{startWell, Sound, insertedOf, Reached};
 
 // Refusal 1 is not found.
@@ -19,7 +19,7 @@ pub(crate) fn in_limits(rec: &[u8]) -> bool
     if rec.len() < HEADER {
         return false;
     }
-    let n = layout::core::records(rec);
+    let n = layout::core::op_count(rec);
     if MAX_OPS < n {
         return false;
     }
@@ -41,7 +41,7 @@ pub(crate) fn in_limits(rec: &[u8]) -> bool
 
 // Whether no insert begins with a continuation. Where all neighbours may stand so, none stands directly behind another.
 fn start_well(rec: &[u8], n: usize, ordered: bool) -> bool
-    requires { ⌜ (n ≡ recordsOf (now rec)) × (ordered ≡ chained (byteOps (now rec))) × Sound (now rec) ⌝ }
+    requires { ⌜ (n ≡ opCountOf (now rec)) × (ordered ≡ chained (byteOps (now rec))) × Sound (now rec) ⌝ }
     ensures { λ r. ⌜ r ≡ startWell (entries (now (rec .entry))) (drop (textStart n) (now (rec .entry))) ⌝ }
 {
     let behind = tally::core::pick(ordered, 1) as usize;
@@ -70,7 +70,7 @@ pub(crate) enum Inserted {
 
 // All inserts at once: where the whole is well-formed, each is that begins with no continuation.
 pub(crate) fn inserted_chars(rec: &[u8], n: usize, text: usize, ordered: bool) -> Inserted
-    requires { ⌜ (n ≡ recordsOf (now rec)) × (text ≡ textBytesOf (now rec)) × (ordered ≡ chained (byteOps (now rec))) × Sound (now rec) ⌝ }
+    requires { ⌜ (n ≡ opCountOf (now rec)) × (text ≡ textBytesOf (now rec)) × (ordered ≡ chained (byteOps (now rec))) × Sound (now rec) ⌝ }
     ensures { λ r. ⌜ r ≡ insertedOf (now (rec .entry)) ⌝ }
 {
     if text == 0 {
@@ -92,7 +92,7 @@ pub(crate) fn inserted_chars(rec: &[u8], n: usize, text: usize, ordered: bool) -
 
 // Where the text of record k begins, were it an insert.
 pub(crate) fn text_at(rec: &[u8], n: usize, k: usize) -> usize
-    requires { ⌜ (n ≡ recordsOf (now rec)) × (k < n) × Sound (now rec) ⌝ }
+    requires { ⌜ (n ≡ opCountOf (now rec)) × (k < n) × Sound (now rec) ⌝ }
     ensures { λ r. ⌜ Reached (now (rec .entry)) k r ⌝ }
 {
     let mut at = layout::core::text_start(n);

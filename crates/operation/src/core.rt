@@ -1,13 +1,13 @@
 // What the crates above ask of a record that was checked.
 ghost use mathlib.Core.Path.{_≡_};
 ghost use Prim.Native.Nat.{_≤_, _<_};
-ghost use Rattle.record.specs.Layout.{recordsOf, maxRecord};
+ghost use Rattle.record.specs.Layout.{opCountOf, maxRecord};
 ghost use Rattle.record.specs.Record.{recordFault};
 ghost use Rattle.record.specs.Calls.{textFrom};
 
 // Where the text of record k of n begins, were it an insert.
 pub fn text_from(rec: &[u8], n: usize, k: usize) -> usize
-    requires { ⌜ (recordFault (now rec) ≡ 0) × (n ≡ recordsOf (now rec)) × (k < recordsOf (now rec)) ⌝ }
+    requires { ⌜ (recordFault (now rec) ≡ 0) × (n ≡ opCountOf (now rec)) × (k < opCountOf (now rec)) ⌝ }
     ensures { λ r. ⌜ (r ≡ textFrom (now (rec .entry)) k) × (r ≤ maxRecord) ⌝ }
 {
     crate::checks::text_at(rec, n, k)

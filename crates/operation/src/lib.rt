@@ -18,7 +18,7 @@ pub fn check(rec: &[u8]) -> Fact
     if !checks::in_limits(rec) {
         return Fact::Refused(Refusal::Size);
     }
-    let n = layout::core::records(rec);
+    let n = layout::core::op_count(rec);
     let text = layout::core::text_bytes(rec);
     let tally::core::Entries::Of(sums) = tally::core::sum_up(rec, n) else {
         return Fact::Refused(Refusal::Entry);
@@ -69,7 +69,7 @@ pub fn is_noop(rec: &[u8]) -> Noop
     match check(rec) {
         Fact::Refused(x) => Noop::Refused(x),
         Fact::Is(_) => {
-            let n = layout::core::records(rec);
+            let n = layout::core::op_count(rec);
             if n == 0 {
                 return Noop::Is(true);
             }
@@ -88,7 +88,7 @@ pub fn insert_text(rec: &[u8], k: usize) -> &[u8]
     let Fact::Is(_) = check(rec) else {
         return &rec[0..0];
     };
-    let n = layout::core::records(rec);
+    let n = layout::core::op_count(rec);
     if n <= k {
         return &rec[0..0];
     }

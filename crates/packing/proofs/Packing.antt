@@ -17,7 +17,7 @@ use Rattle.answers.specs.declared.Written.{Written}
 use Rattle.answers.specs.declared.Written.the-variants as written
 use Rattle.answers.specs.declared.WrittenPair.{WrittenPair}
 use Rattle.answers.specs.declared.WrittenPair.the-variants as written-pair
-use Rattle.record.specs.Layout.{recordsOf}
+use Rattle.record.specs.Layout.{opCountOf}
 use Rattle.record.specs.Record.{recordFault}
 use Rattle.record.specs.Calls.{textCall, textFrom}
 use Rattle.operation.proofs.Answers.{text-passed, text-index, text-small}
@@ -74,7 +74,7 @@ module _ (r t : List ℕ) (k : ℕ) (e : t ≡ textCall r k) where
     pub part-passed : recordFault r ≡ 0
     part-passed = text-passed r k some
 
-    pub part-index : k < recordsOf r
+    pub part-index : k < opCountOf r
     part-index = text-index r k some
 
     pub part-small : length t ≤ 32768

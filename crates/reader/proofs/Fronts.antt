@@ -19,7 +19,7 @@ use Rattle.characters.proofs.Leads.{inside}
 use Rattle.characters.proofs.Chars.{num-le, well-all}
 use Rattle.characters.proofs.Places.{skips-plain}
 use Rattle.edits.specs.Op.{retain, insert, delete, size, ifZero, Op, cut, rest}
-use Rattle.record.specs.Layout.{recordsOf, textStart, textBytesOf, sizeOf, kindAt, countAt}
+use Rattle.record.specs.Layout.{opCountOf, textStart, textBytesOf, sizeOf, kindAt, countAt}
 use Rattle.record.specs.Record.{entries, recordFault, inChars, ops, insertBytes, wellInserted, inBytes, inserted}
 use Rattle.record.specs.InnerFront.{Place, byteOpsLeft, opsLeft, ahead, Loads, frontText, frontOp, Stands, entriesLeft, Cut, Leaves}
 use Rattle.record.specs.declared.core.Front.{Front}
@@ -29,14 +29,14 @@ use Rattle.record.proofs.Sequences.{inChars-size}
 
 -- ---- the start of a record
 
-pub place-start : (r : List ℕ) (n at : ℕ) → recordFault r ≡ 0 → n ≡ recordsOf r → at ≡ textStart n → Place r 0 at
+pub place-start : (r : List ℕ) (n at : ℕ) → recordFault r ≡ 0 → n ≡ opCountOf r → at ≡ textStart n → Place r 0 at
 unfolding entries
 place-start r n at z e p =
     let f = faultless r .0 z in
     let l = limits r .0 (f .in-limits) in
-    let u = sub-zero (recordsOf r) in
+    let u = sub-zero (opCountOf r) in
     record {
-      few = l .records;
+      few = l .ops;
       header = omega (arith, l .whole);
       index = omega arith;
       room = rw u (omega (arith, l .whole, f .adds-up));
@@ -44,7 +44,7 @@ place-start r n at z e p =
       texts = rw (p, e, left-all r (f .adds-up)) (f .texts);
     }
 
-pub ops-start : (r : List ℕ) (n at : ℕ) → recordFault r ≡ 0 → n ≡ recordsOf r → at ≡ textStart n → opsLeft r 0 at ≡ ops r
+pub ops-start : (r : List ℕ) (n at : ℕ) → recordFault r ≡ 0 → n ≡ opCountOf r → at ≡ textStart n → opsLeft r 0 at ≡ ops r
 unfolding opsLeft ops
 ops-start r n at z e p =
     let f = faultless r .0 z in
@@ -53,24 +53,24 @@ ops-start r n at z e p =
 pub fault-header : (r : List ℕ) → recordFault r ≡ 0 → 8 ≤ length r
 fault-header r z = limits r .0 (faultless r .0 z .in-limits) .header
 
-pub fault-kinds : (r : List ℕ) → recordFault r ≡ 0 → textStart (recordsOf r) ≤ length r
+pub fault-kinds : (r : List ℕ) → recordFault r ≡ 0 → textStart (opCountOf r) ≤ length r
 fault-kinds r z = omega (arith, limits r .0 (faultless r .0 z .in-limits) .whole)
 
-pub fault-few : (r : List ℕ) (n : ℕ) → recordFault r ≡ 0 → n ≡ recordsOf r → n ≤ 1024
-fault-few r n z e = omega (arith, limits r .0 (faultless r .0 z .in-limits) .records)
+pub fault-few : (r : List ℕ) (n : ℕ) → recordFault r ≡ 0 → n ≡ opCountOf r → n ≤ 1024
+fault-few r n z e = omega (arith, limits r .0 (faultless r .0 z .in-limits) .ops)
 
-module _ (r : List ℕ) {n t z : ℕ} (e : z ≡ textStart n) (p : n ≡ recordsOf r) (q : t ≡ textBytesOf r) where
+module _ (r : List ℕ) {n t z : ℕ} (e : z ≡ textStart n) (p : n ≡ opCountOf r) (q : t ≡ textBytesOf r) where
   pub fault-size : z + t ≡ sizeOf r
   fault-size = cc (e, p, q)
 
   pub fault-small : recordFault r ≡ 0 → z + t ≤ 35848
-  fault-small f = let h = limits r .0 (faultless r .0 f .in-limits) in omega (arith, h .records, h .text-bytes, e, p, q)
+  fault-small f = let h = limits r .0 (faultless r .0 f .in-limits) in omega (arith, h .ops, h .text-bytes, e, p, q)
 
   pub fault-whole : recordFault r ≡ 0 → z + t ≤ length r
   fault-whole f = rw fault-size (limits r .0 (faultless r .0 f .in-limits) .whole)
 
 -- what lies ahead of the first front is the whole sequence
-pub first-ahead : (r : List ℕ) (n at : ℕ) (f : Front) → recordFault r ≡ 0 → n ≡ recordsOf r → at ≡ textStart n → Loads r 0 at f → ahead r f ≡ ops r
+pub first-ahead : (r : List ℕ) (n at : ℕ) (f : Front) → recordFault r ≡ 0 → n ≡ opCountOf r → at ≡ textStart n → Loads r 0 at f → ahead r f ≡ ops r
 first-ahead r n at f z e p l = l .has ∙ ops-start r n at z e p
 
 -- ---- the operation of a front
@@ -130,11 +130,11 @@ pub record Begins (r : List ℕ) (k at : ℕ) (o : Op Char) (to : ℕ) : Type 0 
   pub place : Place r (k + 1) to
   pub has : opsLeft r k at ≡ o ∷ opsLeft r (k + 1) to
 
-pub begins-none : (r : List ℕ) (n k at : ℕ) → n ≡ recordsOf r → n ≤ k → opsLeft r k at ≡ []
+pub begins-none : (r : List ℕ) (n k at : ℕ) → n ≡ opCountOf r → n ≤ k → opsLeft r k at ≡ []
 unfolding opsLeft
 begins-none r n k at e h = ap (map inChars) (left-done r k at (omega arith))
 
-pub load-end : (r : List ℕ) (n k at : ℕ) → n ≡ recordsOf r → Place r k at → n ≤ k → Loads r k at (record { kind = 0; left = 0; from = at; to = at; next = k })
+pub load-end : (r : List ℕ) (n k at : ℕ) → n ≡ opCountOf r → Place r k at → n ≤ k → Loads r k at (record { kind = 0; left = 0; from = at; to = at; next = k })
 unfolding ahead within
 load-end r n k at e p h =
     record {
@@ -152,8 +152,8 @@ load-end r n k at e p h =
     }
 
 -- the record at k, as the code finds it
-module _ (r : List ℕ) (n k at kind count : ℕ) (e : n ≡ recordsOf r) (p : Place r k at) (h : k < n) (q : kind ≡ kindAt r k) (c : count ≡ countAt r k) (small : count < 65536) where
-  in-range : k < recordsOf r
+module _ (r : List ℕ) (n k at kind count : ℕ) (e : n ≡ opCountOf r) (p : Place r k at) (h : k < n) (q : kind ≡ kindAt r k) (c : count ≡ countAt r k) (small : count < 65536) where
+  in-range : k < opCountOf r
   in-range = omega arith
 
   next : SoundNext r k in-range

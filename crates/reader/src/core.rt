@@ -5,16 +5,16 @@ use record::core::Front;
 ghost use mathlib.Core.Path.{_≡_};
 ghost use Prim.Native.Nat.{_≤_, _<_};
 ghost use lib.ListN.{length};
-ghost use Rattle.record.specs.Layout.{recordsOf, maxOps, baseOf, targetOf, textBytesOf, sizeOf, maxRecord, kindAt, countAt};
+ghost use Rattle.record.specs.Layout.{opCountOf, maxOps, baseOf, targetOf, textBytesOf, sizeOf, maxRecord, kindAt, countAt};
 ghost use Rattle.record.specs.Record.{recordFault, ops};
 ghost use Rattle.record.specs.InnerFront.{Stands, ahead, Place, Loads, Cut, Leaves};
 
 // The sizes that a checked record states.
-pub fn records(rec: &[u8]) -> usize
+pub fn op_count(rec: &[u8]) -> usize
     requires { ⌜ recordFault (now rec) ≡ 0 ⌝ }
-    ensures { λ r. ⌜ (r ≡ recordsOf (now (rec .entry))) × (r ≤ maxOps) ⌝ }
+    ensures { λ r. ⌜ (r ≡ opCountOf (now (rec .entry))) × (r ≤ maxOps) ⌝ }
 {
-    layout::core::records(rec)
+    layout::core::op_count(rec)
 }
 
 pub fn base(rec: &[u8]) -> usize
@@ -44,20 +44,20 @@ pub fn size(rec: &[u8]) -> usize
     requires { ⌜ recordFault (now rec) ≡ 0 ⌝ }
     ensures { λ r. ⌜ (r ≡ sizeOf (now (rec .entry))) × (r ≤ maxRecord) × (r ≤ length (now (rec .entry))) ⌝ }
 {
-    let n = layout::core::records(rec);
+    let n = layout::core::op_count(rec);
     layout::core::text_start(n) + layout::core::text_bytes(rec)
 }
 
 // What stands at record k: its kind, and its count of n.
 pub fn kind(rec: &[u8], k: usize) -> u8
-    requires { ⌜ (recordFault (now rec) ≡ 0) × (k < recordsOf (now rec)) ⌝ }
+    requires { ⌜ (recordFault (now rec) ≡ 0) × (k < opCountOf (now rec)) ⌝ }
     ensures { λ r. ⌜ r ≡ kindAt (now (rec .entry)) k ⌝ }
 {
     layout::core::kind(rec, k)
 }
 
 pub fn count(rec: &[u8], n: usize, k: usize) -> usize
-    requires { ⌜ (recordFault (now rec) ≡ 0) × (n ≡ recordsOf (now rec)) × (k < recordsOf (now rec)) ⌝ }
+    requires { ⌜ (recordFault (now rec) ≡ 0) × (n ≡ opCountOf (now rec)) × (k < opCountOf (now rec)) ⌝ }
     ensures { λ r. ⌜ (r ≡ countAt (now (rec .entry)) k) × (r < 65536) ⌝ }
 {
     layout::core::count(rec, n, k)
@@ -65,7 +65,7 @@ pub fn count(rec: &[u8], n: usize, k: usize) -> usize
 
 // The front of a whole record of n.
 pub fn first_front(rec: &[u8], n: usize) -> Front
-    requires { ⌜ (recordFault (now rec) ≡ 0) × (n ≡ recordsOf (now rec)) × (n ≤ maxOps) ⌝ }
+    requires { ⌜ (recordFault (now rec) ≡ 0) × (n ≡ opCountOf (now rec)) × (n ≤ maxOps) ⌝ }
     ensures { λ f. ⌜ Stands (now (rec .entry)) f × (ahead (now (rec .entry)) f ≡ ops (now (rec .entry))) ⌝ }
 {
     load(rec, n, 0, layout::core::text_start(n))
@@ -73,7 +73,7 @@ pub fn first_front(rec: &[u8], n: usize) -> Front
 
 // The front at record k of n, where the text of the records from k on begins at `at`.
 pub fn load(rec: &[u8], n: usize, k: usize, at: usize) -> Front
-    requires { ⌜ (n ≡ recordsOf (now rec)) × Place (now rec) k at ⌝ }
+    requires { ⌜ (n ≡ opCountOf (now rec)) × Place (now rec) k at ⌝ }
     ensures { λ f. ⌜ Loads (now (rec .entry)) k at f ⌝ }
 {
     if n <= k {
@@ -129,7 +129,7 @@ pub fn cut(rec: &[u8], f: Front, k: usize) -> usize
 
 // What stays in front once k characters are used up, `mid` being their place in the text.
 pub fn rest(rec: &[u8], n: usize, f: Front, k: usize, mid: usize) -> Front
-    requires { ⌜ (n ≡ recordsOf (now rec)) × Stands (now rec) f × (k ≤ f .left) × Cut (now rec) f k mid ⌝ }
+    requires { ⌜ (n ≡ opCountOf (now rec)) × Stands (now rec) f × (k ≤ f .left) × Cut (now rec) f k mid ⌝ }
     ensures { λ g. ⌜ Leaves (now (rec .entry)) f k g ⌝ }
 {
     let left = f.left;

@@ -153,18 +153,18 @@ module _ (e : Seq) (l : List ℕ) (from n left : ℕ) (spot : Progress) (cur par
             let (a, b) = and-eq-true-iff (withinLimits (p .e)) (withinLimits (p .f)) .0 (sym q ∙ not-false v h) in
             record { left = within-fits (s .left) (p .e) (d .left) a; right = within-fits (s .right) (p .f) (d .right) b }
 
-        module _ (slots found : ℕ) (u : Bool) (told : u ≡ (leb (p .e .records) slots && (leb (p .f .records) slots && leb (sizeIn (p .e)) found))) where
+        module _ (slots found : ℕ) (u : Bool) (told : u ≡ (leb (p .e .ops) slots && (leb (p .f .ops) slots && leb (sizeIn (p .e)) found))) where
           pub moving-ready : not u ≡ false → (c : Counts) (next side : List ℕ) → MarkedBoth slots s c next side → Ready slots s p found next side
           moving-ready z c next side m =
-              let (x, y) = and-eq-true-iff (leb (p .e .records) slots) (leb (p .f .records) slots && leb (sizeIn (p .e)) found) .0 (sym told ∙ not-false u z) in
-              let (k, w) = and-eq-true-iff (leb (p .f .records) slots) (leb (sizeIn (p .e)) found) .0 y in
+              let (x, y) = and-eq-true-iff (leb (p .e .ops) slots) (leb (p .f .ops) slots && leb (sizeIn (p .e)) found) .0 (sym told ∙ not-false u z) in
+              let (k, w) = and-eq-true-iff (leb (p .f .ops) slots) (leb (sizeIn (p .e)) found) .0 y in
               record {
                 sized = d;
                 left = m .left;
                 right = m .right;
                 fit = moving-fit;
-                few-left = leb-true (p .e .records) slots x;
-                few-right = leb-true (p .f .records) slots k;
+                few-left = leb-true (p .e .ops) slots x;
+                few-right = leb-true (p .f .ops) slots k;
                 room-left = leb-true (sizeIn (p .e)) found w;
               }
 
@@ -174,9 +174,9 @@ module _ (e : Seq) (l : List ℕ) (from n left : ℕ) (spot : Progress) (cur par
             runs = λ few wide.
                 let m = fits-limits (s .left) .0 (moving-fit .left) in
                 let m′ = fits-limits (s .right) .0 (moving-fit .right) in
-                let x = le-leb (p .e .records) slots (omega (arith, m .records, d .left .records, few)) in
-                let y = le-leb (p .f .records) slots (omega (arith, m′ .records, d .right .records, few)) in
-                let w = le-leb (sizeIn (p .e)) found (omega (arith, m .records, d .left .records, m .text-bytes, d .left .text-bytes, wide, as-found)) in
+                let x = le-leb (p .e .ops) slots (omega (arith, m .ops, d .left .ops, few)) in
+                let y = le-leb (p .f .ops) slots (omega (arith, m′ .ops, d .right .ops, few)) in
+                let w = le-leb (sizeIn (p .e)) found (omega (arith, m .ops, d .left .ops, m .text-bytes, d .left .text-bytes, wide, as-found)) in
                 true≢false (sym (told ∙ rw (x, y, w)) ∙ not-true u z);
           }
 

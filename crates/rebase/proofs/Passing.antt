@@ -16,7 +16,7 @@ use Rattle.edits.specs.Sequence.{Seq}
 use Rattle.edits.specs.Transform.{keepBoth, transform}
 use Rattle.edits.proofs.Claims.{transform-built}
 use Rattle.record.specs.Record.{fits, encode, inBytes, text, ops, recordFault}
-use Rattle.record.specs.Layout.{recordsOf, textBytesOf, textStart, sizeOf}
+use Rattle.record.specs.Layout.{opCountOf, textBytesOf, textStart, sizeOf}
 use Rattle.record.proofs.Sequences.{Good, fits-limits}
 use Rattle.record.proofs.Records.{size-encode, ops-encode, fault-encode, ops-text}
 use Rattle.emitter.specs.declared.core.Emitter.{Emitter}
@@ -50,33 +50,33 @@ keep-both v w u x e h f = rw (sym e ∙ not-false v h) f
 
 module _ (p : Pair) (slots room : ℕ) where
   abbrev pub places : Bool
-  places = leb (p .e .records) slots && (leb (p .f .records) slots && leb (sizeIn (p .e)) room)
+  places = leb (p .e .ops) slots && (leb (p .f .ops) slots && leb (sizeIn (p .e)) room)
 
-  pub places-first : slots < p .e .records → false ≡ places
-  places-first h = rw (lt-leb (p .e .records) slots h)
+  pub places-first : slots < p .e .ops → false ≡ places
+  places-first h = rw (lt-leb (p .e .ops) slots h)
 
-  module _ (g : p .e .records ≤ slots) where
-    pub places-second : slots < p .f .records → false ≡ places
-    places-second h = rw (le-leb (p .e .records) slots g, lt-leb (p .f .records) slots h)
+  module _ (g : p .e .ops ≤ slots) where
+    pub places-second : slots < p .f .ops → false ≡ places
+    places-second h = rw (le-leb (p .e .ops) slots g, lt-leb (p .f .ops) slots h)
 
-    pub places-room : p .f .records ≤ slots → (k : ℕ) → k ≡ sizeIn (p .e) → leb k room ≡ places
-    places-room h k e = rw (le-leb (p .e .records) slots g, le-leb (p .f .records) slots h, e)
+    pub places-room : p .f .ops ≤ slots → (k : ℕ) → k ≡ sizeIn (p .e) → leb k room ≡ places
+    places-room h k e = rw (le-leb (p .e .ops) slots g, le-leb (p .f .ops) slots h, e)
 
 -- ---- from a stage to a place
 
 -- the text of a sequence is that of a record of n operations
-module _ (s : Seq) (e : Emitter) (z : Sizes s e) (r : List ℕ) (f : recordFault r ≡ 0) (n : ℕ) (pn : n ≡ recordsOf r) (t : text (map inBytes s) ≡ text (map inBytes (ops r))) where
+module _ (s : Seq) (e : Emitter) (z : Sizes s e) (r : List ℕ) (f : recordFault r ≡ 0) (n : ℕ) (pn : n ≡ opCountOf r) (t : text (map inBytes s) ≡ text (map inBytes (ops r))) where
   bytes-same : e .text ≡ textBytesOf r
   bytes-same = z .text-bytes ∙ ap length t ∙ ops-text r f
 
   text-inside : textStart n + e .text ≤ length r
   text-inside = omega (arith, bytes-same, pn, bounds r f .whole)
 
-  marked-front : Under (2 ^ 40) e → T (fits s) → (slots : ℕ) (stage : List ℕ) → Marked slots s stage → e .records ≤ slots → textStart slots ≤ length stage → (out out′ : List ℕ) → sizeIn e ≤ length out → out′ ≡ withText slots e stage n r out
+  marked-front : Under (2 ^ 40) e → T (fits s) → (slots : ℕ) (stage : List ℕ) → Marked slots s stage → e .ops ≤ slots → textStart slots ≤ length stage → (out out′ : List ℕ) → sizeIn e ≤ length out → out′ ≡ withText slots e stage n r out
       → out′ ≡ atFront (encode s) out
   marked-front u fit slots stage m few long out out′ space p =
       let w = marked-writes slots s e stage _ out out′ m z u few long (text-there r f n (e .text) pn bytes-same ∙ sym t) p in
-      written-front s (e .records) out (w .emitter) (w .before) out′ (fits-limits s .0 fit) (omega (arith, sized-length s e z, space)) (w .done) (z .records) (w .is)
+      written-front s (e .ops) out (w .emitter) (w .before) out′ (fits-limits s .0 fit) (omega (arith, sized-length s e z, space)) (w .done) (z .ops) (w .is)
 
 module _ (slots : ℕ) (f : Emitter) (side : List ℕ) (n : ℕ) (rec : List ℕ) (from to : ℕ) (parts : List ℕ) where
   -- what goes to a part of a buffer goes to the buffer
@@ -94,7 +94,7 @@ left-good : (x y : Seq) → T (fits (transform order x y .left)) → Good (trans
 unfolding transform
 left-good x y f = record { is-built = transform-built keepBoth order x y .0; in-limits = f }
 
-module _ (slots : ℕ) (edit cur rec : List ℕ) (ne nb : ℕ) (pe : ne ≡ recordsOf edit) (pb : nb ≡ recordsOf rec) (ze : recordFault edit ≡ 0) (zr : recordFault rec ≡ 0) (t : SameText (ops cur) (ops edit)) (next side : List ℕ) (ln : length next ≡ textStart slots) (ls : length side ≡ textStart slots) (p : Pair)
+module _ (slots : ℕ) (edit cur rec : List ℕ) (ne nb : ℕ) (pe : ne ≡ opCountOf edit) (pb : nb ≡ opCountOf rec) (ze : recordFault edit ≡ 0) (zr : recordFault rec ≡ 0) (t : SameText (ops cur) (ops edit)) (next side : List ℕ) (ln : length next ≡ textStart slots) (ls : length side ≡ textStart slots) (p : Pair)
     (r : Ready slots (transform order (ops cur) (ops rec)) p (length cur) next side) where
   left-text : text (map inBytes (transform order (ops cur) (ops rec) .left)) ≡ text (map inBytes (ops edit))
   left-text = text-left (ops cur) (ops rec) ∙ t .same-text

@@ -48,14 +48,14 @@ pub record Ready (slots : ℕ) (s : Sides Char) (p : Pair) (room : ℕ) (next si
   pub left : Marked slots (s .left) next
   pub right : Marked slots (s .right) side
   pub fit : Fit s
-  pub few-left : p .e .records ≤ slots
-  pub few-right : p .f .records ≤ slots
+  pub few-left : p .e .ops ≤ slots
+  pub few-right : p .f .ops ≤ slots
   pub room-left : sizeIn (p .e) ≤ room
 
 -- what was staged, at the front of a buffer, with the text of a record of n operations
 abbrev pub withText : ℕ → Emitter → List ℕ → ℕ → List ℕ → List ℕ → List ℕ
 withText slots e stage n rec out =
-    headed e (relocatedOps slots (e .records) (e .records) stage (over (textStart (e .records)) (take (e .text) (drop (textStart n) rec)) out))
+    headed e (relocatedOps slots (e .ops) (e .ops) stage (over (textStart (e .ops)) (take (e .text) (drop (textStart n) rec)) out))
 
 -- if there is room up to `to`, it stands from `from` on
 pub record StoresCounterpart (slots : ℕ) (f : Emitter) (side : List ℕ) (n : ℕ) (rec : List ℕ) (from to : ℕ) (parts parts′ : List ℕ) : Type 0 where

@@ -10,7 +10,7 @@ ghost use lib.Dec.{leb};
 ghost use lib.ListN.{length, drop};
 ghost use Rattle.characters.specs.Order.{order};
 ghost use Rattle.edits.specs.Transform.{transform as transformOf};
-ghost use Rattle.record.specs.Layout.{textStart, recordsOf, maxOps, baseOf};
+ghost use Rattle.record.specs.Layout.{textStart, opCountOf, maxOps, baseOf};
 ghost use Rattle.record.specs.Record.{ops, recordFault};
 ghost use Rattle.emitter.specs.InnerEmit.{withinLimits, Under, sizeIn};
 ghost use Rattle.log.specs.Log.{editsIn, maxRevisions};
@@ -37,14 +37,14 @@ fn keep_limits(p: Pair) -> bool
 // Whether both sides have places in their stages, and the edit's has room in its buffer.
 fn have_places(p: Pair, slots: usize, room: usize) -> bool
     requires { ⌜ Under (2 ^ 40) (p .e) ⌝ }
-    ensures { λ r. ⌜ r ≡ (leb (p .e .records) slots && (leb (p .f .records) slots && leb (sizeIn (p .e)) room)) ⌝ }
+    ensures { λ r. ⌜ r ≡ (leb (p .e .ops) slots && (leb (p .f .ops) slots && leb (sizeIn (p .e)) room)) ⌝ }
 {
     let e = p.e;
     let f = p.f;
-    if slots < e.records {
+    if slots < e.ops {
         return false;
     }
-    if slots < f.records {
+    if slots < f.ops {
         return false;
     }
     emitter::core::size(e) <= room
@@ -67,7 +67,7 @@ fn store_counterpart(
     rec: &[u8],
     nb: usize,
 )
-    requires { ⌜ (to ≡ from + sizeIn f) × (slots ≤ 2 ^ 40) × (nb ≤ 2 ^ 40) × (f .records ≤ slots) × (textStart slots ≤ length (now side)) × (textStart nb + f .text ≤ length (now rec)) × Under (2 ^ 40) f ⌝ }
+    requires { ⌜ (to ≡ from + sizeIn f) × (slots ≤ 2 ^ 40) × (nb ≤ 2 ^ 40) × (f .ops ≤ slots) × (textStart slots ≤ length (now side)) × (textStart nb + f .text ≤ length (now rec)) × Under (2 ^ 40) f ⌝ }
     ensures { λ _. ⌜ StoresCounterpart slots f (now (side .entry)) nb (now (rec .entry)) from to (now (parts .entry)) (now (parts .exit)) ⌝ }
 {
     if to <= parts.len() {
@@ -89,7 +89,7 @@ fn replace_edit(
     p: Pair,
     spot: Progress,
 ) -> Progress
-    requires { ⌜ (slots ≤ 2 ^ 40) × (ne ≡ recordsOf (now edit)) × (ne ≤ maxOps) × (nb ≡ recordsOf (now rec)) × (nb ≤ maxOps) × (recordFault (now edit) ≡ 0) × (recordFault (now rec) ≡ 0) × SameText (ops (now cur)) (ops (now edit)) × (length (now next) ≡ textStart slots) × (length (now side) ≡ textStart slots) × Ready slots (transformOf order (ops (now cur)) (ops (now rec))) p (length (now cur)) (now next) (now side) × (spot .at ≤ 2 ^ 63) × (spot .bytes ≤ 2 ^ 40) ⌝ }
+    requires { ⌜ (slots ≤ 2 ^ 40) × (ne ≡ opCountOf (now edit)) × (ne ≤ maxOps) × (nb ≡ opCountOf (now rec)) × (nb ≤ maxOps) × (recordFault (now edit) ≡ 0) × (recordFault (now rec) ≡ 0) × SameText (ops (now cur)) (ops (now edit)) × (length (now next) ≡ textStart slots) × (length (now side) ≡ textStart slots) × Ready slots (transformOf order (ops (now cur)) (ops (now rec))) p (length (now cur)) (now next) (now side) × (spot .at ≤ 2 ^ 63) × (spot .bytes ≤ 2 ^ 40) ⌝ }
     ensures { λ r. ⌜ ReplacesEdit (transformOf order (ops (now (cur .entry))) (ops (now (rec .entry)))) (now (rec .entry)) spot r (now (cur .exit)) (now (parts .entry)) (now (parts .exit)) ⌝ }
 {
     let e = p.e;
@@ -118,7 +118,7 @@ pub fn rebase(
     requires { ⌜ (from ≤ length (now log)) × (n ≤ maxRevisions) × RecordsFollow n (baseOf (now edit)) (drop from (now log)) × (recordFault (now edit) ≡ 0) × Holds (ops (now edit)) (now cur) × (length (now next) ≡ textStart slots) × (length (now side) ≡ textStart slots) × (slots ≤ 2 ^ 40) ⌝ }
     ensures { λ r. ⌜ Runs slots (length (now (cur .entry))) (ops (now (edit .entry))) (editsIn n (drop from (now (log .entry)))) r (now (cur .exit)) (now (parts .entry)) (now (parts .exit)) ⌝ }
 {
-    let ne = reader::core::records(edit);
+    let ne = reader::core::op_count(edit);
     let mut spot = Progress { at: from, bytes: 0 };
     let mut left = n;
     'run: loop {
@@ -127,8 +127,8 @@ pub fn rebase(
         }
         let at = spot.at;
         let rec = &log[at..];
-        let na = reader::core::records(cur);
-        let nb = reader::core::records(rec);
+        let na = reader::core::op_count(cur);
+        let nb = reader::core::op_count(rec);
         let mut b = rebase_steps::core::begin(cur, na, rec, nb);
         let p = loop {
             if !rebase_steps::core::goes_on(b) {

@@ -17,7 +17,7 @@ use Rattle.edits.specs.Sequence.{Seq}
 use Rattle.edits.specs.Built.{full, chained, built}
 use Rattle.edits.proofs.Links.{Links, built-links, positive}
 use Rattle.record.specs.Record.{code, Entry, inBytes, text, encode, fits, ByteSeq, entriesFrom, operations, insertBytes, soundEntry, inChars, entries, textOf, byteOps, ops, givesChars, recordFault, wellInserted}
-use Rattle.record.specs.Layout.{textStart, recordsOf, kindsStart, countsStart, textBytesOf, baseOf, targetOf, sizeOf}
+use Rattle.record.specs.Layout.{textStart, opCountOf, kindsStart, countsStart, textBytesOf, baseOf, targetOf, sizeOf}
 use Rattle.record.proofs.Sequences.{fits-limits, inBytes-size, inChars-inBytes, inBytes-well, inBytes-chained, inBytes-base, inBytes-target, Good, inChars-size, inBytes-inChars}
 use Rattle.record.proofs.Faults.{limits, faultless, InLimits, Faultless}
 
@@ -36,7 +36,7 @@ encode-length s = simp (length-append, length-words, length-map) (omega arith)
 
 -- 8 + 3 * 1024 + 32768
 pub encode-small : (s : Seq) → T (fits s) → length (encode s) ≤ 35848
-encode-small s h = let l = fits-limits s .0 h in omega (arith, encode-length s, l .records, l .text-bytes)
+encode-small s h = let l = fits-limits s .0 h in omega (arith, encode-length s, l .ops, l .text-bytes)
 
 getD-front : (r : List ℕ) (i : ℕ) (x : ℕ) (l : List ℕ) → drop i r ≡ x ∷ l → getD r i 0 ≡ x
 getD-front r i x l e = ap (λ j. getD r j 0) (sym (add-zero i)) ∙ sym (getD-drop i r 0 0) ∙ ap (λ l. getD l 0 0) e
@@ -54,12 +54,12 @@ entry-path : {k n k′ n′ : ℕ} → k ≡ k′ → n ≡ n′ → _≡_ {A = 
 entry-path p q = λ i. record { kind = p i; count = q i }
 
 entries-front : (r : List ℕ) (k : ℕ) (q : ByteSeq) (y z : List ℕ) → drop (kindsStart + k) r ≡ map code q ++ y
-    → drop (countsStart (recordsOf r) + 2 * k) r ≡ words (map size q) ++ z → entriesFrom r k (length q) ≡ map entryOf q
+    → drop (countsStart (opCountOf r) + 2 * k) r ≡ words (map size q) ++ z → entriesFrom r k (length q) ≡ map entryOf q
 entries-front r k [] y z e f = refl
 entries-front r k (o ∷ q) y z e f =
-    ap₂ _∷_ (entry-path (getD-front r (kindsStart + k) _ _ e) (word-front r (countsStart (recordsOf r) + 2 * k) (size o) _ f))
+    ap₂ _∷_ (entry-path (getD-front r (kindsStart + k) _ _ e) (word-front r (countsStart (opCountOf r) + 2 * k) (size o) _ f))
     (entries-front r (suc k) q y z (drop-front r (kindsStart + k) (kindsStart + suc k) 1 _ e (omega arith))
-    (drop-front r (countsStart (recordsOf r) + 2 * k) (countsStart (recordsOf r) + 2 * suc k) 2 _ f (omega arith)))
+    (drop-front r (countsStart (opCountOf r) + 2 * k) (countsStart (opCountOf r) + 2 * suc k) 2 _ f (omega arith)))
 
 operations-front : (q : ByteSeq) → operations (map entryOf q) (text q) ≡ q
 operations-front [] = refl
@@ -87,11 +87,11 @@ sound-entries (o ∷ s) h =
     kinds (delete n) = tt
 
 module _ (s : Seq) (more : List ℕ) where
-  sizes : (recordsOf (encode s ++ more) ≡ length s) × (textBytesOf (encode s ++ more) ≡ length (text (map inBytes s))) × (baseOf (encode s ++ more) ≡ base s) × (targetOf (encode s ++ more) ≡ target s)
+  sizes : (opCountOf (encode s ++ more) ≡ length s) × (textBytesOf (encode s ++ more) ≡ length (text (map inBytes s))) × (baseOf (encode s ++ more) ≡ base s) × (targetOf (encode s ++ more) ≡ target s)
   unfolding encode
   sizes = (omega arith, omega arith, omega arith, omega arith)
 
-  pub records-encode : recordsOf (encode s ++ more) ≡ length s
+  pub records-encode : opCountOf (encode s ++ more) ≡ length s
   records-encode = sizes .0
 
   pub base-encode : baseOf (encode s ++ more) ≡ base s
@@ -107,19 +107,19 @@ module _ (s : Seq) (more : List ℕ) where
   unfolding encode
   drop-kinds = simp append-assoc
 
-  pub drop-counts : drop (countsStart (recordsOf (encode s ++ more))) (encode s ++ more) ≡ words (map size (map inBytes s)) ++ (text (map inBytes s) ++ more)
-  drop-counts = drop-front (encode s ++ more) kindsStart _ (recordsOf (encode s ++ more)) _ drop-kinds refl ∙ drop-at (map code (map inBytes s)) _ (recordsOf (encode s ++ more)) (simp length-map (sym records-encode))
+  pub drop-counts : drop (countsStart (opCountOf (encode s ++ more))) (encode s ++ more) ≡ words (map size (map inBytes s)) ++ (text (map inBytes s) ++ more)
+  drop-counts = drop-front (encode s ++ more) kindsStart _ (opCountOf (encode s ++ more)) _ drop-kinds refl ∙ drop-at (map code (map inBytes s)) _ (opCountOf (encode s ++ more)) (simp length-map (sym records-encode))
 
-  drop-text : drop (textStart (recordsOf (encode s ++ more))) (encode s ++ more) ≡ text (map inBytes s) ++ more
+  drop-text : drop (textStart (opCountOf (encode s ++ more))) (encode s ++ more) ≡ text (map inBytes s) ++ more
   drop-text =
-      drop-front (encode s ++ more) (countsStart (recordsOf (encode s ++ more))) (textStart (recordsOf (encode s ++ more))) (2 * recordsOf (encode s ++ more)) _ drop-counts (omega arith)
-      ∙ drop-at (words (map size (map inBytes s))) _ (2 * recordsOf (encode s ++ more)) (length-words (map size (map inBytes s)) ∙ simp length-map (ap (λ n. 2 * n) (sym records-encode)))
+      drop-front (encode s ++ more) (countsStart (opCountOf (encode s ++ more))) (textStart (opCountOf (encode s ++ more))) (2 * opCountOf (encode s ++ more)) _ drop-counts (omega arith)
+      ∙ drop-at (words (map size (map inBytes s))) _ (2 * opCountOf (encode s ++ more)) (length-words (map size (map inBytes s)) ∙ simp length-map (ap (λ n. 2 * n) (sym records-encode)))
 
   entries-encode : entries (encode s ++ more) ≡ map entryOf (map inBytes s)
   unfolding entries
   entries-encode =
       ap (entriesFrom (encode s ++ more) 0) (records-encode ∙ sym (length-map s inBytes))
-      ∙ entries-front (encode s ++ more) 0 (map inBytes s) _ _ drop-kinds (ap (λ n. drop n (encode s ++ more)) (add-zero (countsStart (recordsOf (encode s ++ more)))) ∙ drop-counts)
+      ∙ entries-front (encode s ++ more) 0 (map inBytes s) _ _ drop-kinds (ap (λ n. drop n (encode s ++ more)) (add-zero (countsStart (opCountOf (encode s ++ more)))) ∙ drop-counts)
 
   text-encode : textOf (encode s ++ more) ≡ text (map inBytes s)
   unfolding textOf
@@ -142,7 +142,7 @@ module _ (s : Seq) (more : List ℕ) where
       faultless (encode s ++ more) .1 (record {
         in-limits = limits (encode s ++ more) .1 (record {
           header = omega arith;
-          records = omega (arith, records-encode);
+          ops = omega (arith, records-encode);
           text-bytes = omega (arith, sizes);
           bases = omega (arith, sizes);
           targets = omega (arith, sizes);
@@ -215,14 +215,14 @@ module _ (r : List ℕ) (b : Bytes r) where
       rw (drop-cons r i 0 (omega arith), drop-cons r (suc i) 0 (omega arith))
       (ap₂ (λ p q. p ∷ q ∷ words l) (omega arith) (omega arith))
 
-  words-entries : (k n : ℕ) → countsStart (recordsOf r) + 2 * (k + n) ≤ length r
-      → words (map (λ e. e .count) (entriesFrom r k n)) ≡ take (2 * n) (drop (countsStart (recordsOf r) + 2 * k) r)
+  words-entries : (k n : ℕ) → countsStart (opCountOf r) + 2 * (k + n) ≤ length r
+      → words (map (λ e. e .count) (entriesFrom r k n)) ≡ take (2 * n) (drop (countsStart (opCountOf r) + 2 * k) r)
   words-entries k zero h = refl
   words-entries k (suc n) h =
-      let i = countsStart (recordsOf r) + 2 * k in
+      let i = countsStart (opCountOf r) + 2 * k in
       words-at i (map (λ e. e .count) (entriesFrom r (suc k) n)) (omega arith)
       ∙ ap (λ l. take 2 (drop i r) ++ l) (words-entries (suc k) n (omega arith))
-      ∙ joined r i (countsStart (recordsOf r) + 2 * suc k) 2 (2 * n) (2 * suc n) (omega arith) (omega arith)
+      ∙ joined r i (countsStart (opCountOf r) + 2 * suc k) 2 (2 * n) (2 * suc n) (omega arith) (omega arith)
 
 kinds-entries : (r : List ℕ) (k n : ℕ) → kindsStart + k + n ≤ length r → map (λ e. e .kind) (entriesFrom r k n) ≡ take n (drop (kindsStart + k) r)
 kinds-entries r k zero h = refl
@@ -259,11 +259,11 @@ module _ (r : List ℕ) (z : recordFault r ≡ 0) where
   pub ops-text : length (text (map inBytes (ops r))) ≡ textBytesOf r
   ops-text = ap (λ q. length (text q)) inBytes-ops ∙ ap length inBytes-text ∙ text-length
 
-  pub byteOps-length : length (byteOps r) ≡ recordsOf r
+  pub byteOps-length : length (byteOps r) ≡ opCountOf r
   unfolding entries
-  byteOps-length = sym (length-map (byteOps r) entryOf) ∙ ap length inBytes-entries ∙ length-entries r 0 (recordsOf r)
+  byteOps-length = sym (length-map (byteOps r) entryOf) ∙ ap length inBytes-entries ∙ length-entries r 0 (opCountOf r)
 
-  pub ops-length : length (ops r) ≡ recordsOf r
+  pub ops-length : length (ops r) ≡ opCountOf r
   unfolding ops
   ops-length = length-map (byteOps r) inChars ∙ byteOps-length
 
@@ -281,14 +281,14 @@ module _ (r : List ℕ) (z : recordFault r ≡ 0) where
     is-built = unfold built ops in both (allOf full (map inChars (byteOps r))) _ .1
         (inChars-full (byteOps r) (rw inBytes-entries (facts .sound)) (facts .texts), ops-chained);
     in-limits = fits-limits (ops r) .1 (record {
-      records = omega (arith, ops-length, bounds);
+      ops = omega (arith, ops-length, bounds);
       text-bytes = rw (inBytes-ops, inBytes-text) (omega (arith, text-length, bounds));
       bases = omega (arith, ops-base, bounds);
       targets = omega (arith, ops-target, bounds);
     });
   }
 
-  header : Bytes r → words (recordsOf r ∷ textBytesOf r ∷ baseOf r ∷ targetOf r ∷ []) ≡ take 8 r
+  header : Bytes r → words (opCountOf r ∷ textBytesOf r ∷ baseOf r ∷ targetOf r ∷ []) ≡ take 8 r
   header b =
       words-at r b 0 (textBytesOf r ∷ baseOf r ∷ targetOf r ∷ []) (omega (arith, bounds))
       ∙ ap (λ l. take 2 r ++ l)
@@ -304,7 +304,7 @@ module _ (r : List ℕ) (z : recordFault r ≡ 0) where
   pub encode-ops : Bytes r → encode (ops r) ≡ take (sizeOf r) r
   unfolding encode
   encode-ops b =
-      let R = recordsOf r in
+      let R = opCountOf r in
       let m = textBytesOf r in
       let k : map code (byteOps r) ≡ take R (drop 8 r) =
       sym (map-map (λ (e : Entry). e .kind) entryOf (byteOps r)) ∙ ap (map (λ e. e .kind)) inBytes-entries ∙ unfold entries in kinds-entries r 0 R (omega (arith, bounds)) in

@@ -90,7 +90,7 @@ pub record Good (s : Seq) : Type 0 where
   pub in-limits : T (fits s)
 
 pub record Limits (s : Seq) : Type 0 where
-  pub records : length s ≤ 1024
+  pub ops : length s ≤ 1024
   pub text-bytes : length (text (map inBytes s)) ≤ 32768
   pub bases : base s ≤ 32768
   pub targets : target s ≤ 32768
@@ -102,8 +102,8 @@ fits-limits s = (
       let (a, h₁) = le-and (length s) 1024 _ .0 h in
       let (b, h₂) = le-and (length (text (map inBytes s))) 32768 _ .0 h₁ in
       let (c, d) = le-and (base s) 32768 _ .0 h₂ in
-      record { records = a; text-bytes = b; bases = c; targets = leb→le (target s) 32768 d },
+      record { ops = a; text-bytes = b; bases = c; targets = leb→le (target s) 32768 d },
   λ l.
       le-and (length s) 1024 _ .1
-      (l .records, le-and (length (text (map inBytes s))) 32768 _ .1 (l .text-bytes, le-and (base s) 32768 _ .1 (l .bases, le→leb (target s) 32768 (l .targets)))),
+      (l .ops, le-and (length (text (map inBytes s))) 32768 _ .1 (l .text-bytes, le-and (base s) 32768 _ .1 (l .bases, le→leb (target s) 32768 (l .targets)))),
 )

@@ -14,7 +14,7 @@ use Rattle.edits.specs.Op.{base, target, total}
 use Rattle.edits.specs.Sequence.{Seq}
 use Rattle.edits.specs.Built.{chained}
 use Rattle.answers.specs.Answer.{needs}
-use Rattle.record.specs.Layout.{baseOf, targetOf, sizeOf, recordsOf, textBytesOf, kindsStart, countsStart, textStart}
+use Rattle.record.specs.Layout.{baseOf, targetOf, sizeOf, opCountOf, textBytesOf, kindsStart, countsStart, textStart}
 use Rattle.record.specs.Record.{encode, ops, recordFault, entriesFrom, entries, textOf, operations, byteOps, inChars, inLimits, soundEntry, insertBytes, sound, wellInserted, givesChars, adds}
 use Rattle.record.proofs.Sequences.{Good}
 use Rattle.record.proofs.Records.{Bytes, ops-good, encode-ops, ops-base, ops-target, ops-encode, fault-encode}
@@ -51,7 +51,7 @@ module _ (r more : List ℕ) (l : InLimits r) where
   word : (i : ℕ) → suc i < sizeOf r → wordAt other i ≡ wordAt r i
   word i h = ap₂ (λ x y. x + 256 * y) (at i (omega arith)) (at (suc i) h)
 
-  same-records : recordsOf other ≡ recordsOf r
+  same-records : opCountOf other ≡ opCountOf r
   same-records = word 0 (omega arith)
 
   same-text-bytes : textBytesOf other ≡ textBytesOf r
@@ -60,19 +60,19 @@ module _ (r more : List ℕ) (l : InLimits r) where
   same-size : sizeOf other ≡ sizeOf r
   same-size = omega (arith, same-records, same-text-bytes)
 
-  same-entries : (k n : ℕ) → k + n ≤ recordsOf r → entriesFrom other k n ≡ entriesFrom r k n
+  same-entries : (k n : ℕ) → k + n ≤ opCountOf r → entriesFrom other k n ≡ entriesFrom r k n
   same-entries k zero h = refl
   same-entries k (suc n) h =
-      ap₂ _∷_ (λ i. record { kind = at (kindsStart + k) (omega arith) i; count = (ap (λ m. wordAt other (countsStart m + 2 * k)) same-records ∙ word (countsStart (recordsOf r) + 2 * k) (omega arith)) i }) (same-entries (suc k) n (omega arith))
+      ap₂ _∷_ (λ i. record { kind = at (kindsStart + k) (omega arith) i; count = (ap (λ m. wordAt other (countsStart m + 2 * k)) same-records ∙ word (countsStart (opCountOf r) + 2 * k) (omega arith)) i }) (same-entries (suc k) n (omega arith))
 
   all-entries : entries other ≡ entries r
   unfolding entries
-  all-entries = ap (entriesFrom other 0) same-records ∙ same-entries 0 (recordsOf r) (omega arith)
+  all-entries = ap (entriesFrom other 0) same-records ∙ same-entries 0 (opCountOf r) (omega arith)
 
   same-text : textOf other ≡ textOf r
   unfolding textOf
   same-text =
-      let t = textStart (recordsOf r) in
+      let t = textStart (opCountOf r) in
       let b = textBytesOf r in
       ap₂ (λ n m. take n (drop (textStart m) other)) same-text-bytes same-records
       ∙ ap (take b) (drop-append-le t (take (t + b) r) more (omega (arith, length-take-le (t + b) r (l .whole))) ∙ ap (λ x. x ++ more) (drop-take t b r))
@@ -90,7 +90,7 @@ module _ (r more : List ℕ) (l : InLimits r) where
   still-in =
       limits other .1 (record {
         header = omega (arith, length-append (take (sizeOf r) r) more, length-take-le (sizeOf r) r (l .whole));
-        records = omega (arith, same-records, l .records);
+        ops = omega (arith, same-records, l .ops);
         text-bytes = omega (arith, same-text-bytes, l .text-bytes);
         bases = omega (arith, word 4 (omega arith), l .bases);
         targets = omega (arith, word 6 (omega arith), l .targets);

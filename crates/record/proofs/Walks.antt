@@ -15,25 +15,25 @@ use Rattle.buffers.proofs.Tests.{both}
 use Rattle.characters.specs.Form.{within}
 use Rattle.characters.proofs.Leads.{within-bounds}
 use Rattle.edits.specs.Op.{retain, insert, delete}
-use Rattle.record.specs.Layout.{recordsOf, kindAt, countAt, textBytesOf, textStart}
+use Rattle.record.specs.Layout.{opCountOf, kindAt, countAt, textBytesOf, textStart}
 use Rattle.record.specs.Record.{entryAt, entriesFrom, operation, operations, soundEntry, insertBytes, Entry, entries, textOf, byteOps}
 use Rattle.record.specs.InnerFront.{entriesLeft, byteOpsLeft}
 
 module _ (r : List ℕ) (k : ℕ) where
-  pub entries-next : k < recordsOf r → entriesLeft r k ≡ entryAt r k ∷ entriesLeft r (k + 1)
+  pub entries-next : k < opCountOf r → entriesLeft r k ≡ entryAt r k ∷ entriesLeft r (k + 1)
   entries-next h =
-      let e : recordsOf r - k ≡ suc (recordsOf r - (k + 1)) = omega arith in
-      ap (entriesFrom r k) e ∙ ap (λ j. entryAt r k ∷ entriesFrom r j (recordsOf r - (k + 1))) (sym (add-one k))
+      let e : opCountOf r - k ≡ suc (opCountOf r - (k + 1)) = omega arith in
+      ap (entriesFrom r k) e ∙ ap (λ j. entryAt r k ∷ entriesFrom r j (opCountOf r - (k + 1))) (sym (add-one k))
 
-  pub entries-done : recordsOf r ≤ k → entriesLeft r k ≡ []
-  entries-done h = let e : recordsOf r - k ≡ 0 = omega arith in ap (entriesFrom r k) e
+  pub entries-done : opCountOf r ≤ k → entriesLeft r k ≡ []
+  entries-done h = let e : opCountOf r - k ≡ 0 = omega arith in ap (entriesFrom r k) e
 
-  pub left-done : (at : ℕ) → recordsOf r ≤ k → byteOpsLeft r k at ≡ []
+  pub left-done : (at : ℕ) → opCountOf r ≤ k → byteOpsLeft r k at ≡ []
   unfolding byteOpsLeft
   left-done at h = rw (entries-done h)
 
   -- the record at k
-  module _ (h : k < recordsOf r) where
+  module _ (h : k < opCountOf r) where
     left-next : (at : ℕ) → byteOpsLeft r k at ≡ operation (kindAt r k) (countAt r k) (drop at r) ∷ operations (entriesLeft r (k + 1)) (cond (eqb (kindAt r k) 2) (drop (countAt r k) (drop at r)) (drop at r))
     unfolding byteOpsLeft
     left-next at = ap (λ es. operations es (drop at r)) (entries-next h)
@@ -93,11 +93,11 @@ operations-take (e ∷ es) m t h = go (eqb (e .kind) 2) refl h (λ m u h. operat
     go false p h ih = rw (p, ih m t h)
 
 -- the whole record is what lies ahead at its start
-pub left-all : (r : List ℕ) → insertBytes (entries r) ≡ textBytesOf r → byteOpsLeft r 0 (textStart (recordsOf r)) ≡ byteOps r
+pub left-all : (r : List ℕ) → insertBytes (entries r) ≡ textBytesOf r → byteOpsLeft r 0 (textStart (opCountOf r)) ≡ byteOps r
 unfolding byteOpsLeft byteOps entries textOf
 left-all r e =
-    ap (λ n. operations (entriesFrom r 0 n) (drop (textStart (recordsOf r)) r)) (sub-zero (recordsOf r))
-    ∙ sym (operations-take (entriesFrom r 0 (recordsOf r)) (textBytesOf r) (drop (textStart (recordsOf r)) r) (omega arith))
+    ap (λ n. operations (entriesFrom r 0 n) (drop (textStart (opCountOf r)) r)) (sub-zero (opCountOf r))
+    ∙ sym (operations-take (entriesFrom r 0 (opCountOf r)) (textBytesOf r) (drop (textStart (opCountOf r)) r) (omega arith))
 
 -- the inserts of the records before k and of those from k on are all of them
 inserts-split : (r : List ℕ) (i a b : ℕ) → insertBytes (entriesFrom r i (a + b)) ≡ insertBytes (entriesFrom r i a) + insertBytes (entriesFrom r (i + a) b)
@@ -111,10 +111,10 @@ inserts-split r i (suc a) b =
     go true y z h = omega arith
     go false y z h = h
 
-pub inserts-all : (r : List ℕ) (k : ℕ) → k ≤ recordsOf r → insertBytes (entriesFrom r 0 k) + insertBytes (entriesLeft r k) ≡ insertBytes (entries r)
+pub inserts-all : (r : List ℕ) (k : ℕ) → k ≤ opCountOf r → insertBytes (entriesFrom r 0 k) + insertBytes (entriesLeft r k) ≡ insertBytes (entries r)
 unfolding entries
 inserts-all r k h =
-    let e : k + (recordsOf r - k) ≡ recordsOf r = omega arith in
-    ap (λ j. insertBytes (entriesFrom r 0 k) + insertBytes (entriesFrom r j (recordsOf r - k))) (sym (zero-add k))
-    ∙ sym (inserts-split r 0 k (recordsOf r - k))
+    let e : k + (opCountOf r - k) ≡ opCountOf r = omega arith in
+    ap (λ j. insertBytes (entriesFrom r 0 k) + insertBytes (entriesFrom r j (opCountOf r - k))) (sym (zero-add k))
+    ∙ sym (inserts-split r 0 k (opCountOf r - k))
     ∙ ap (λ n. insertBytes (entriesFrom r 0 n)) e

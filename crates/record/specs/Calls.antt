@@ -6,7 +6,7 @@ use Rattle.edits.specs.Op.{retain, insert, delete}
 use Rattle.edits.specs.Sequence.{Seq}
 use Rattle.answers.specs.Answer.{Answer, success, refused, unlessRefused}
 use Rattle.record.specs.Record.{recordFault, ops, inserted, byteOps, entriesFrom, insertBytes}
-use Rattle.record.specs.Layout.{sizeOf, baseOf, targetOf, recordsOf, textStart}
+use Rattle.record.specs.Layout.{sizeOf, baseOf, targetOf, opCountOf, textStart}
 
 -- a number, unless the record is refused
 abbrev pub fact : List ℕ → ℕ → Answer
@@ -44,4 +44,4 @@ textCall r k = unlessRefused (recordFault r) (λ n. []) (getD (map inserted (byt
 
 -- where it begins in the record: behind the text of the k records before it
 unfoldable pub textFrom : List ℕ → ℕ → ℕ
-textFrom r k = textStart (recordsOf r) + insertBytes (entriesFrom r 0 k)
+textFrom r k = textStart (opCountOf r) + insertBytes (entriesFrom r 0 k)

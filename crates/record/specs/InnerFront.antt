@@ -11,13 +11,13 @@ use Rattle.characters.specs.Form.{within, wellFormed}
 use Rattle.characters.specs.Chars.{numChars}
 use Rattle.edits.specs.Sequence.{Seq}
 use Rattle.edits.specs.Op.{Op, retain, insert, delete, ifZero, cut, rest, front}
-use Rattle.record.specs.Layout.{recordsOf, textStart, maxOps, insertKind, retainKind, deleteKind}
+use Rattle.record.specs.Layout.{opCountOf, textStart, maxOps, insertKind, retainKind, deleteKind}
 use Rattle.record.specs.Record.{Entry, entriesFrom, ByteSeq, operations, inChars, soundEntry, insertBytes, wellInserted, inBytes, inserted}
 use Rattle.record.specs.declared.core.Front.{Front}
 
 -- the records from k on, and their operations where their text begins at `at`
 abbrev pub entriesLeft : List ℕ → ℕ → List Entry
-entriesLeft r k = entriesFrom r k (recordsOf r - k)
+entriesLeft r k = entriesFrom r k (opCountOf r - k)
 
 unfoldable pub byteOpsLeft : List ℕ → ℕ → ℕ → ByteSeq
 byteOpsLeft r k at = operations (entriesLeft r k) (drop at r)
@@ -28,9 +28,9 @@ opsLeft r k at = map inChars (byteOpsLeft r k at)
 
 -- `at` is a place at which the text of the records from k on can begin
 pub record Place (r : List ℕ) (k at : ℕ) : Type 0 where
-  pub few : recordsOf r ≤ maxOps
-  pub header : textStart (recordsOf r) ≤ length r
-  pub index : k ≤ recordsOf r
+  pub few : opCountOf r ≤ maxOps
+  pub header : textStart (opCountOf r) ≤ length r
+  pub index : k ≤ opCountOf r
   pub room : at + insertBytes (entriesLeft r k) ≤ length r
   pub sound : T (allOf soundEntry (entriesLeft r k))
   pub texts : T (allOf wellInserted (byteOpsLeft r k at))

@@ -6,8 +6,8 @@ use lib.ListN.{getD}
 use Rattle.buffers.specs.Words.{wordAt}
 
 -- the sizes
-abbrev pub recordsOf : List ℕ → ℕ
-recordsOf r = wordAt r 0
+abbrev pub opCountOf : List ℕ → ℕ
+opCountOf r = wordAt r 0
 
 abbrev pub textBytesOf : List ℕ → ℕ
 textBytesOf r = wordAt r 2
@@ -39,13 +39,13 @@ abbrev pub textStart : ℕ → ℕ
 textStart n = kindsStart + 3 * n
 
 abbrev pub sizeOf : List ℕ → ℕ
-sizeOf r = textStart (recordsOf r) + textBytesOf r
+sizeOf r = textStart (opCountOf r) + textBytesOf r
 
 abbrev pub kindAt : List ℕ → ℕ → ℕ
 kindAt r k = getD r (kindsStart + k) 0
 
 abbrev pub countAt : List ℕ → ℕ → ℕ
-countAt r k = wordAt r (countsStart (recordsOf r) + 2 * k)
+countAt r k = wordAt r (countsStart (opCountOf r) + 2 * k)
 
 -- the limits of refusal 1: "its records exceed 1,024, or another size exceeds 32,768"; and the most bytes of a record that keeps them
 abbrev pub maxOps : ℕ

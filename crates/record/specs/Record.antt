@@ -13,7 +13,7 @@ use Rattle.edits.specs.Op.{Op, retain, insert, delete, size, base, target, tota
 use Rattle.edits.specs.Sequence.{Seq}
 use Rattle.edits.specs.Built.{chained}
 use Rattle.answers.specs.Answer.{needs}
-use Rattle.record.specs.Layout.{deleteKind, insertKind, retainKind, maxOps, maxSize, kindAt, countAt, recordsOf, textBytesOf, textStart, baseOf, targetOf, sizeOf}
+use Rattle.record.specs.Layout.{deleteKind, insertKind, retainKind, maxOps, maxSize, kindAt, countAt, opCountOf, textBytesOf, textStart, baseOf, targetOf, sizeOf}
 
 -- a sequence as a record holds it: inserted text in bytes
 abbrev pub ByteSeq : Type 0
@@ -76,10 +76,10 @@ entriesFrom r k zero = []
 entriesFrom r k (suc n) = entryAt r k ∷ entriesFrom r (suc k) n
 
 unfoldable pub entries : List ℕ → List Entry
-entries r = entriesFrom r 0 (recordsOf r)
+entries r = entriesFrom r 0 (opCountOf r)
 
 unfoldable pub textOf : List ℕ → List ℕ
-textOf r = take (textBytesOf r) (drop (textStart (recordsOf r)) r)
+textOf r = take (textBytesOf r) (drop (textStart (opCountOf r)) r)
 
 abbrev pub operation : ℕ → ℕ → List ℕ → Op ℕ
 operation k n t = cond (eqb k retainKind) (retain n) (cond (eqb k insertKind) (insert (take n t)) (delete n))
@@ -103,7 +103,7 @@ ops r = map inChars (byteOps r)
 unfoldable pub inLimits : List ℕ → Bool
 inLimits r =
     leb 8 (length r)
-    && (leb (recordsOf r) maxOps && (leb (textBytesOf r) maxSize && (leb (baseOf r) maxSize && (leb (targetOf r) maxSize && leb (sizeOf r) (length r)))))
+    && (leb (opCountOf r) maxOps && (leb (textBytesOf r) maxSize && (leb (baseOf r) maxSize && (leb (targetOf r) maxSize && leb (sizeOf r) (length r)))))
 
 -- 2: a kind that is none of 1, 2, 3, a count of 0, or insert counts that don't add up to the text bytes
 abbrev pub soundEntry : Entry → Bool

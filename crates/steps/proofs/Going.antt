@@ -10,7 +10,7 @@ use Rattle.edits.specs.Op.{Op}
 use Rattle.edits.specs.Sequence.{Seq}
 use Rattle.edits.specs.Align.{Step}
 use Rattle.edits.specs.Align as align
-use Rattle.record.specs.Layout.{recordsOf}
+use Rattle.record.specs.Layout.{opCountOf}
 use Rattle.record.specs.Record.{ops, recordFault}
 use Rattle.record.specs.InnerFront.{ahead, Stands}
 use Rattle.record.proofs.Records.{ops-length}
@@ -39,7 +39,7 @@ module _ (turn : Op Char → Op Char → align.Turn) (g : Step Char → Seq) whe
         stands-x = h .stands-x;
         stands-y = h .stands-y;
         turns = 0;
-        bound = omega (arith, ap length (h .all-x), ap length (h .all-y), ops-length a za, ops-length b zb, fault-few a (recordsOf a) za refl, fault-few b (recordsOf b) zb refl);
+        bound = omega (arith, ap length (h .all-x), ap length (h .all-y), ops-length a za, ops-length b zb, fault-few a (opCountOf a) za refl, fault-few b (opCountOf b) zb refl);
         under = rw (h .empty) under-start;
         acc = [];
         rep = rw (h .empty) (rep-start n o);

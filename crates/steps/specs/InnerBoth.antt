@@ -26,7 +26,7 @@ pub record Ends (slots : ℕ) (b : Both) (next side : List ℕ) (c : Counts) (ne
   pub f : Emitter
   pub left : Finishes slots (b .e) next e next′
   pub right : Finishes slots (b .f) side f side′
-  pub counts : c ≡ record { left = e .records; right = f .records; target = e .target }
+  pub counts : c ≡ record { left = e .ops; right = f .ops; target = e .target }
 
 -- the first past the second, and the second past the first
 abbrev pub mine : Both → State

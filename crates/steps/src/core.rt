@@ -13,7 +13,7 @@ ghost use Rattle.buffers.specs.InnerOver.{over};
 ghost use Rattle.characters.specs.Order.{byteOrder, order};
 ghost use Rattle.edits.specs.Transform.{transformTurn, transform as transformOf};
 ghost use Rattle.record.specs.InnerFront.{frontText, Stands};
-ghost use Rattle.record.specs.Layout.{baseOf, textStart, recordsOf, maxOps};
+ghost use Rattle.record.specs.Layout.{baseOf, textStart, opCountOf, maxOps};
 ghost use Rattle.record.specs.Record.{ops, recordFault};
 ghost use Rattle.emitter.specs.InnerEmit.{Under, headed, relocatedOps};
 ghost use Rattle.steps.specs.InnerSteps.{liveIs, Chooses, Begun};
@@ -100,7 +100,7 @@ pub fn sizes(a: &[u8], b: &[u8], c: Counts) -> Pair
         ins: 0,
         del: 0,
         ret: 0,
-        records: c.left,
+        ops: c.left,
         text: reader::core::text_bytes(a),
         base: reader::core::target(b),
         target: c.target,
@@ -109,7 +109,7 @@ pub fn sizes(a: &[u8], b: &[u8], c: Counts) -> Pair
         ins: 0,
         del: 0,
         ret: 0,
-        records: c.right,
+        ops: c.right,
         text: reader::core::text_bytes(b),
         base: reader::core::target(a),
         target: c.target,
@@ -119,18 +119,18 @@ pub fn sizes(a: &[u8], b: &[u8], c: Counts) -> Pair
 
 // What was staged, as a record of its own: the text is that of a record of n operations.
 pub fn place_with_text(out: &mut [u8], stage: &[u8], slots: usize, e: Emitter, rec: &[u8], n: usize)
-    requires { ⌜ (slots ≤ 2 ^ 40) × (n ≤ 2 ^ 40) × (e .records ≤ slots) × (textStart slots ≤ length (now stage)) × (textStart n + e .text ≤ length (now rec)) × Under (2 ^ 40) e ⌝ }
-    ensures { λ _. ⌜ now (out .exit) ≡ headed e (relocatedOps slots (e .records) (e .records) (now (stage .entry)) (over (textStart (e .records)) (take (e .text) (drop (textStart n) (now (rec .entry)))) (now (out .entry)))) ⌝ }
+    requires { ⌜ (slots ≤ 2 ^ 40) × (n ≤ 2 ^ 40) × (e .ops ≤ slots) × (textStart slots ≤ length (now stage)) × (textStart n + e .text ≤ length (now rec)) × Under (2 ^ 40) e ⌝ }
+    ensures { λ _. ⌜ now (out .exit) ≡ headed e (relocatedOps slots (e .ops) (e .ops) (now (stage .entry)) (over (textStart (e .ops)) (take (e .text) (drop (textStart n) (now (rec .entry)))) (now (out .entry)))) ⌝ }
 {
     let from = layout::core::text_start(n);
     buffers::core::copy_short(
         out,
-        layout::core::text_start(e.records),
+        layout::core::text_start(e.ops),
         rec,
         from,
         from + e.text,
     );
-    emitter::core::relocate_ops(out, e.records, stage, slots, e.records);
+    emitter::core::relocate_ops(out, e.ops, stage, slots, e.ops);
     emitter::core::write_header(out, e);
 }
 
@@ -150,7 +150,7 @@ pub struct State {
 
 // The fronts of two whole records; nothing was emitted.
 pub fn begin(a: &[u8], na: usize, b: &[u8], nb: usize) -> State
-    requires { ⌜ (na ≡ recordsOf (now a)) × (na ≤ maxOps) × (nb ≡ recordsOf (now b)) × (nb ≤ maxOps) × (recordFault (now a) ≡ 0) × (recordFault (now b) ≡ 0) ⌝ }
+    requires { ⌜ (na ≡ opCountOf (now a)) × (na ≤ maxOps) × (nb ≡ opCountOf (now b)) × (nb ≤ maxOps) × (recordFault (now a) ≡ 0) × (recordFault (now b) ≡ 0) ⌝ }
     ensures { λ s. ⌜ Begun (now (a .entry)) (now (b .entry)) s ⌝ }
 {
     let x = reader::core::first_front(a, na);

@@ -139,7 +139,7 @@ one-small (suc n) = omega arith
 still-limits : (n : ℕ) → n ≤ 32768 → Limits (retainAll n)
 still-limits n h =
     record {
-      records = omega (arith, still-few n, one-small n);
+      ops = omega (arith, still-few n, one-small n);
       text-bytes = omega (arith, still-text n);
       bases = omega (arith, still-base n);
       targets = omega (arith, still-target n);

@@ -14,7 +14,7 @@ ghost use Rattle.session.specs.Rows.{retainAll as stillOf};
 ghost use Rattle.summary.specs.InnerSumming.{Holds, Makes, Sums};
 
 // How many operations retain the starting length: none for 0.
-fn records(start: usize) -> usize
+fn op_count(start: usize) -> usize
     ensures { λ r. ⌜ (r ≡ one start) × (r ≤ 1) ⌝ }
 {
     if start == 0 { 0 } else { 1 }
@@ -25,7 +25,7 @@ fn retain_all(start: usize, cur: &mut [u8]) -> usize
     requires { ⌜ (start ≤ maxSize) × (maxRecord ≤ length (now cur)) ⌝ }
     ensures { λ r. ⌜ Holds (stillOf start) r (now (cur .exit)) ⌝ }
 {
-    let n = records(start);
+    let n = op_count(start);
     let e = emitter::core::new_emitter();
     let f = emitter::core::retain(e, start);
     let g = emitter::core::finish(cur, n, f);

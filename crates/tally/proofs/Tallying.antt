@@ -20,7 +20,7 @@ use Rattle.characters.proofs.Chars.{num-append}
 use Rattle.edits.specs.Built.{kind, follows, chained}
 use Rattle.edits.specs.Op.{Op, retain, insert, delete, takes, total, base}
 use Rattle.record.specs.Record.{soundEntry, Entry, entryAt, code, operation, entriesFrom, operations, insertBytes, entries, textOf, byteOps, ByteSeq, givesChars}
-use Rattle.record.specs.Layout.{kindAt, countAt, recordsOf, textBytesOf, textStart}
+use Rattle.record.specs.Layout.{kindAt, countAt, opCountOf, textBytesOf, textStart}
 use Rattle.record.proofs.Records.{sound-kind}
 use Rattle.tally.specs.declared.core.Tally.{Tally}
 use Rattle.tally.specs.declared.core.Parts.{Parts}
@@ -438,11 +438,11 @@ module _ (r : List ℕ) where
       go false true p q c y z h = omega arith
       go false false p q c y z h = omega arith
 
-none-clashes : (r : List ℕ) (n : ℕ) → n ≡ recordsOf r → T (allOf soundEntry (entries r)) → eqb (sumFrom (clashAt r) 0 (n - 1)) 0 ≡ chained (byteOps r)
+none-clashes : (r : List ℕ) (n : ℕ) → n ≡ opCountOf r → T (allOf soundEntry (entries r)) → eqb (sumFrom (clashAt r) 0 (n - 1)) 0 ≡ chained (byteOps r)
 unfolding byteOps entries
 none-clashes r n e s = go n e s
   where
-    go : (m : ℕ) → m ≡ recordsOf r → T (allOf soundEntry (entriesFrom r 0 (recordsOf r))) → eqb (sumFrom (clashAt r) 0 (m - 1)) 0 ≡ chained (operations (entriesFrom r 0 (recordsOf r)) (textOf r))
+    go : (m : ℕ) → m ≡ opCountOf r → T (allOf soundEntry (entriesFrom r 0 (opCountOf r))) → eqb (sumFrom (clashAt r) 0 (m - 1)) 0 ≡ chained (operations (entriesFrom r 0 (opCountOf r)) (textOf r))
     go zero p h = rw (← p)
     go (suc m) p h =
         let q : suc m - 1 ≡ m = omega arith in
@@ -451,7 +451,7 @@ none-clashes r n e s = go n e s
         ∙ ap (λ j. chained (operations (entriesFrom r 0 j) (textOf r))) p
 
 -- where all neighbours may stand so, any two may
-pub ordered-follow : (r : List ℕ) (n k : ℕ) → n ≡ recordsOf r → T (allOf soundEntry (entries r)) → chained (byteOps r) ≡ true → k + 1 < n → mayFollow (kindAt r k) (kindAt r (suc k)) ≡ true
+pub ordered-follow : (r : List ℕ) (n k : ℕ) → n ≡ opCountOf r → T (allOf soundEntry (entries r)) → chained (byteOps r) ≡ true → k + 1 < n → mayFollow (kindAt r k) (kindAt r (suc k)) ≡ true
 ordered-follow r n k e s p h =
     go (mayFollow (kindAt r k) (kindAt r (suc k))) refl (sum-under (clashAt r) k (n - 1) (omega arith)) (eqb-true (sumFrom (clashAt r) 0 (n - 1)) 0 (none-clashes r n e s ∙ p))
   where
@@ -460,7 +460,7 @@ ordered-follow r n k e s p h =
     go false q l z = absurd (omega arith)
 
 -- the passes, as the code finds them
-module _ (r : List ℕ) (n : ℕ) (t : Tally) (e : n ≡ recordsOf r) (g : Tallied r n t) where
+module _ (r : List ℕ) (n : ℕ) (t : Tally) (e : n ≡ opCountOf r) (g : Tallied r n t) where
   none-invalid : eqb (t .invalid) 0 ≡ allOf soundEntry (entries r)
   unfolding entries
   none-invalid = g .invalids ∙ invalid-none r 0 n ∙ ap (λ m. allOf soundEntry (entriesFrom r 0 m)) e
@@ -507,8 +507,8 @@ kept-target (e ∷ es) t = go (eqb (e .kind) 1) (eqb (e .kind) 2) refl refl (λ 
 pub target-found : (r : List ℕ) → insertBytes (entries r) ≡ textBytesOf r → total keeps (byteOps r) + numChars (textOf r) ≡ total givesChars (byteOps r)
 unfolding textOf byteOps
 target-found r e =
-    let t = take (textBytesOf r) (drop (textStart (recordsOf r)) r) in
-    let z : take (insertBytes (entries r)) t ≡ t = ap (λ n. take n t) e ∙ take-take (textBytesOf r) (textBytesOf r) (drop (textStart (recordsOf r)) r) (omega arith) in
+    let t = take (textBytesOf r) (drop (textStart (opCountOf r)) r) in
+    let z : take (insertBytes (entries r)) t ≡ t = ap (λ n. take n t) e ∙ take-take (textBytesOf r) (textBytesOf r) (drop (textStart (opCountOf r)) r) (omega arith) in
     ap (λ l. total keeps (operations (entries r) t) + numChars l) (sym z) ∙ kept-target (entries r) t
 
 -- the whole record's

@@ -7,7 +7,7 @@ ghost use Prim.Native.Nat.{_≤_, _^_, _<_, _+_, _-_};
 ghost use lib.ListN.{length};
 ghost use mathlib.Core.Bool.{not};
 ghost use Rattle.record.specs.Record.{soundEntry};
-ghost use Rattle.record.specs.Layout.{recordsOf, textStart, maxOps};
+ghost use Rattle.record.specs.Layout.{opCountOf, textStart, maxOps};
 ghost use Rattle.tally.specs.InnerTally.{picked, entry, mayFollow, tallied, Tallied, Whole, partedBy, Parted, sumFrom, clashAt, entriesOf};
 
 // What the kinds and the counts come to: the bytes inserted, whether all neighbours may stand so, the characters of
@@ -95,7 +95,7 @@ fn add_entry(t: Tally, kind: u8, count: usize, clashes: bool) -> Tally
 
 // Any entries, in one pass: in 32 bits, that are enough for all sums.
 fn tally_wide(rec: &[u8], n: usize) -> Tally
-    requires { ⌜ (n ≡ recordsOf (now rec)) × (n ≤ maxOps) × (textStart n ≤ length (now rec)) ⌝ }
+    requires { ⌜ (n ≡ opCountOf (now rec)) × (n ≤ maxOps) × (textStart n ≤ length (now rec)) ⌝ }
     ensures { λ r. ⌜ Tallied (now (rec .entry)) n r ⌝ }
 {
     let mut t = Tally {
@@ -168,7 +168,7 @@ fn add_entry_by_kind(t: Tally, last: u8, kind: u8, count: u32) -> Tally
 // A few entries, one after another: with branches that is the fewest instructions for those of a keystroke. Kind 0 stands
 // before the first: only what can't be may not follow it.
 fn tally_short(rec: &[u8], n: usize) -> Tally
-    requires { ⌜ (n ≡ recordsOf (now rec)) × (n ≤ maxOps) × (textStart n ≤ length (now rec)) ⌝ }
+    requires { ⌜ (n ≡ opCountOf (now rec)) × (n ≤ maxOps) × (textStart n ≤ length (now rec)) ⌝ }
     ensures { λ r. ⌜ Tallied (now (rec .entry)) n r ⌝ }
 {
     let mut t = Tally {
@@ -192,7 +192,7 @@ fn tally_short(rec: &[u8], n: usize) -> Tally
 
 // All counts, or 65,536 where the entries are so few that one pass in 32 bits was measured to be faster.
 fn all_counts(rec: &[u8], n: usize) -> u32
-    requires { ⌜ (n ≡ recordsOf (now rec)) × (n ≤ maxOps) × (textStart n ≤ length (now rec)) ⌝ }
+    requires { ⌜ (n ≡ opCountOf (now rec)) × (n ≤ maxOps) × (textStart n ≤ length (now rec)) ⌝ }
     ensures { λ r. ⌜ Whole (now (rec .entry)) n r ⌝ }
 {
     if n < 32 {
@@ -231,7 +231,7 @@ fn add_part(p: Parts, kind: u8, count: usize) -> Parts
 
 // Where all counts together are under 65,536, 16 bits are enough for each part of them.
 fn sum_parts(rec: &[u8], n: usize, all: u32) -> Parts
-    requires { ⌜ (n ≡ recordsOf (now rec)) × (n ≤ maxOps) × (textStart n ≤ length (now rec)) × (all < 65536) × Whole (now rec) n all ⌝ }
+    requires { ⌜ (n ≡ opCountOf (now rec)) × (n ≤ maxOps) × (textStart n ≤ length (now rec)) × (all < 65536) × Whole (now rec) n all ⌝ }
     ensures { λ r. ⌜ Parted (now (rec .entry)) n r ⌝ }
 {
     let mut p = Parts {
@@ -260,7 +260,7 @@ const TOO_MANY: u32 = MOST_COUNTS + 1;
 
 // How many neighbours may not stand so, of the entries from..to and each one before.
 fn clashes_in(rec: &[u8], from: usize, to: usize) -> u8
-    requires { ⌜ (1 ≤ from) × (to ≤ recordsOf (now rec)) × (to ≤ from + 224) × (textStart (recordsOf (now rec)) ≤ length (now rec)) ⌝ }
+    requires { ⌜ (1 ≤ from) × (to ≤ opCountOf (now rec)) × (to ≤ from + 224) × (textStart (opCountOf (now rec)) ≤ length (now rec)) ⌝ }
     ensures { λ r. ⌜ (r ≡ sumFrom (clashAt (now (rec .entry))) (from - 1) (to - from)) × (r ≤ to - from) ⌝ }
 {
     let mut clashes: u8 = 0;
@@ -276,7 +276,7 @@ fn clashes_in(rec: &[u8], from: usize, to: usize) -> u8
 
 // The same of all entries. 8 bits are enough for 224 of them: 7 times the 32 that are done at once.
 fn clashes(rec: &[u8], n: usize) -> u32
-    requires { ⌜ (n ≡ recordsOf (now rec)) × (n ≤ maxOps) × (textStart n ≤ length (now rec)) ⌝ }
+    requires { ⌜ (n ≡ opCountOf (now rec)) × (n ≤ maxOps) × (textStart n ≤ length (now rec)) ⌝ }
     ensures { λ r. ⌜ (r ≡ sumFrom (clashAt (now (rec .entry))) 0 (n - 1)) × (r ≤ n) ⌝ }
 {
     let mut clashes: u32 = 0;
@@ -290,7 +290,7 @@ fn clashes(rec: &[u8], n: usize) -> u32
 
 // What can't be has a count of 0, or one that is of no kind.
 fn tally_all(rec: &[u8], n: usize) -> Tally
-    requires { ⌜ (n ≡ recordsOf (now rec)) × (n ≤ maxOps) × (textStart n ≤ length (now rec)) ⌝ }
+    requires { ⌜ (n ≡ opCountOf (now rec)) × (n ≤ maxOps) × (textStart n ≤ length (now rec)) ⌝ }
     ensures { λ r. ⌜ Tallied (now (rec .entry)) n r ⌝ }
 {
     if n < 8 {
@@ -314,7 +314,7 @@ fn tally_all(rec: &[u8], n: usize) -> Tally
 }
 
 pub fn sum_up(rec: &[u8], n: usize) -> Entries
-    requires { ⌜ (n ≡ recordsOf (now rec)) × (n ≤ maxOps) × (textStart n ≤ length (now rec)) ⌝ }
+    requires { ⌜ (n ≡ opCountOf (now rec)) × (n ≤ maxOps) × (textStart n ≤ length (now rec)) ⌝ }
     ensures { λ r. ⌜ r ≡ entriesOf (now (rec .entry)) ⌝ }
 {
     let t = tally_all(rec, n);

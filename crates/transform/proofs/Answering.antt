@@ -121,7 +121,7 @@ module _ (a b x y : List ℕ) (za : recordFault a ≡ 0) (zb : recordFault b ≡
       go (stops u p q) = let k : u ≡ z = cc (p, e) in record { answer = ap (λ k. refused (number k)) (sym k) ∙ sym (ap (λ c. c .answer) q); out-a = sym (ap (λ c. c .outA) q); out-b = sym (ap (λ c. c .outB) q) }
       go (writes f g p q) = absurd (let k : _≡_ {A = ℕ} 0 1 = cc (p, e) in omega arith)
 
-  pub transforms-written : (k l : ℕ) (x′ y′ : List ℕ) → v ≡ written.Bytes k l → WritesBoth (r .e .records) (r .f .records) (transform order (ops a) (ops b)) x y x′ y′
+  pub transforms-written : (k l : ℕ) (x′ y′ : List ℕ) → v ≡ written.Bytes k l → WritesBoth (r .e .ops) (r .f .ops) (transform order (ops a) (ops b)) x y x′ y′
       → Transforms a b x y (written.Bytes k l) x′ y′
   transforms-written k l x′ y′ e u = go outcome
     where
@@ -134,8 +134,8 @@ module _ (a b x y : List ℕ) (za : recordFault a ≡ 0) (zb : recordFault b ≡
           let (ra, rb) = and-eq-true-iff (leb (length (encode (sides .left))) (length x)) (leb (length (encode (sides .right))) (length y)) .0 n in
           record {
             answer = ap pairOf (sym e ∙ p) ∙ sym (ap (λ c. c .answer) q);
-            out-a = written-front (sides .left) _ x (f .emitter) (f .before) x′ (fits-limits (sides .left) .0 (known fa)) (leb-true (length (encode (sides .left))) (length x) ra) (f .done) (z₁ .records) (f .is) ∙ sym (ap (λ c. c .outA) q);
-            out-b = written-front (sides .right) _ y (g .emitter) (g .before) y′ (fits-limits (sides .right) .0 (known fb)) (leb-true (length (encode (sides .right))) (length y) rb) (g .done) (z₂ .records) (g .is) ∙ sym (ap (λ c. c .outB) q);
+            out-a = written-front (sides .left) _ x (f .emitter) (f .before) x′ (fits-limits (sides .left) .0 (known fa)) (leb-true (length (encode (sides .left))) (length x) ra) (f .done) (z₁ .ops) (f .is) ∙ sym (ap (λ c. c .outA) q);
+            out-b = written-front (sides .right) _ y (g .emitter) (g .before) y′ (fits-limits (sides .right) .0 (known fb)) (leb-true (length (encode (sides .right))) (length y) rb) (g .done) (z₂ .ops) (g .is) ∙ sym (ap (λ c. c .outB) q);
           }
 
 -- an answer taken apart and handed on

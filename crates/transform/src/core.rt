@@ -12,7 +12,7 @@ ghost use Prim.Native.Nat.{_≤_, _^_, _+_, min};
 ghost use lib.ListN.{length};
 ghost use Rattle.characters.specs.Order.{order};
 ghost use Rattle.edits.specs.Transform.{transform as transformOf};
-ghost use Rattle.record.specs.Layout.{recordsOf, maxOps, textStart, baseOf};
+ghost use Rattle.record.specs.Layout.{opCountOf, maxOps, textStart, baseOf};
 ghost use Rattle.record.specs.Record.{recordFault, ops};
 ghost use Rattle.emitter.specs.InnerEmit.{Under, limitsThenRoomBoth};
 ghost use Rattle.steps.specs.InnerBoth.{BegunBoth, MarkedBoth};
@@ -20,7 +20,7 @@ ghost use Rattle.steps.specs.InnerSteps.{liveIs};
 ghost use Rattle.transform.specs.InnerPairs.{Transforms};
 
 fn begin(a: &[u8], na: usize, b: &[u8], nb: usize) -> Both
-    requires { ⌜ (na ≡ recordsOf (now a)) × (na ≤ maxOps) × (nb ≡ recordsOf (now b)) × (nb ≤ maxOps) × (recordFault (now a) ≡ 0) × (recordFault (now b) ≡ 0) ⌝ }
+    requires { ⌜ (na ≡ opCountOf (now a)) × (na ≤ maxOps) × (nb ≡ opCountOf (now b)) × (nb ≤ maxOps) × (recordFault (now a) ≡ 0) × (recordFault (now b) ≡ 0) ⌝ }
     ensures { λ r. ⌜ BegunBoth (now (a .entry)) (now (b .entry)) r ⌝ }
 {
     let s = steps::core::begin(a, na, b, nb);
@@ -49,7 +49,7 @@ fn transform_into(
     stage_b: &mut [u8],
     slots: usize,
 ) -> Counts
-    requires { ⌜ (na ≡ recordsOf (now a)) × (na ≤ maxOps) × (nb ≡ recordsOf (now b)) × (nb ≤ maxOps) × (recordFault (now a) ≡ 0) × (recordFault (now b) ≡ 0) × (slots ≤ 2 ^ 40) × (length (now «stage_a») ≤ textStart slots) × (length (now «stage_b») ≤ textStart slots) ⌝ }
+    requires { ⌜ (na ≡ opCountOf (now a)) × (na ≤ maxOps) × (nb ≡ opCountOf (now b)) × (nb ≤ maxOps) × (recordFault (now a) ≡ 0) × (recordFault (now b) ≡ 0) × (slots ≤ 2 ^ 40) × (length (now «stage_a») ≤ textStart slots) × (length (now «stage_b») ≤ textStart slots) ⌝ }
     ensures { λ r. ⌜ MarkedBoth slots (transformOf order (ops (now (a .entry))) (ops (now (b .entry)))) r (now («stage_a» .exit)) (now («stage_b» .exit)) ⌝ }
 {
     let mut s = begin(a, na, b, nb);
@@ -61,8 +61,8 @@ fn transform_into(
     let e = emitter::core::finish(stage_a, slots, d);
     let f = emitter::core::finish(stage_b, slots, h);
     Counts {
-        left: e.records,
-        right: f.records,
+        left: e.ops,
+        right: f.ops,
         target: e.target,
     }
 }
@@ -102,7 +102,7 @@ fn staged(
     out_a: &mut [u8],
     out_b: &mut [u8],
 ) -> WrittenPair
-    requires { ⌜ (na ≡ recordsOf (now a)) × (na ≤ maxOps) × (nb ≡ recordsOf (now b)) × (nb ≤ maxOps) × (recordFault (now a) ≡ 0) × (recordFault (now b) ≡ 0) × (slots ≤ maxOps) × (min (na + nb) maxOps ≤ slots) × (length (now «stage_a») ≡ textStart slots) × (length (now «stage_b») ≡ textStart slots) × (baseOf (now a) ≡ baseOf (now b)) ⌝ }
+    requires { ⌜ (na ≡ opCountOf (now a)) × (na ≤ maxOps) × (nb ≡ opCountOf (now b)) × (nb ≤ maxOps) × (recordFault (now a) ≡ 0) × (recordFault (now b) ≡ 0) × (slots ≤ maxOps) × (min (na + nb) maxOps ≤ slots) × (length (now «stage_a») ≡ textStart slots) × (length (now «stage_b») ≡ textStart slots) × (baseOf (now a) ≡ baseOf (now b)) ⌝ }
     ensures { λ r. ⌜ Transforms (now (a .entry)) (now (b .entry)) (now («out_a» .entry)) (now («out_b» .entry)) r (now («out_a» .exit)) (now («out_b» .exit)) ⌝ }
 {
     let c = transform_into(a, na, b, nb, stage_a, stage_b, slots);
@@ -140,7 +140,7 @@ fn in_small_stages(
     out_a: &mut [u8],
     out_b: &mut [u8],
 ) -> WrittenPair
-    requires { ⌜ (na ≡ recordsOf (now a)) × (na ≤ maxOps) × (nb ≡ recordsOf (now b)) × (nb ≤ maxOps) × (recordFault (now a) ≡ 0) × (recordFault (now b) ≡ 0) × (na + nb ≤ 40) × (baseOf (now a) ≡ baseOf (now b)) ⌝ }
+    requires { ⌜ (na ≡ opCountOf (now a)) × (na ≤ maxOps) × (nb ≡ opCountOf (now b)) × (nb ≤ maxOps) × (recordFault (now a) ≡ 0) × (recordFault (now b) ≡ 0) × (na + nb ≤ 40) × (baseOf (now a) ≡ baseOf (now b)) ⌝ }
     ensures { λ r. ⌜ Transforms (now (a .entry)) (now (b .entry)) (now («out_a» .entry)) (now («out_b» .entry)) r (now («out_a» .exit)) (now («out_b» .exit)) ⌝ }
 {
     let mut stage_a = [0u8; SMALL_STAGE];
@@ -169,7 +169,7 @@ fn in_medium_stages(
     out_a: &mut [u8],
     out_b: &mut [u8],
 ) -> WrittenPair
-    requires { ⌜ (na ≡ recordsOf (now a)) × (na ≤ maxOps) × (nb ≡ recordsOf (now b)) × (nb ≤ maxOps) × (recordFault (now a) ≡ 0) × (recordFault (now b) ≡ 0) × (na + nb ≤ 338) × (baseOf (now a) ≡ baseOf (now b)) ⌝ }
+    requires { ⌜ (na ≡ opCountOf (now a)) × (na ≤ maxOps) × (nb ≡ opCountOf (now b)) × (nb ≤ maxOps) × (recordFault (now a) ≡ 0) × (recordFault (now b) ≡ 0) × (na + nb ≤ 338) × (baseOf (now a) ≡ baseOf (now b)) ⌝ }
     ensures { λ r. ⌜ Transforms (now (a .entry)) (now (b .entry)) (now («out_a» .entry)) (now («out_b» .entry)) r (now («out_a» .exit)) (now («out_b» .exit)) ⌝ }
 {
     let mut stage_a = [0u8; MEDIUM_STAGE];
@@ -198,7 +198,7 @@ fn in_large_stages(
     out_a: &mut [u8],
     out_b: &mut [u8],
 ) -> WrittenPair
-    requires { ⌜ (na ≡ recordsOf (now a)) × (na ≤ maxOps) × (nb ≡ recordsOf (now b)) × (nb ≤ maxOps) × (recordFault (now a) ≡ 0) × (recordFault (now b) ≡ 0) × (baseOf (now a) ≡ baseOf (now b)) ⌝ }
+    requires { ⌜ (na ≡ opCountOf (now a)) × (na ≤ maxOps) × (nb ≡ opCountOf (now b)) × (nb ≤ maxOps) × (recordFault (now a) ≡ 0) × (recordFault (now b) ≡ 0) × (baseOf (now a) ≡ baseOf (now b)) ⌝ }
     ensures { λ r. ⌜ Transforms (now (a .entry)) (now (b .entry)) (now («out_a» .entry)) (now («out_b» .entry)) r (now («out_a» .exit)) (now («out_b» .exit)) ⌝ }
 {
     let mut stage_a = [0u8; LARGE_STAGE];
@@ -229,8 +229,8 @@ pub fn transformed(a: &[u8], b: &[u8], out_a: &mut [u8], out_b: &mut [u8]) -> Wr
     if base_a != base_b {
         return WrittenPair::Refused(Refusal::IncompatibleLengths);
     }
-    let na = reader::core::records(a);
-    let nb = reader::core::records(b);
+    let na = reader::core::op_count(a);
+    let nb = reader::core::op_count(b);
     if MEDIUM_OPS < na + nb {
         return in_large_stages(a, na, b, nb, out_a, out_b);
     }

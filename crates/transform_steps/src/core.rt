@@ -13,7 +13,7 @@ ghost use mathlib.Core.Bool.{false, true};
 ghost use lib.Dec.{eqb};
 ghost use Rattle.characters.specs.Order.{order};
 ghost use Rattle.edits.specs.Transform.{transformTurn};
-ghost use Rattle.record.specs.Layout.{recordsOf, textStart};
+ghost use Rattle.record.specs.Layout.{opCountOf, textStart};
 ghost use Rattle.record.specs.InnerFront.{Stands, Cut};
 ghost use Rattle.emitter.specs.InnerEmit.{Under};
 ghost use Rattle.steps.specs.InnerBoth.{FirstBoth, SecondBoth, Meets, TogetherBoth, WentBoth};
@@ -21,7 +21,7 @@ ghost use Rattle.steps.specs.InnerSteps.{Chooses, liveIs};
 
 // The first's operation goes by itself: the other side retains what it gives.
 fn step_first(a: &[u8], na: usize, out: &mut [u8], m: usize, s: Both) -> Both
-    requires { ⌜ (na ≡ recordsOf (now a)) × (m ≤ 2 ^ 40) × Under (2 ^ 38) (s .e) × Under (2 ^ 38) (s .f) × Stands (now a) (s .x) × (0 < s .x .kind) × (length (now out) ≤ textStart m) ⌝ }
+    requires { ⌜ (na ≡ opCountOf (now a)) × (m ≤ 2 ^ 40) × Under (2 ^ 38) (s .e) × Under (2 ^ 38) (s .f) × Stands (now a) (s .x) × (0 < s .x .kind) × (length (now out) ≤ textStart m) ⌝ }
     ensures { λ r. ⌜ FirstBoth m (now (a .entry)) s (now (out .entry)) r (now (out .exit)) ⌝ }
 {
     let x = s.x;
@@ -38,7 +38,7 @@ fn step_first(a: &[u8], na: usize, out: &mut [u8], m: usize, s: Both) -> Both
 
 // The second's.
 fn step_second(b: &[u8], nb: usize, out: &mut [u8], n: usize, s: Both) -> Both
-    requires { ⌜ (nb ≡ recordsOf (now b)) × (n ≤ 2 ^ 40) × Under (2 ^ 38) (s .e) × Under (2 ^ 38) (s .f) × Stands (now b) (s .y) × (0 < s .y .kind) × (length (now out) ≤ textStart n) ⌝ }
+    requires { ⌜ (nb ≡ opCountOf (now b)) × (n ≤ 2 ^ 40) × Under (2 ^ 38) (s .e) × Under (2 ^ 38) (s .f) × Stands (now b) (s .y) × (0 < s .y .kind) × (length (now out) ≤ textStart n) ⌝ }
     ensures { λ r. ⌜ SecondBoth n (now (b .entry)) s (now (out .entry)) r (now (out .exit)) ⌝ }
 {
     let x = s.x;
@@ -56,7 +56,7 @@ fn step_second(b: &[u8], nb: usize, out: &mut [u8], n: usize, s: Both) -> Both
 // The same for an insert where the other has none, and for the lesser of two inserts. Each is a copy of its own: a function with one
 // caller is taken into the loop, where the kind is known and the state stays in registers.
 fn insert_first(a: &[u8], na: usize, out: &mut [u8], m: usize, s: Both) -> Both
-    requires { ⌜ (na ≡ recordsOf (now a)) × (m ≤ 2 ^ 40) × Under (2 ^ 38) (s .e) × Under (2 ^ 38) (s .f) × Stands (now a) (s .x) × (0 < s .x .kind) × (length (now out) ≤ textStart m) ⌝ }
+    requires { ⌜ (na ≡ opCountOf (now a)) × (m ≤ 2 ^ 40) × Under (2 ^ 38) (s .e) × Under (2 ^ 38) (s .f) × Stands (now a) (s .x) × (0 < s .x .kind) × (length (now out) ≤ textStart m) ⌝ }
     ensures { λ r. ⌜ FirstBoth m (now (a .entry)) s (now (out .entry)) r (now (out .exit)) ⌝ }
 {
     let x = s.x;
@@ -72,7 +72,7 @@ fn insert_first(a: &[u8], na: usize, out: &mut [u8], m: usize, s: Both) -> Both
 }
 
 fn lesser_first(a: &[u8], na: usize, out: &mut [u8], m: usize, s: Both) -> Both
-    requires { ⌜ (na ≡ recordsOf (now a)) × (m ≤ 2 ^ 40) × Under (2 ^ 38) (s .e) × Under (2 ^ 38) (s .f) × Stands (now a) (s .x) × (0 < s .x .kind) × (length (now out) ≤ textStart m) ⌝ }
+    requires { ⌜ (na ≡ opCountOf (now a)) × (m ≤ 2 ^ 40) × Under (2 ^ 38) (s .e) × Under (2 ^ 38) (s .f) × Stands (now a) (s .x) × (0 < s .x .kind) × (length (now out) ≤ textStart m) ⌝ }
     ensures { λ r. ⌜ FirstBoth m (now (a .entry)) s (now (out .entry)) r (now (out .exit)) ⌝ }
 {
     let x = s.x;
@@ -88,7 +88,7 @@ fn lesser_first(a: &[u8], na: usize, out: &mut [u8], m: usize, s: Both) -> Both
 }
 
 fn insert_second(b: &[u8], nb: usize, out: &mut [u8], n: usize, s: Both) -> Both
-    requires { ⌜ (nb ≡ recordsOf (now b)) × (n ≤ 2 ^ 40) × Under (2 ^ 38) (s .e) × Under (2 ^ 38) (s .f) × Stands (now b) (s .y) × (0 < s .y .kind) × (length (now out) ≤ textStart n) ⌝ }
+    requires { ⌜ (nb ≡ opCountOf (now b)) × (n ≤ 2 ^ 40) × Under (2 ^ 38) (s .e) × Under (2 ^ 38) (s .f) × Stands (now b) (s .y) × (0 < s .y .kind) × (length (now out) ≤ textStart n) ⌝ }
     ensures { λ r. ⌜ SecondBoth n (now (b .entry)) s (now (out .entry)) r (now (out .exit)) ⌝ }
 {
     let x = s.x;
@@ -104,7 +104,7 @@ fn insert_second(b: &[u8], nb: usize, out: &mut [u8], n: usize, s: Both) -> Both
 }
 
 fn lesser_second(b: &[u8], nb: usize, out: &mut [u8], n: usize, s: Both) -> Both
-    requires { ⌜ (nb ≡ recordsOf (now b)) × (n ≤ 2 ^ 40) × Under (2 ^ 38) (s .e) × Under (2 ^ 38) (s .f) × Stands (now b) (s .y) × (0 < s .y .kind) × (length (now out) ≤ textStart n) ⌝ }
+    requires { ⌜ (nb ≡ opCountOf (now b)) × (n ≤ 2 ^ 40) × Under (2 ^ 38) (s .e) × Under (2 ^ 38) (s .f) × Stands (now b) (s .y) × (0 < s .y .kind) × (length (now out) ≤ textStart n) ⌝ }
     ensures { λ r. ⌜ SecondBoth n (now (b .entry)) s (now (out .entry)) r (now (out .exit)) ⌝ }
 {
     let x = s.x;
@@ -166,7 +166,7 @@ fn step_both(
     n: usize,
     s: Both,
 ) -> Both
-    requires { ⌜ (na ≡ recordsOf (now a)) × (nb ≡ recordsOf (now b)) × (m ≤ 2 ^ 40) × (n ≤ 2 ^ 40) × Under (2 ^ 38) (s .e) × Under (2 ^ 38) (s .f) × Stands (now a) (s .x) × Stands (now b) (s .y) × Chooses (transformTurn order) (now a) (now b) (s .x) (s .y) Turn.Together × (eqb (s .y .kind) 2 ≡ false) × (length (now «out_a») ≤ textStart m) × (length (now «out_b») ≤ textStart n) ⌝ }
+    requires { ⌜ (na ≡ opCountOf (now a)) × (nb ≡ opCountOf (now b)) × (m ≤ 2 ^ 40) × (n ≤ 2 ^ 40) × Under (2 ^ 38) (s .e) × Under (2 ^ 38) (s .f) × Stands (now a) (s .x) × Stands (now b) (s .y) × Chooses (transformTurn order) (now a) (now b) (s .x) (s .y) Turn.Together × (eqb (s .y .kind) 2 ≡ false) × (length (now «out_a») ≤ textStart m) × (length (now «out_b») ≤ textStart n) ⌝ }
     ensures { λ r. ⌜ TogetherBoth m n (now (a .entry)) (now (b .entry)) s (now («out_a» .entry)) (now («out_b» .entry)) r (now («out_a» .exit)) (now («out_b» .exit)) ⌝ }
 {
     let x = s.x;
@@ -218,7 +218,7 @@ fn equal_inserts(
     n: usize,
     s: Both,
 ) -> Both
-    requires { ⌜ (na ≡ recordsOf (now a)) × (nb ≡ recordsOf (now b)) × (m ≤ 2 ^ 40) × (n ≤ 2 ^ 40) × Under (2 ^ 38) (s .e) × Under (2 ^ 38) (s .f) × Stands (now a) (s .x) × Stands (now b) (s .y) × Chooses (transformTurn order) (now a) (now b) (s .x) (s .y) Turn.Together × (s .x .kind ≡ 2) × (s .y .kind ≡ 2) × (length (now «out_a») ≤ textStart m) × (length (now «out_b») ≤ textStart n) ⌝ }
+    requires { ⌜ (na ≡ opCountOf (now a)) × (nb ≡ opCountOf (now b)) × (m ≤ 2 ^ 40) × (n ≤ 2 ^ 40) × Under (2 ^ 38) (s .e) × Under (2 ^ 38) (s .f) × Stands (now a) (s .x) × Stands (now b) (s .y) × Chooses (transformTurn order) (now a) (now b) (s .x) (s .y) Turn.Together × (s .x .kind ≡ 2) × (s .y .kind ≡ 2) × (length (now «out_a») ≤ textStart m) × (length (now «out_b») ≤ textStart n) ⌝ }
     ensures { λ r. ⌜ TogetherBoth m n (now (a .entry)) (now (b .entry)) s (now («out_a» .entry)) (now («out_b» .entry)) r (now («out_a» .exit)) (now («out_b» .exit)) ⌝ }
 {
     let x = s.x;
@@ -244,7 +244,7 @@ fn inserts(
     n: usize,
     s: Both,
 ) -> Both
-    requires { ⌜ (na ≡ recordsOf (now a)) × (nb ≡ recordsOf (now b)) × (m ≤ 2 ^ 40) × (n ≤ 2 ^ 40) × Under (2 ^ 38) (s .e) × Under (2 ^ 38) (s .f) × Stands (now a) (s .x) × Stands (now b) (s .y) × (s .x .kind ≡ 2) × (s .y .kind ≡ 2) × (length (now «out_a») ≤ textStart m) × (length (now «out_b») ≤ textStart n) ⌝ }
+    requires { ⌜ (na ≡ opCountOf (now a)) × (nb ≡ opCountOf (now b)) × (m ≤ 2 ^ 40) × (n ≤ 2 ^ 40) × Under (2 ^ 38) (s .e) × Under (2 ^ 38) (s .f) × Stands (now a) (s .x) × Stands (now b) (s .y) × (s .x .kind ≡ 2) × (s .y .kind ≡ 2) × (length (now «out_a») ≤ textStart m) × (length (now «out_b») ≤ textStart n) ⌝ }
     ensures { λ r. ⌜ WentBoth m n (now (a .entry)) (now (b .entry)) s (now («out_a» .entry)) (now («out_b» .entry)) r (now («out_a» .exit)) (now («out_b» .exit)) ⌝ }
 {
     let x = s.x;
@@ -268,7 +268,7 @@ pub fn step(
     n: usize,
     s: Both,
 ) -> Both
-    requires { ⌜ (na ≡ recordsOf (now a)) × (nb ≡ recordsOf (now b)) × (m ≤ 2 ^ 40) × (n ≤ 2 ^ 40) × Under (2 ^ 38) (s .e) × Under (2 ^ 38) (s .f) × Stands (now a) (s .x) × Stands (now b) (s .y) × (liveIs (s .x) (s .y) ≡ true) × (length (now «out_a») ≤ textStart m) × (length (now «out_b») ≤ textStart n) ⌝ }
+    requires { ⌜ (na ≡ opCountOf (now a)) × (nb ≡ opCountOf (now b)) × (m ≤ 2 ^ 40) × (n ≤ 2 ^ 40) × Under (2 ^ 38) (s .e) × Under (2 ^ 38) (s .f) × Stands (now a) (s .x) × Stands (now b) (s .y) × (liveIs (s .x) (s .y) ≡ true) × (length (now «out_a») ≤ textStart m) × (length (now «out_b») ≤ textStart n) ⌝ }
     ensures { λ r. ⌜ WentBoth m n (now (a .entry)) (now (b .entry)) s (now («out_a» .entry)) (now («out_b» .entry)) r (now («out_a» .exit)) (now («out_b» .exit)) ⌝ }
 {
     let x = s.x;

@@ -8,7 +8,7 @@ use Rattle.answers.specs.Answer.{factOf}
 use Rattle.answers.specs.declared.Fact.{Fact}
 use Rattle.answers.specs.declared.Fact.the-variants as fact
 use Rattle.answers.specs.declared.Refusal.{Refusal}
-use Rattle.record.specs.Layout.{recordsOf, kindAt, countAt}
+use Rattle.record.specs.Layout.{opCountOf, kindAt, countAt}
 use Rattle.record.specs.Calls.{checkCall}
 use Rattle.record.proofs.Checked.{stopped, passed}
 use Rattle.walker.specs.declared.Found.{Found}
@@ -29,11 +29,11 @@ module _ (r : List ℕ) (at : ℕ) where
       pub refused-stays : at ≡ nextAt r at
       refused-stays = goes End refused-end
 
-    module _ (s : ℕ) (q : f ≡ fact.Is s) (n : ℕ) (e : n ≡ recordsOf r) where
+    module _ (s : ℕ) (q : f ≡ fact.Is s) (n : ℕ) (e : n ≡ opCountOf r) where
       module _ (h : n ≤ at) where
         pub past-end : End ≡ stepAt r at
         unfolding stepAt
-        past-end = rw (passed r f p s q, le-ltb at (recordsOf r) (omega arith)) refl
+        past-end = rw (passed r f p s q, le-ltb at (opCountOf r) (omega arith)) refl
 
         pub past-stays : at ≡ nextAt r at
         past-stays = goes End past-end
@@ -41,7 +41,7 @@ module _ (r : List ℕ) (at : ℕ) where
       module _ (h : at < n) (k c : ℕ) (a : k ≡ kindAt r at) (b : c ≡ countAt r at) where
         pub finds : Op k c ≡ stepAt r at
         unfolding stepAt
-        finds = rw (passed r f p s q, lt-ltb at (recordsOf r) (omega arith)) (ap₂ Op a b)
+        finds = rw (passed r f p s q, lt-ltb at (opCountOf r) (omega arith)) (ap₂ Op a b)
 
         pub moves : at + 1 ≡ nextAt r at
         moves = goes (Op k c) finds

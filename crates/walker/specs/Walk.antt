@@ -5,7 +5,7 @@ use mathlib.Core.List.{List}
 use mathlib.Core.Bool.{cond}
 use lib.Dec.{ltb}
 use Rattle.answers.specs.Answer.{unlessRefused}
-use Rattle.record.specs.Layout.{recordsOf, kindAt, countAt}
+use Rattle.record.specs.Layout.{opCountOf, kindAt, countAt}
 use Rattle.record.specs.Record.{recordFault}
 use Rattle.walker.specs.declared.Found.{Found}
 use Rattle.walker.specs.declared.Found.the-variants.{Op, End}
@@ -13,7 +13,7 @@ use Rattle.walker.specs.declared.Found.the-variants.{Op, End}
 -- what is found at a position
 unfoldable pub stepAt : List ℕ → ℕ → Found
 unfolding recordFault
-stepAt r at = unlessRefused (recordFault r) (λ n. End) (cond (ltb at (recordsOf r)) (Op (kindAt r at) (countAt r at)) End)
+stepAt r at = unlessRefused (recordFault r) (λ n. End) (cond (ltb at (opCountOf r)) (Op (kindAt r at) (countAt r at)) End)
 
 -- the position behind it; the end stays where it is
 abbrev pub behind : Found → ℕ → ℕ

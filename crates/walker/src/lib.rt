@@ -29,7 +29,7 @@ fn move_at(rec: &[u8], at: usize) -> Moved
             at,
         };
     };
-    let n = reader::core::records(rec);
+    let n = reader::core::op_count(rec);
     if n <= at {
         return Moved {
             step: Found::End,

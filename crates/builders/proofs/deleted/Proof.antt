@@ -3,8 +3,8 @@ use Rattle.builders.proofs.Extending.{before-few, text-room, more-refus
 use Rattle.builders.proofs.deleted.Statement.{statement}
 use Rattle.builders.proofs.deleted.Tie as tie
 
-records-requires : tie.Need-records-requires
-records-requires c κs = search needs
+op-count-requires : tie.Need-op-count-requires
+op-count-requires c κs = search needs
 
 delete-more-requires : tie.Need-delete-more-requires
 delete-more-requires c κs = search needs
@@ -43,7 +43,7 @@ pub deleted-spec : {M : Type 1} → statement M
 deleted-spec =
     tie.close
     (tie.spec
-    records-requires
+    op-count-requires
     delete-more-requires
     closed-requires
     limits-then-room-requires

@@ -4,8 +4,8 @@ use Rattle.builders.proofs.Extending.{before-few, text-room, more-refus
 use Rattle.builders.proofs.inserted.Statement.{statement}
 use Rattle.builders.proofs.inserted.Tie as tie
 
-records-requires : tie.Need-records-requires
-records-requires c κs = search needs
+op-count-requires : tie.Need-op-count-requires
+op-count-requires c κs = search needs
 
 insert-more-requires : tie.Need-insert-more-requires
 insert-more-requires c κs = search needs
@@ -44,7 +44,7 @@ pub inserted-spec : {M : Type 1} → statement M
 inserted-spec =
     tie.close
     (tie.spec
-    records-requires
+    op-count-requires
     insert-more-requires
     closed-requires
     limits-then-room-requires

@@ -3,8 +3,8 @@ use Rattle.builders.proofs.Extending.{before-few, text-room, more-refus
 use Rattle.builders.proofs.retained.Statement.{statement}
 use Rattle.builders.proofs.retained.Tie as tie
 
-records-requires : tie.Need-records-requires
-records-requires c κs = search needs
+op-count-requires : tie.Need-op-count-requires
+op-count-requires c κs = search needs
 
 retain-more-requires : tie.Need-retain-more-requires
 retain-more-requires c κs = search needs
@@ -43,7 +43,7 @@ pub retained-spec : {M : Type 1} → statement M
 retained-spec =
     tie.close
     (tie.spec
-    records-requires
+    op-count-requires
     retain-more-requires
     closed-requires
     limits-then-room-requires

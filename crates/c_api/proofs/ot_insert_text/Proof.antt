@@ -12,8 +12,8 @@ insert-text-requires c κs = search needs
 returns : tie.Need-returns
 returns c = search part-none
 
-records-requires : tie.Need-records-requires
-records-requires c κs = search part-passed
+op-count-requires : tie.Need-op-count-requires
+op-count-requires c κs = search part-passed
 
 text-from-requires : tie.Need-text-from-requires
 text-from-requires c κs = (search part-passed, search needs, search part-index)
@@ -33,7 +33,7 @@ ot-insert-text-spec =
     (tie.spec
     insert-text-requires
     returns
-    records-requires
+    op-count-requires
     text-from-requires
     mul-result
     add-result

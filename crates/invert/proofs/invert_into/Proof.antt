@@ -8,10 +8,10 @@ use Rattle.invert.proofs.invert_into.Statement.{statement}
 use Rattle.invert.proofs.invert_into.Tie as tie
 
 abbrev Inv-loop : tie.InvT-loop
-Inv-loop rec records text chars out₀ n e₀ f₀ at₀ out e f at = Going n rec text out₀ f at e out × (length out ≡ length out₀)
+Inv-loop rec count text chars out₀ n e₀ f₀ at₀ out e f at = Going n rec text out₀ f at e out × (length out ≡ length out₀)
 
 abbrev μ-loop : tie.MeasureT-loop
-μ-loop rec records text chars out₀ n e₀ f₀ at₀ out e f at = length (ahead rec f)
+μ-loop rec count text chars out₀ n e₀ f₀ at₀ out e f at = length (ahead rec f)
 
 new-emitter-requires : tie.Need-new-emitter-requires Inv-loop μ-loop
 new-emitter-requires c κs = search needs

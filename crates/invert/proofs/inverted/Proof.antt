@@ -3,8 +3,8 @@ use Rattle.invert_in_place.proofs.Inverses.{evident-base, evident-few, evident-
 use Rattle.invert.proofs.inverted.Statement.{statement}
 use Rattle.invert.proofs.inverted.Tie as tie
 
-records-requires : tie.Need-records-requires
-records-requires c κs = search needs
+op-count-requires : tie.Need-op-count-requires
+op-count-requires c κs = search needs
 
 surely-fits-requires : tie.Need-surely-fits-requires
 surely-fits-requires c κs = search needs
@@ -31,7 +31,7 @@ pub inverted-spec : {M : Type 1} → statement M
 inverted-spec =
     tie.close
     (tie.spec
-    records-requires
+    op-count-requires
     surely-fits-requires
     write-in-place-requires
     same-length

@@ -11,8 +11,8 @@ in-limits-requires c κs = search needs
 returns : tie.Need-returns
 returns c = search check-1
 
-records-requires : tie.Need-records-requires
-records-requires c κs = search has-header
+op-count-requires : tie.Need-op-count-requires
+op-count-requires c κs = search has-header
 
 text-bytes-requires : tie.Need-text-bytes-requires
 text-bytes-requires c κs = search has-header
@@ -54,7 +54,7 @@ returns-6 : tie.Need-returns-6
 returns-6 c = search check-5
 
 so-far : (c : tie.After-struct-known4)
-    → Agreed (c .before .before .before .before .before .before .before .before .before .before .before .before .before .before .before .before .before .before .before .before .before .args .rec .now) (c .before .before .before .before .before .before .before .before .before .before .before .before .before .before .before .before .before .records .result) (c .before .before .before .before .before .before .before .before .before .before .before .before .before .before .before .before .text-bytes .result) (c .before .before .before .before .before .before .before .before .before .before .before .before .before .sums .given .0 .0 .kept + c .before .before .before .before .before .before .before .chars .given .0 .0)
+    → Agreed (c .before .before .before .before .before .before .before .before .before .before .before .before .before .before .before .before .before .before .before .before .before .args .rec .now) (c .before .before .before .before .before .before .before .before .before .before .before .before .before .before .before .before .before .op-count .result) (c .before .before .before .before .before .before .before .before .before .before .before .before .before .before .before .before .text-bytes .result) (c .before .before .before .before .before .before .before .before .before .before .before .before .before .sums .given .0 .0 .kept + c .before .before .before .before .before .before .before .chars .given .0 .0)
 so-far c = search agreed
 
 add-target : tie.Need-add-target
@@ -81,7 +81,7 @@ check-spec =
     (tie.spec
     in-limits-requires
     returns
-    records-requires
+    op-count-requires
     text-bytes-requires
     sum-up-requires
     enum-known-sums

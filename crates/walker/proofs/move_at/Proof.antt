@@ -16,8 +16,8 @@ enum-told-2 c = search needs
 returns : tie.Need-returns
 returns c = (search refused-end, search refused-stays)
 
-records-requires : tie.Need-records-requires
-records-requires c κs = search passed
+op-count-requires : tie.Need-op-count-requires
+op-count-requires c κs = search passed
 
 returns-2 : tie.Need-returns-2
 returns-2 c = (search past-end, search past-stays)
@@ -45,7 +45,7 @@ move-at-spec =
     enum-told
     enum-told-2
     returns
-    records-requires
+    op-count-requires
     returns-2
     kind-requires
     count-requires

@@ -16,8 +16,8 @@ Inv-loop out₀ rec text n chars from s₀ out s = Stage rec text s × (out ≡ 
 abbrev μ-loop : tie.MeasureT-loop
 μ-loop out₀ rec text n chars from s₀ out s = n - s .k
 
-records-requires : tie.Need-records-requires Inv-loop μ-loop
-records-requires c κs = search needs
+op-count-requires : tie.Need-op-count-requires Inv-loop μ-loop
+op-count-requires c κs = search needs
 
 base-requires : tie.Need-base-requires Inv-loop μ-loop
 base-requires c κs = search needs
@@ -49,7 +49,7 @@ apply-into-spec =
     (tie.spec
     Inv-loop
     μ-loop
-    records-requires
+    op-count-requires
     base-requires
     text-start-requires
     loop-holds

@@ -8,10 +8,10 @@ use Rattle.invert_in_place.proofs.core.write_in_place.Statement.{statem
 use Rattle.invert_in_place.proofs.core.write_in_place.Tie as tie
 
 abbrev Inv-loop : tie.InvT-loop
-Inv-loop rec records text chars out₀ start s₀ out s = Undone records rec text out₀ s out × (length out ≡ length out₀)
+Inv-loop rec count text chars out₀ start s₀ out s = Undone count rec text out₀ s out × (length out ≡ length out₀)
 
 abbrev μ-loop : tie.MeasureT-loop
-μ-loop rec records text chars out₀ start s₀ out s = records - s .k
+μ-loop rec count text chars out₀ start s₀ out s = count - s .k
 
 text-start-requires : tie.Need-text-start-requires Inv-loop μ-loop
 text-start-requires c κs = search needs

@@ -3,8 +3,8 @@ use Rattle.reader.proofs.Fronts.{fault-header, fault-size, fault-small,
 use Rattle.reader.proofs.core.size.Statement.{statement}
 use Rattle.reader.proofs.core.size.Tie as tie
 
-records-requires : tie.Need-records-requires
-records-requires c κs = search fault-header
+op-count-requires : tie.Need-op-count-requires
+op-count-requires c κs = search fault-header
 
 text-start-requires : tie.Need-text-start-requires
 text-start-requires c κs = search needs
@@ -21,4 +21,4 @@ returns c = (search fault-size, search fault-small, search fault-whole)
 pub size-spec : {M : Type 1} → statement M
 size-spec =
     tie.close
-    (tie.spec records-requires text-start-requires text-bytes-requires add-result returns)
+    (tie.spec op-count-requires text-start-requires text-bytes-requires add-result returns)

@@ -24,8 +24,8 @@ Inv-run log from n edit cur₀ next₀ side₀ parts₀ slots ne spot₀ left₀
 abbrev μ-run : tie.MeasureT-run
 μ-run log from n edit cur₀ next₀ side₀ parts₀ slots ne spot₀ left₀ cur next side parts spot left = left
 
-records-requires : tie.Need-records-requires Inv-loop μ-loop Inv-run μ-run
-records-requires c κs = search needs
+op-count-requires : tie.Need-op-count-requires Inv-loop μ-loop Inv-run μ-run
+op-count-requires c κs = search needs
 
 run-holds : tie.Need-run-holds Inv-loop μ-loop Inv-run μ-run
 run-holds c = (search moving-start, search needs, search needs, search needs, search needs)
@@ -39,13 +39,13 @@ part-rec-start c = search (moving-place, needs)
 part-rec-end : tie.Need-part-rec-end Inv-loop μ-loop Inv-run μ-run
 part-rec-end c = search needs
 
-records-requires-2 : tie.Need-records-requires-2 Inv-loop μ-loop Inv-run μ-run
-records-requires-2 c κs =
+op-count-requires-2 : tie.Need-op-count-requires-2 Inv-loop μ-loop Inv-run μ-run
+op-count-requires-2 c κs =
     let at-run = c .before .before .before in
     at-run .run .inv .0 .holds .fault
 
-records-requires-3 : tie.Need-records-requires-3 Inv-loop μ-loop Inv-run μ-run
-records-requires-3 c κs =
+op-count-requires-3 : tie.Need-op-count-requires-3 Inv-loop μ-loop Inv-run μ-run
+op-count-requires-3 c κs =
     let at-if1 = c .before .before .before in
     let at-run = at-if1 .before in
     moving-record _ _ _ _ _ _ _ _ _ (at-run .run .inv .0) (at-if1 .if1 .left)
@@ -56,7 +56,7 @@ begin-requires c κs =
     let at-records2 = at-records3 .before in
     let at-if1 = at-records2 .before .before .before in
     let at-run = at-if1 .before in
-    (at-records2 .records2 .ensures .0, at-records2 .records2 .ensures .1, at-records3 .records3 .ensures .0, at-records3 .records3 .ensures .1, at-run .run .inv .0 .holds .fault, moving-record _ _ _ _ _ _ _ _ _ (at-run .run .inv .0) (at-if1 .if1 .left))
+    (at-records2 .op-count2 .ensures .0, at-records2 .op-count2 .ensures .1, at-records3 .op-count3 .ensures .0, at-records3 .op-count3 .ensures .1, at-run .run .inv .0 .holds .fault, moving-record _ _ _ _ _ _ _ _ _ (at-run .run .inv .0) (at-if1 .if1 .left))
 
 loop-holds : tie.Need-loop-holds Inv-loop μ-loop Inv-run μ-run
 loop-holds c =
@@ -103,8 +103,8 @@ step-requires c κs =
     let at-records2 = at-records3 .before in
     let at-run = at-records2 .before .before .before .before in
     let start = at-run .before .before .before .before .before .before .before .before in (
-      at-records2 .records2 .ensures .0,
-      at-records3 .records3 .ensures .0,
+      at-records2 .op-count2 .ensures .0,
+      at-records3 .op-count3 .ensures .0,
       start .pre .7,
       left-under _ _ _ _ _ _ (at-loop .loop .b) _ _ (at-loop .loop .inv .0),
       right-under _ _ _ _ _ _ (at-loop .loop .b) _ _ (at-loop .loop .inv .0),
@@ -141,10 +141,10 @@ replace-edit-requires c κs =
     let start = at-records .before .before .before .before .before .before .before in
     let d = marked-run _ _ _ _ _ (at-loop .loop .b) _ _ (at-loop .loop .inv .0) (at-loop .loop .inv .1) (at-loop .loop .inv .2) _ (at-goes-on .goes-on .ensures) (at-if2 .if2 .taken) (at-end .finish-both .result) _ _ (at-end .finish-both .ensures) (omega (arith, at-next .next .given, at-end .finish-both)) (omega (arith, at-side .side .given, at-end .finish-both)) in (
       start .pre .7,
-      at-records .records .ensures .0,
-      at-records .records .ensures .1,
-      at-records3 .records3 .ensures .0,
-      at-records3 .records3 .ensures .1,
+      at-records .op-count .ensures .0,
+      at-records .op-count .ensures .1,
+      at-records3 .op-count3 .ensures .0,
+      at-records3 .op-count3 .ensures .1,
       start .pre .3,
       moving-record _ _ _ _ _ _ _ _ _ (at-run .run .inv .0) (at-if1 .if1 .left),
       at-run .run .inv .0 .same-text,
@@ -279,13 +279,13 @@ rebase-spec =
     μ-loop
     Inv-run
     μ-run
-    records-requires
+    op-count-requires
     run-holds
     sub-rec
     part-rec-start
     part-rec-end
-    records-requires-2
-    records-requires-3
+    op-count-requires-2
+    op-count-requires-3
     begin-requires
     loop-holds
     goes-on-requires

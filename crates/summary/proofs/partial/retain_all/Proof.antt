@@ -3,8 +3,8 @@ use Rattle.summary.proofs.Holding.{still-start, still-under, still-smal
 use Rattle.summary.proofs.partial.retain_all.Statement.{statement}
 use Rattle.summary.proofs.partial.retain_all.Tie as tie
 
-records-requires : tie.Need-records-requires
-records-requires c κs = search needs
+op-count-requires : tie.Need-op-count-requires
+op-count-requires c κs = search needs
 
 new-emitter-requires : tie.Need-new-emitter-requires
 new-emitter-requires c κs = search needs
@@ -31,7 +31,7 @@ pub retain-all-spec : {M : Type 1} → statement M
 retain-all-spec =
     tie.close
     (tie.spec
-    records-requires
+    op-count-requires
     new-emitter-requires
     retain-requires
     finish-requires

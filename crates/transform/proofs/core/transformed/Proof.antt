@@ -12,11 +12,11 @@ base-requires-2 c κs = search needs
 returns : tie.Need-returns
 returns c = search transforms-lengths
 
-records-requires : tie.Need-records-requires
-records-requires c κs = search needs
+op-count-requires : tie.Need-op-count-requires
+op-count-requires c κs = search needs
 
-records-requires-2 : tie.Need-records-requires-2
-records-requires-2 c κs = search needs
+op-count-requires-2 : tie.Need-op-count-requires-2
+op-count-requires-2 c κs = search needs
 
 add-if2 : tie.Need-add-if2
 add-if2 c = search needs
@@ -67,8 +67,8 @@ transformed-spec =
     base-requires
     base-requires-2
     returns
-    records-requires
-    records-requires-2
+    op-count-requires
+    op-count-requires-2
     add-if2
     in-large-stages-requires
     same-length
