@@ -50,7 +50,7 @@ append-requires c κs =
     let at-has-room = at-if1 .before in
     let at-size = at-has-room .before .before .before in
     let start = at-size .before .before .before .before .before .before .before .before in
-    (start .pre .0 .found .count, start .pre .0 .found .few, start .pre .0 .found .size, log-small _ _ _ (start .pre .0 .found), omega (arith, at-size .size .ensures .2, at-cur .cur .given, at-lay .lay, at-cur2 .cur2 .given, at-rebase .rebase), room-log _ _ _ _ _ _ (at-has-room .has-room .ensures) (at-if1 .if1 .left))
+    (start .pre .0 .found .count, start .pre .0 .found .few, start .pre .0 .found .size, log-small _ _ _ (start .pre .0 .found), omega (arith, at-size .size .ensures .2, at-cur .cur .given, at-lay .load-edit, at-cur2 .cur2 .given, at-rebase .rebase), room-log _ _ _ _ _ _ (at-has-room .has-room .ensures) (at-if1 .if1 .left))
 
 same-length-4 : tie.Need-same-length-4
 same-length-4 c = search needs
@@ -77,7 +77,7 @@ returns-2 c =
     let at-has-room = at-if1 .before in
     let at-size = at-has-room .before .before .before in
     let start = at-size .before .before .before .before .before .before .before .before in
-    accepts-moved _ _ _ _ _ (start .pre .0) _ _ (start .pre .5) _ (at-size .size .ensures .0) _ (at-has-room .has-room .ensures) (at-if1 .if1 .left) _ _ _ (past-again _ _ _ _ (start .pre .0) _ (start .pre .1) _ _ _ _ _ _ (at-rebase .rebase .ensures) refl (omega (arith, start .pre .2, at-cur .cur .given, at-lay .lay)) _ _ (start .pre .5) (room-out _ _ _ _ _ _ (at-has-room .has-room .ensures) (at-if1 .if1 .left))) (at-append .append .ensures)
+    accepts-moved _ _ _ _ _ (start .pre .0) _ _ (start .pre .5) _ (at-size .size .ensures .0) _ (at-has-room .has-room .ensures) (at-if1 .if1 .left) _ _ _ (past-again _ _ _ _ (start .pre .0) _ (start .pre .1) _ _ _ _ _ _ (at-rebase .rebase .ensures) refl (omega (arith, start .pre .2, at-cur .cur .given, at-lay .load-edit)) _ _ (start .pre .5) (room-out _ _ _ _ _ _ (at-has-room .has-room .ensures) (at-if1 .if1 .left))) (at-append .append .ensures)
 
 pub write-again-spec : {M : Type 1} → statement M
 write-again-spec =
