@@ -80,7 +80,9 @@ fn checked(edit: &[u8], r: u64, log: &mut [u8], out: &mut [u8]) -> WrittenPair
 
 // An edit that was written against revision r: how many bytes the log grew by, and how many the counterparts have.
 pub fn accept(edit: &[u8], r: u64, log: &mut [u8], out: &mut [u8]) -> WrittenPair
-    ensures { λ x. ⌜ (pairOf x ≡ acceptCall (now (edit .entry)) r (now (log .entry)) (now (out .entry)) .answer) × (now (log .exit) ≡ acceptCall (now (edit .entry)) r (now (log .entry)) (now (out .entry)) .outA) × (now (out .exit) ≡ acceptCall (now (edit .entry)) r (now (log .entry)) (now (out .entry)) .outB) ⌝ }
+    ensures { λ x. ⌜ (pairOf x ≡ acceptCall (now (edit .entry)) r (now (log .entry)) (now (out .entry)) .answer)
+        × (now (log .exit) ≡ acceptCall (now (edit .entry)) r (now (log .entry)) (now (out .entry)) .outA)
+        × (now (out .exit) ≡ acceptCall (now (edit .entry)) r (now (log .entry)) (now (out .entry)) .outB) ⌝ }
 {
     match operation::check(edit) {
         Fact::Refused(x) => WrittenPair::Refused(x),

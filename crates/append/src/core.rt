@@ -25,7 +25,8 @@ pub fn has_room(log: &[u8], used: usize, size: usize, out: &[u8], bytes: usize) 
 
 // A record of `size` bytes behind the log's contents, and one revision more.
 pub fn append(log: &mut [u8], s: Scan, rec: &[u8], size: usize)
-    requires { ⌜ (s .count ≡ countOf (now log)) × (s .count ≤ maxRevisions) × (s .size ≡ sizeOfLog (now log)) × (s .size ≤ 2 ^ 50) × (size ≤ length (now rec)) × (s .size + size ≤ length (now log)) ⌝ }
+    requires { ⌜ (s .count ≡ countOf (now log)) × (s .count ≤ maxRevisions) × (s .size ≡ sizeOfLog (now log)) × (s .size ≤ 2 ^ 50)
+        × (size ≤ length (now rec)) × (s .size + size ≤ length (now log)) ⌝ }
     ensures { λ _. ⌜ now (log .exit) ≡ appended (now (log .entry)) (take size (now (rec .entry))) ⌝ }
 {
     buffers::core::copy(log, s.size, rec, 0, size);
@@ -72,7 +73,8 @@ pub fn deliver(
     parts: &[u8],
     bytes: usize,
 ) -> Tried
-    requires { ⌜ Admitted (now edit) r (now log) s × MovedPast (now edit) r (now log) bytes (now cur) × Stored (now edit) r (now log) bytes (now parts) ⌝ }
+    requires { ⌜ Admitted (now edit) r (now log) s × MovedPast (now edit) r (now log) bytes (now cur)
+        × Stored (now edit) r (now log) bytes (now parts) ⌝ }
     ensures { λ x. ⌜ Tries (now (edit .entry)) r (now (log .entry)) (now (out .entry)) x (now (log .exit)) (now (out .exit)) ⌝ }
 {
     let size = reader::core::size(cur);

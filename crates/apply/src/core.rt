@@ -25,7 +25,8 @@ pub(crate) struct Progress {
 
 // The place `count` characters behind `at`, in a text that has `chars` characters and at least so many from there on.
 fn skip_chars(text: &[u8], chars: usize, at: usize, count: usize) -> usize
-    requires { ⌜ (chars ≡ numChars (now text)) × (at ≤ length (now text)) × T (wellFormed (drop at (now text))) × (count < 65536) × (count ≤ numChars (drop at (now text))) ⌝ }
+    requires { ⌜ (chars ≡ numChars (now text)) × (at ≤ length (now text)) × T (wellFormed (drop at (now text))) × (count < 65536)
+        × (count ≤ numChars (drop at (now text))) ⌝ }
     ensures { λ end. ⌜ Passes (now (text .entry)) at count end ⌝ }
 {
     if chars == text.len() {
@@ -36,7 +37,8 @@ fn skip_chars(text: &[u8], chars: usize, at: usize, count: usize) -> usize
 
 // The same for the first of `left` operations.
 fn end_of(text: &[u8], chars: usize, at: usize, count: usize, left: usize) -> usize
-    requires { ⌜ (chars ≡ numChars (now text)) × (at ≤ length (now text)) × T (wellFormed (drop at (now text))) × (count < 65536) × (count ≤ numChars (drop at (now text))) × TakesRest (now text) at count left ⌝ }
+    requires { ⌜ (chars ≡ numChars (now text)) × (at ≤ length (now text)) × T (wellFormed (drop at (now text))) × (count < 65536)
+        × (count ≤ numChars (drop at (now text))) × TakesRest (now text) at count left ⌝ }
     ensures { λ end. ⌜ Passes (now (text .entry)) at count end ⌝ }
 {
     if left == 1 {
@@ -54,7 +56,8 @@ fn apply_op(
     chars: usize,
     s: Progress,
 ) -> Progress
-    requires { ⌜ (recordFault (now rec) ≡ 0) × (n ≡ opCountOf (now rec)) × (chars ≡ numChars (now text)) × Stage (now rec) (now text) s × (s .k < n) ⌝ }
+    requires { ⌜ (recordFault (now rec) ≡ 0) × (n ≡ opCountOf (now rec)) × (chars ≡ numChars (now text)) × Stage (now rec) (now text) s
+        × (s .k < n) ⌝ }
     ensures { λ r. ⌜ Steps (now (rec .entry)) (now (text .entry)) s (now (out .entry)) r (now (out .exit)) ⌝ }
 {
     let k = s.k;
@@ -94,7 +97,8 @@ fn apply_op(
 // How many bytes the text after the edit has, of which those that have a place are written.
 pub fn apply_into(out: &mut [u8], rec: &[u8], text: &[u8]) -> usize
     requires { ⌜ (recordFault (now rec) ≡ 0) × T (wellFormed (now text)) × (numChars (now text) ≡ baseOf (now rec)) ⌝ }
-    ensures { λ r. ⌜ (r ≡ length (played (now (rec .entry)) (now (text .entry)))) × (now (out .exit) ≡ over 0 (played (now (rec .entry)) (now (text .entry))) (now (out .entry))) ⌝ }
+    ensures { λ r. ⌜ (r ≡ length (played (now (rec .entry)) (now (text .entry))))
+        × (now (out .exit) ≡ over 0 (played (now (rec .entry)) (now (text .entry))) (now (out .entry))) ⌝ }
 {
     let n = reader::core::op_count(rec);
     let chars = reader::core::base(rec);

@@ -16,7 +16,8 @@ pub mod core;
 
 // The text after the edit: retain copies, delete skips, insert writes.
 pub fn apply(rec: &[u8], text: &[u8], out: &mut [u8]) -> Written
-    ensures { λ r. ⌜ (writtenOf r ≡ applyCall (now (rec .entry)) (now (text .entry)) (now (out .entry)) .answer) × (now (out .exit) ≡ applyCall (now (rec .entry)) (now (text .entry)) (now (out .entry)) .out) ⌝ }
+    ensures { λ r. ⌜ (writtenOf r ≡ applyCall (now (rec .entry)) (now (text .entry)) (now (out .entry)) .answer)
+        × (now (out .exit) ≡ applyCall (now (rec .entry)) (now (text .entry)) (now (out .entry)) .out) ⌝ }
 {
     match operation::check(rec) {
         Fact::Refused(x) => Written::Refused(x),
@@ -37,7 +38,8 @@ pub fn apply(rec: &[u8], text: &[u8], out: &mut [u8]) -> Written
 // a first run yields the size and writes nothing.
 fn write(rec: &[u8], text: &[u8], out: &mut [u8]) -> Written
     requires { ⌜ (recordFault (now rec) ≡ 0) × T (wellFormed (now text)) × (numChars (now text) ≡ baseOf (now rec)) ⌝ }
-    ensures { λ r. ⌜ (writtenOf r ≡ applyCall (now (rec .entry)) (now (text .entry)) (now (out .entry)) .answer) × (now (out .exit) ≡ applyCall (now (rec .entry)) (now (text .entry)) (now (out .entry)) .out) ⌝ }
+    ensures { λ r. ⌜ (writtenOf r ≡ applyCall (now (rec .entry)) (now (text .entry)) (now (out .entry)) .answer)
+        × (now (out .exit) ≡ applyCall (now (rec .entry)) (now (text .entry)) (now (out .entry)) .out) ⌝ }
 {
     let inserted = reader::core::text_bytes(rec);
     if text.len() + inserted <= out.len() {

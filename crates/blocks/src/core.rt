@@ -3,7 +3,8 @@ ghost use mathlib.Core.Path.{_≡_};
 ghost use Prim.Native.Nat.{_≤_, _-_, _+_};
 ghost use lib.ListN.{length};
 ghost use Rattle.characters.specs.Form.{within};
-ghost use Rattle.characters.specs.InnerBlock.{bitOf, maskOf, Tells, dueOf, invalidByteOf, outsideOf, misplacedOf, Goes, pendingOf, before, OnlyIf, Window, StandWell};
+ghost use Rattle.characters.specs.InnerBlock.{bitOf, maskOf, Tells, dueOf, invalidByteOf, outsideOf, misplacedOf, Goes, pendingOf, before};
+ghost use Rattle.characters.specs.InnerBlock.{OnlyIf, Window, StandWell};
 ghost use Rattle.characters.specs.Chars.{isCont};
 ghost use Rattle.characters.specs.InnerPassed.{Passed};
 ghost use Rattle.characters.specs.InnerAscii.{Runs};
@@ -184,7 +185,8 @@ fn ends_ascii(text: &[u8], at: usize) -> bool
 // Whether the last sixteen bytes go on well, and nothing is held behind them.
 fn ends_well(text: &[u8]) -> bool
     requires { ⌜ 19 ≤ length (now text) ⌝ }
-    ensures { λ r. ⌜ OnlyIf r (StandWell (now (text .entry)) (length (now (text .entry)) - 16) (length (now (text .entry))) × (before pendingOf (now (text .entry)) (length (now (text .entry))) ≡ 0)) ⌝ }
+    ensures { λ r. ⌜ OnlyIf r (StandWell (now (text .entry)) (length (now (text .entry)) - 16) (length (now (text .entry)))
+        × (before pendingOf (now (text .entry)) (length (now (text .entry))) ≡ 0)) ⌝ }
 {
     let s = check16(text, text.len() - 16);
     if s.bad != 0 {

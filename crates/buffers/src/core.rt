@@ -71,7 +71,8 @@ pub fn lesser(a: usize, b: usize) -> usize
 
 pub fn copy_into(dst: &mut [u8], at: usize, src: &[u8])
     requires { ⌜ at + length (now src) ≤ length (now dst) ⌝ }
-    ensures { λ _. ⌜ now (dst .exit) ≡ take at (now (dst .entry)) ++ now (src .entry) ++ drop (at + length (now (src .entry))) (now (dst .entry)) ⌝ }
+    ensures { λ _. ⌜ now (dst .exit) ≡ take at (now (dst .entry)) ++ now (src .entry) ++ drop (at + length (now (src .entry)))
+        (now (dst .entry)) ⌝ }
 {
     let mut j = 0;
     while j < src.len() {
@@ -83,7 +84,8 @@ pub fn copy_into(dst: &mut [u8], at: usize, src: &[u8])
 // Four or two bytes, read before any is written: one move.
 fn four(dst: &mut [u8], at: usize, src: &[u8], from: usize)
     requires { ⌜ (at + 4 ≤ length (now dst)) × (from + 4 ≤ length (now src)) ⌝ }
-    ensures { λ _. ⌜ now (dst .exit) ≡ take at (now (dst .entry)) ++ take 4 (drop from (now (src .entry))) ++ drop (at + 4) (now (dst .entry)) ⌝ }
+    ensures { λ _. ⌜ now (dst .exit) ≡ take at (now (dst .entry)) ++ take 4 (drop from (now (src .entry))) ++ drop (at + 4)
+        (now (dst .entry)) ⌝ }
 {
     let a = src[from];
     let b = src[from + 1];
@@ -97,7 +99,8 @@ fn four(dst: &mut [u8], at: usize, src: &[u8], from: usize)
 
 fn two(dst: &mut [u8], at: usize, src: &[u8], from: usize)
     requires { ⌜ (at + 2 ≤ length (now dst)) × (from + 2 ≤ length (now src)) ⌝ }
-    ensures { λ _. ⌜ now (dst .exit) ≡ take at (now (dst .entry)) ++ take 2 (drop from (now (src .entry))) ++ drop (at + 2) (now (dst .entry)) ⌝ }
+    ensures { λ _. ⌜ now (dst .exit) ≡ take at (now (dst .entry)) ++ take 2 (drop from (now (src .entry))) ++ drop (at + 2)
+        (now (dst .entry)) ⌝ }
 {
     let a = src[from];
     let b = src[from + 1];
@@ -108,7 +111,8 @@ fn two(dst: &mut [u8], at: usize, src: &[u8], from: usize)
 // The same as `copy_into`, for what is mostly short: up to eight bytes by two moves, which may overlap.
 pub fn copy_few(dst: &mut [u8], at: usize, src: &[u8])
     requires { ⌜ at + length (now src) ≤ length (now dst) ⌝ }
-    ensures { λ _. ⌜ now (dst .exit) ≡ take at (now (dst .entry)) ++ now (src .entry) ++ drop (at + length (now (src .entry))) (now (dst .entry)) ⌝ }
+    ensures { λ _. ⌜ now (dst .exit) ≡ take at (now (dst .entry)) ++ now (src .entry) ++ drop (at + length (now (src .entry)))
+        (now (dst .entry)) ⌝ }
 {
     let n = src.len();
     if 8 < n {

@@ -113,7 +113,8 @@ fn delete_more(rec: &[u8], ops: usize, k: usize) -> Emitter
 
 // With the text inserted: a delete at the end and the insert before it are pending. (`text` is what the contract speaks of.)
 fn insert_more(rec: &[u8], ops: usize, text: &[u8], num: usize) -> Emitter
-    requires { ⌜ (recordFault (now rec) ≡ 0) × (ops ≡ opCountOf (now rec)) × (ops ≤ maxOps) × T (wellFormed (now text)) × (num ≡ numChars (now text)) × (length (now text) ≤ maxSize) ⌝ }
+    requires { ⌜ (recordFault (now rec) ≡ 0) × (ops ≡ opCountOf (now rec)) × (ops ≤ maxOps) × T (wellFormed (now text))
+        × (num ≡ numChars (now text)) × (length (now text) ≤ maxSize) ⌝ }
     ensures { λ r. ⌜ Grown (now (rec .entry)) (insert (chars (now (text .entry)))) (now (text .entry)) r × (r .ret ≡ 0) ⌝ }
 {
     let del = ending(rec, ops, ops, DELETE);
@@ -141,7 +142,8 @@ fn settle_with(
     more: &[u8],
 )
     requires { ⌜ (n ≤ 2 ^ 40) × (ops ≤ 2 ^ 40) × (k ≤ ops) × (bytes ≤ 2 ^ 40) × (textStart ops + bytes ≤ length (now rec)) ⌝ }
-    ensures { λ _. ⌜ now (out .exit) ≡ over (textStart n + bytes) (now (more .entry)) (relocated ops n k bytes (now (rec .entry)) (now (out .entry))) ⌝ }
+    ensures { λ _. ⌜ now (out .exit) ≡ over (textStart n + bytes) (now (more .entry))
+        (relocated ops n k bytes (now (rec .entry)) (now (out .entry))) ⌝ }
 {
     emitter::core::relocate(out, n, rec, ops, k, bytes);
     let at = layout::core::text_start(n) + bytes;
@@ -196,7 +198,8 @@ fn deleted(rec: &[u8], k: usize, out: &mut [u8]) -> Written
 
 fn inserted(rec: &[u8], text: &[u8], num: usize, out: &mut [u8]) -> Written
     requires { ⌜ (recordFault (now rec) ≡ 0) × T (wellFormed (now text)) × (num ≡ numChars (now text)) × (length (now text) ≤ maxSize) ⌝ }
-    ensures { λ r. ⌜ Gives (deliver 0 (extend (ops (now (rec .entry))) (insert (chars (now (text .entry))))) (now (out .entry))) r (now (out .exit)) ⌝ }
+    ensures { λ r. ⌜ Gives (deliver 0 (extend (ops (now (rec .entry))) (insert (chars (now (text .entry))))) (now (out .entry))) r
+        (now (out .exit)) ⌝ }
 {
     let ops = reader::core::op_count(rec);
     let f = insert_more(rec, ops, text, num);
@@ -215,7 +218,8 @@ fn inserted(rec: &[u8], text: &[u8], num: usize, out: &mut [u8]) -> Written
 
 // The record with a retain of n characters behind it. What counts more than a limit lets no result within the limits.
 pub fn retain(rec: &[u8], n: u64, out: &mut [u8]) -> Written
-    ensures { λ r. ⌜ (writtenOf r ≡ retainCall (now (rec .entry)) n (now (out .entry)) .answer) × (now (out .exit) ≡ retainCall (now (rec .entry)) n (now (out .entry)) .out) ⌝ }
+    ensures { λ r. ⌜ (writtenOf r ≡ retainCall (now (rec .entry)) n (now (out .entry)) .answer)
+        × (now (out .exit) ≡ retainCall (now (rec .entry)) n (now (out .entry)) .out) ⌝ }
 {
     match operation::check(rec) {
         Fact::Refused(y) => Written::Refused(y),
@@ -230,7 +234,8 @@ pub fn retain(rec: &[u8], n: u64, out: &mut [u8]) -> Written
 
 // The record with a delete of n characters behind it.
 pub fn delete(rec: &[u8], n: u64, out: &mut [u8]) -> Written
-    ensures { λ r. ⌜ (writtenOf r ≡ deleteCall (now (rec .entry)) n (now (out .entry)) .answer) × (now (out .exit) ≡ deleteCall (now (rec .entry)) n (now (out .entry)) .out) ⌝ }
+    ensures { λ r. ⌜ (writtenOf r ≡ deleteCall (now (rec .entry)) n (now (out .entry)) .answer)
+        × (now (out .exit) ≡ deleteCall (now (rec .entry)) n (now (out .entry)) .out) ⌝ }
 {
     match operation::check(rec) {
         Fact::Refused(y) => Written::Refused(y),
@@ -245,7 +250,8 @@ pub fn delete(rec: &[u8], n: u64, out: &mut [u8]) -> Written
 
 // The record with the text inserted: behind its last operation, or before it where that is a delete.
 pub fn insert(rec: &[u8], text: &[u8], out: &mut [u8]) -> Written
-    ensures { λ r. ⌜ (writtenOf r ≡ insertCall (now (rec .entry)) (now (text .entry)) (now (out .entry)) .answer) × (now (out .exit) ≡ insertCall (now (rec .entry)) (now (text .entry)) (now (out .entry)) .out) ⌝ }
+    ensures { λ r. ⌜ (writtenOf r ≡ insertCall (now (rec .entry)) (now (text .entry)) (now (out .entry)) .answer)
+        × (now (out .exit) ≡ insertCall (now (rec .entry)) (now (text .entry)) (now (out .entry)) .out) ⌝ }
 {
     match operation::check(rec) {
         Fact::Refused(y) => Written::Refused(y),

@@ -82,21 +82,24 @@ pub extern "C" fn ot_insert_text(rec: &[u8], k: u64) -> u64
 
 #[no_mangle]
 pub extern "C" fn ot_retain(rec: &[u8], n: u64, out: &mut [u8]) -> u64
-    ensures { λ r. ⌜ (r ≡ packed (retainCall (now (rec .entry)) n (now (out .entry)) .answer)) × (now (out .exit) ≡ retainCall (now (rec .entry)) n (now (out .entry)) .out) ⌝ }
+    ensures { λ r. ⌜ (r ≡ packed (retainCall (now (rec .entry)) n (now (out .entry)) .answer))
+        × (now (out .exit) ≡ retainCall (now (rec .entry)) n (now (out .entry)) .out) ⌝ }
 {
     packing::core::written(builders::retain(rec, n, out))
 }
 
 #[no_mangle]
 pub extern "C" fn ot_delete(rec: &[u8], n: u64, out: &mut [u8]) -> u64
-    ensures { λ r. ⌜ (r ≡ packed (deleteCall (now (rec .entry)) n (now (out .entry)) .answer)) × (now (out .exit) ≡ deleteCall (now (rec .entry)) n (now (out .entry)) .out) ⌝ }
+    ensures { λ r. ⌜ (r ≡ packed (deleteCall (now (rec .entry)) n (now (out .entry)) .answer))
+        × (now (out .exit) ≡ deleteCall (now (rec .entry)) n (now (out .entry)) .out) ⌝ }
 {
     packing::core::written(builders::delete(rec, n, out))
 }
 
 #[no_mangle]
 pub extern "C" fn ot_insert(rec: &[u8], text: &[u8], out: &mut [u8]) -> u64
-    ensures { λ r. ⌜ (r ≡ packed (insertCall (now (rec .entry)) (now (text .entry)) (now (out .entry)) .answer)) × (now (out .exit) ≡ insertCall (now (rec .entry)) (now (text .entry)) (now (out .entry)) .out) ⌝ }
+    ensures { λ r. ⌜ (r ≡ packed (insertCall (now (rec .entry)) (now (text .entry)) (now (out .entry)) .answer))
+        × (now (out .exit) ≡ insertCall (now (rec .entry)) (now (text .entry)) (now (out .entry)) .out) ⌝ }
 {
     packing::core::written(builders::insert(rec, text, out))
 }
@@ -105,28 +108,33 @@ pub extern "C" fn ot_insert(rec: &[u8], text: &[u8], out: &mut [u8]) -> u64
 
 #[no_mangle]
 pub extern "C" fn ot_apply(rec: &[u8], text: &[u8], out: &mut [u8]) -> u64
-    ensures { λ r. ⌜ (r ≡ packed (applyCall (now (rec .entry)) (now (text .entry)) (now (out .entry)) .answer)) × (now (out .exit) ≡ applyCall (now (rec .entry)) (now (text .entry)) (now (out .entry)) .out) ⌝ }
+    ensures { λ r. ⌜ (r ≡ packed (applyCall (now (rec .entry)) (now (text .entry)) (now (out .entry)) .answer))
+        × (now (out .exit) ≡ applyCall (now (rec .entry)) (now (text .entry)) (now (out .entry)) .out) ⌝ }
 {
     packing::core::written(apply::apply(rec, text, out))
 }
 
 #[no_mangle]
 pub extern "C" fn ot_invert(rec: &[u8], text: &[u8], out: &mut [u8]) -> u64
-    ensures { λ r. ⌜ (r ≡ packed (invertCall (now (rec .entry)) (now (text .entry)) (now (out .entry)) .answer)) × (now (out .exit) ≡ invertCall (now (rec .entry)) (now (text .entry)) (now (out .entry)) .out) ⌝ }
+    ensures { λ r. ⌜ (r ≡ packed (invertCall (now (rec .entry)) (now (text .entry)) (now (out .entry)) .answer))
+        × (now (out .exit) ≡ invertCall (now (rec .entry)) (now (text .entry)) (now (out .entry)) .out) ⌝ }
 {
     packing::core::written(invert::invert(rec, text, out))
 }
 
 #[no_mangle]
 pub extern "C" fn ot_compose(a: &[u8], b: &[u8], out: &mut [u8]) -> u64
-    ensures { λ r. ⌜ (r ≡ packed (composeCall (now (a .entry)) (now (b .entry)) (now (out .entry)) .answer)) × (now (out .exit) ≡ composeCall (now (a .entry)) (now (b .entry)) (now (out .entry)) .out) ⌝ }
+    ensures { λ r. ⌜ (r ≡ packed (composeCall (now (a .entry)) (now (b .entry)) (now (out .entry)) .answer))
+        × (now (out .exit) ≡ composeCall (now (a .entry)) (now (b .entry)) (now (out .entry)) .out) ⌝ }
 {
     packing::core::written(compose::compose(a, b, out))
 }
 
 #[no_mangle]
 pub extern "C" fn ot_transform(a: &[u8], b: &[u8], out_a: &mut [u8], out_b: &mut [u8]) -> u64
-    ensures { λ r. ⌜ (r ≡ packed (transformCall (now (a .entry)) (now (b .entry)) (now («out_a» .entry)) (now («out_b» .entry)) .answer)) × (now («out_a» .exit) ≡ transformCall (now (a .entry)) (now (b .entry)) (now («out_a» .entry)) (now («out_b» .entry)) .outA) × (now («out_b» .exit) ≡ transformCall (now (a .entry)) (now (b .entry)) (now («out_a» .entry)) (now («out_b» .entry)) .outB) ⌝ }
+    ensures { λ r. ⌜ (r ≡ packed (transformCall (now (a .entry)) (now (b .entry)) (now («out_a» .entry)) (now («out_b» .entry)) .answer))
+        × (now («out_a» .exit) ≡ transformCall (now (a .entry)) (now (b .entry)) (now («out_a» .entry)) (now («out_b» .entry)) .outA)
+        × (now («out_b» .exit) ≡ transformCall (now (a .entry)) (now (b .entry)) (now («out_a» .entry)) (now («out_b» .entry)) .outB) ⌝ }
 {
     packing::core::pair(transform::transform(a, b, out_a, out_b))
 }
@@ -135,21 +143,25 @@ pub extern "C" fn ot_transform(a: &[u8], b: &[u8], out_a: &mut [u8], out_b: &mut
 
 #[no_mangle]
 pub extern "C" fn ot_open(start: u64, log: &mut [u8]) -> u64
-    ensures { λ r. ⌜ (r ≡ packed (openCall start (now (log .entry)) .answer)) × (now (log .exit) ≡ openCall start (now (log .entry)) .out) ⌝ }
+    ensures { λ r. ⌜ (r ≡ packed (openCall start (now (log .entry)) .answer))
+        × (now (log .exit) ≡ openCall start (now (log .entry)) .out) ⌝ }
 {
     packing::core::written(log::open(start, log))
 }
 
 #[no_mangle]
 pub extern "C" fn ot_accept(edit: &[u8], r: u64, log: &mut [u8], out: &mut [u8]) -> u64
-    ensures { λ x. ⌜ (x ≡ packed (acceptCall (now (edit .entry)) r (now (log .entry)) (now (out .entry)) .answer)) × (now (log .exit) ≡ acceptCall (now (edit .entry)) r (now (log .entry)) (now (out .entry)) .outA) × (now (out .exit) ≡ acceptCall (now (edit .entry)) r (now (log .entry)) (now (out .entry)) .outB) ⌝ }
+    ensures { λ x. ⌜ (x ≡ packed (acceptCall (now (edit .entry)) r (now (log .entry)) (now (out .entry)) .answer))
+        × (now (log .exit) ≡ acceptCall (now (edit .entry)) r (now (log .entry)) (now (out .entry)) .outA)
+        × (now (out .exit) ≡ acceptCall (now (edit .entry)) r (now (log .entry)) (now (out .entry)) .outB) ⌝ }
 {
     packing::core::pair(accept::accept(edit, r, log, out))
 }
 
 #[no_mangle]
 pub extern "C" fn ot_summary(log: &[u8], out: &mut [u8]) -> u64
-    ensures { λ r. ⌜ (r ≡ packed (summaryCall (now (log .entry)) (now (out .entry)) .answer)) × (now (out .exit) ≡ summaryCall (now (log .entry)) (now (out .entry)) .out) ⌝ }
+    ensures { λ r. ⌜ (r ≡ packed (summaryCall (now (log .entry)) (now (out .entry)) .answer))
+        × (now (out .exit) ≡ summaryCall (now (log .entry)) (now (out .entry)) .out) ⌝ }
 {
     packing::core::written(summary::summary(log, out))
 }
@@ -162,7 +174,10 @@ pub extern "C" fn ot_play(
     scratch_b: &mut [u8],
     out: &mut [u8],
 ) -> u64
-    ensures { λ r. ⌜ (r ≡ packed (playCall (now (log .entry)) (now (text .entry)) (length (now («scratch_a» .entry))) (length (now («scratch_b» .entry))) (now (out .entry)) .answer)) × (now (out .exit) ≡ playCall (now (log .entry)) (now (text .entry)) (length (now («scratch_a» .entry))) (length (now («scratch_b» .entry))) (now (out .entry)) .out) ⌝ }
+    ensures { λ r. ⌜ (r ≡ packed (playCall (now (log .entry)) (now (text .entry)) (length (now («scratch_a» .entry)))
+        (length (now («scratch_b» .entry))) (now (out .entry)) .answer))
+        × (now (out .exit) ≡ playCall (now (log .entry)) (now (text .entry)) (length (now («scratch_a» .entry)))
+        (length (now («scratch_b» .entry))) (now (out .entry)) .out) ⌝ }
 {
     packing::core::written(playback::play(log, text, scratch_a, scratch_b, out))
 }

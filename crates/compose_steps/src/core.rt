@@ -12,7 +12,7 @@ ghost use mathlib.Core.List.{[], _∷_};
 ghost use mathlib.Core.Bool.{true};
 ghost use Rattle.edits.specs.Compose.{composeTurn, made};
 ghost use Rattle.edits.specs.Op.{cut};
-ghost use Rattle.record.specs.Layout.{opCountOf};
+ghost use Rattle.record.specs.Layout.{opCountOf, deleteKind, insertKind, retainKind};
 ghost use Rattle.record.specs.InnerFront.{Stands, frontOp, Cut};
 ghost use Rattle.emitter.specs.InnerEmit.{Under, Adds};
 ghost use Rattle.steps.specs.declared.core.Turn.the-variants.{First, Second, Together};
@@ -20,7 +20,8 @@ ghost use Rattle.steps.specs.InnerSteps.{Chooses, Went, liveIs};
 
 // A delete of the first goes before all else.
 fn delete_first(a: &[u8], na: usize, b: &[u8], out: &mut [u8], n: usize, s: State) -> State
-    requires { ⌜ (na ≡ opCountOf (now a)) × (n ≤ 2 ^ 40) × Under (2 ^ 38) (s .e) × Stands (now a) (s .x) × Stands (now b) (s .y) × Chooses composeTurn (now a) (now b) (s .x) (s .y) First ⌝ }
+    requires { ⌜ (na ≡ opCountOf (now a)) × (n ≤ 2 ^ 40) × Under (2 ^ 38) (s .e) × Stands (now a) (s .x) × Stands (now b) (s .y)
+        × Chooses composeTurn (now a) (now b) (s .x) (s .y) First ⌝ }
     ensures { λ r. ⌜ Went composeTurn made n (now (a .entry)) (now (b .entry)) s (now (out .entry)) r (now (out .exit)) ⌝ }
 {
     let x = s.x;
@@ -43,7 +44,8 @@ fn text_of_second(
     k: usize,
     mid: usize,
 ) -> Emitter
-    requires { ⌜ (n ≤ 2 ^ 40) × Stands (now b) f × (f .kind ≡ 2) × (0 < k) × (k ≤ f .left) × Cut (now b) f k mid × Under (2 ^ 40) e ⌝ }
+    requires { ⌜ (n ≤ 2 ^ 40) × Stands (now b) f × (f .kind ≡ insertKind) × (0 < k) × (k ≤ f .left) × Cut (now b) f k mid
+        × Under (2 ^ 40) e ⌝ }
     ensures { λ r. ⌜ Adds n (cut k (frontOp (now (b .entry)) f) ∷ []) e (now (out .entry)) r (now (out .exit)) ⌝ }
 {
     let from = f.from;
@@ -61,7 +63,8 @@ fn text_of_first(
     k: usize,
     mid: usize,
 ) -> Emitter
-    requires { ⌜ (n ≤ 2 ^ 40) × Stands (now a) f × (f .kind ≡ 2) × (0 < k) × (k ≤ f .left) × Cut (now a) f k mid × Under (2 ^ 40) e ⌝ }
+    requires { ⌜ (n ≤ 2 ^ 40) × Stands (now a) f × (f .kind ≡ insertKind) × (0 < k) × (k ≤ f .left) × Cut (now a) f k mid
+        × Under (2 ^ 40) e ⌝ }
     ensures { λ r. ⌜ Adds n (cut k (frontOp (now (a .entry)) f) ∷ []) e (now (out .entry)) r (now (out .exit)) ⌝ }
 {
     let from = f.from;
@@ -72,7 +75,8 @@ fn text_of_first(
 
 // An insert of the second.
 fn insert_second(a: &[u8], b: &[u8], nb: usize, out: &mut [u8], n: usize, s: State) -> State
-    requires { ⌜ (nb ≡ opCountOf (now b)) × (n ≤ 2 ^ 40) × Under (2 ^ 38) (s .e) × Stands (now a) (s .x) × Stands (now b) (s .y) × Chooses composeTurn (now a) (now b) (s .x) (s .y) Second × (s .y .kind ≡ 2) ⌝ }
+    requires { ⌜ (nb ≡ opCountOf (now b)) × (n ≤ 2 ^ 40) × Under (2 ^ 38) (s .e) × Stands (now a) (s .x) × Stands (now b) (s .y)
+        × Chooses composeTurn (now a) (now b) (s .x) (s .y) Second × (s .y .kind ≡ insertKind) ⌝ }
     ensures { λ r. ⌜ Went composeTurn made n (now (a .entry)) (now (b .entry)) s (now (out .entry)) r (now (out .exit)) ⌝ }
 {
     let x = s.x;
@@ -87,7 +91,8 @@ fn insert_second(a: &[u8], b: &[u8], nb: usize, out: &mut [u8], n: usize, s: Sta
 
 // What is left of the second, where the first has ended.
 fn only_second(a: &[u8], b: &[u8], nb: usize, out: &mut [u8], n: usize, s: State) -> State
-    requires { ⌜ (nb ≡ opCountOf (now b)) × (n ≤ 2 ^ 40) × Under (2 ^ 38) (s .e) × Stands (now a) (s .x) × Stands (now b) (s .y) × Chooses composeTurn (now a) (now b) (s .x) (s .y) Second ⌝ }
+    requires { ⌜ (nb ≡ opCountOf (now b)) × (n ≤ 2 ^ 40) × Under (2 ^ 38) (s .e) × Stands (now a) (s .x) × Stands (now b) (s .y)
+        × Chooses composeTurn (now a) (now b) (s .x) (s .y) Second ⌝ }
     ensures { λ r. ⌜ Went composeTurn made n (now (a .entry)) (now (b .entry)) s (now (out .entry)) r (now (out .exit)) ⌝ }
 {
     let x = s.x;
@@ -102,7 +107,8 @@ fn only_second(a: &[u8], b: &[u8], nb: usize, out: &mut [u8], n: usize, s: State
 
 // What is left of the first, where the second has ended.
 fn only_first(a: &[u8], na: usize, b: &[u8], out: &mut [u8], n: usize, s: State) -> State
-    requires { ⌜ (na ≡ opCountOf (now a)) × (n ≤ 2 ^ 40) × Under (2 ^ 38) (s .e) × Stands (now a) (s .x) × Stands (now b) (s .y) × Chooses composeTurn (now a) (now b) (s .x) (s .y) First ⌝ }
+    requires { ⌜ (na ≡ opCountOf (now a)) × (n ≤ 2 ^ 40) × Under (2 ^ 38) (s .e) × Stands (now a) (s .x) × Stands (now b) (s .y)
+        × Chooses composeTurn (now a) (now b) (s .x) (s .y) First ⌝ }
     ensures { λ r. ⌜ Went composeTurn made n (now (a .entry)) (now (b .entry)) s (now (out .entry)) r (now (out .exit)) ⌝ }
 {
     let x = s.x;
@@ -117,7 +123,8 @@ fn only_first(a: &[u8], na: usize, b: &[u8], out: &mut [u8], n: usize, s: State)
 
 // As many characters of both: what the first retains, the second retains or deletes.
 fn retained(a: &[u8], na: usize, b: &[u8], nb: usize, out: &mut [u8], n: usize, s: State) -> State
-    requires { ⌜ (na ≡ opCountOf (now a)) × (nb ≡ opCountOf (now b)) × (n ≤ 2 ^ 40) × Under (2 ^ 38) (s .e) × Stands (now a) (s .x) × Stands (now b) (s .y) × Chooses composeTurn (now a) (now b) (s .x) (s .y) Together × (s .x .kind ≡ 1) ⌝ }
+    requires { ⌜ (na ≡ opCountOf (now a)) × (nb ≡ opCountOf (now b)) × (n ≤ 2 ^ 40) × Under (2 ^ 38) (s .e) × Stands (now a) (s .x)
+        × Stands (now b) (s .y) × Chooses composeTurn (now a) (now b) (s .x) (s .y) Together × (s .x .kind ≡ retainKind) ⌝ }
     ensures { λ r. ⌜ Went composeTurn made n (now (a .entry)) (now (b .entry)) s (now (out .entry)) r (now (out .exit)) ⌝ }
 {
     let x = s.x;
@@ -142,7 +149,8 @@ fn insert_retain(
     n: usize,
     s: State,
 ) -> State
-    requires { ⌜ (na ≡ opCountOf (now a)) × (nb ≡ opCountOf (now b)) × (n ≤ 2 ^ 40) × Under (2 ^ 38) (s .e) × Stands (now a) (s .x) × Stands (now b) (s .y) × Chooses composeTurn (now a) (now b) (s .x) (s .y) Together × (s .x .kind ≡ 2) × (s .y .kind ≡ 1) ⌝ }
+    requires { ⌜ (na ≡ opCountOf (now a)) × (nb ≡ opCountOf (now b)) × (n ≤ 2 ^ 40) × Under (2 ^ 38) (s .e) × Stands (now a) (s .x)
+        × Stands (now b) (s .y) × Chooses composeTurn (now a) (now b) (s .x) (s .y) Together × (s .x .kind ≡ insertKind) × (s .y .kind ≡ retainKind) ⌝ }
     ensures { λ r. ⌜ Went composeTurn made n (now (a .entry)) (now (b .entry)) s (now (out .entry)) r (now (out .exit)) ⌝ }
 {
     let x = s.x;
@@ -166,7 +174,8 @@ fn insert_delete(
     n: usize,
     s: State,
 ) -> State
-    requires { ⌜ (na ≡ opCountOf (now a)) × (nb ≡ opCountOf (now b)) × (n ≤ 2 ^ 40) × Under (2 ^ 38) (s .e) × Stands (now a) (s .x) × Stands (now b) (s .y) × Chooses composeTurn (now a) (now b) (s .x) (s .y) Together × (s .x .kind ≡ 2) × (s .y .kind ≡ 3) ⌝ }
+    requires { ⌜ (na ≡ opCountOf (now a)) × (nb ≡ opCountOf (now b)) × (n ≤ 2 ^ 40) × Under (2 ^ 38) (s .e) × Stands (now a) (s .x)
+        × Stands (now b) (s .y) × Chooses composeTurn (now a) (now b) (s .x) (s .y) Together × (s .x .kind ≡ insertKind) × (s .y .kind ≡ deleteKind) ⌝ }
     ensures { λ r. ⌜ Went composeTurn made n (now (a .entry)) (now (b .entry)) s (now (out .entry)) r (now (out .exit)) ⌝ }
 {
     let x = s.x;
@@ -181,7 +190,8 @@ fn insert_delete(
 }
 
 fn step_both(a: &[u8], na: usize, b: &[u8], nb: usize, out: &mut [u8], n: usize, s: State) -> State
-    requires { ⌜ (na ≡ opCountOf (now a)) × (nb ≡ opCountOf (now b)) × (n ≤ 2 ^ 40) × Under (2 ^ 38) (s .e) × Stands (now a) (s .x) × Stands (now b) (s .y) × Chooses composeTurn (now a) (now b) (s .x) (s .y) Together ⌝ }
+    requires { ⌜ (na ≡ opCountOf (now a)) × (nb ≡ opCountOf (now b)) × (n ≤ 2 ^ 40) × Under (2 ^ 38) (s .e) × Stands (now a) (s .x)
+        × Stands (now b) (s .y) × Chooses composeTurn (now a) (now b) (s .x) (s .y) Together ⌝ }
     ensures { λ r. ⌜ Went composeTurn made n (now (a .entry)) (now (b .entry)) s (now (out .entry)) r (now (out .exit)) ⌝ }
 {
     let x = s.x;
@@ -197,7 +207,8 @@ fn step_both(a: &[u8], na: usize, b: &[u8], nb: usize, out: &mut [u8], n: usize,
 
 // One step. A delete of the first goes before an insert of the second.
 pub fn step(a: &[u8], na: usize, b: &[u8], nb: usize, out: &mut [u8], n: usize, s: State) -> State
-    requires { ⌜ (na ≡ opCountOf (now a)) × (nb ≡ opCountOf (now b)) × (n ≤ 2 ^ 40) × Under (2 ^ 38) (s .e) × Stands (now a) (s .x) × Stands (now b) (s .y) × (liveIs (s .x) (s .y) ≡ true) ⌝ }
+    requires { ⌜ (na ≡ opCountOf (now a)) × (nb ≡ opCountOf (now b)) × (n ≤ 2 ^ 40) × Under (2 ^ 38) (s .e) × Stands (now a) (s .x)
+        × Stands (now b) (s .y) × (liveIs (s .x) (s .y) ≡ true) ⌝ }
     ensures { λ r. ⌜ Went composeTurn made n (now (a .entry)) (now (b .entry)) s (now (out .entry)) r (now (out .exit)) ⌝ }
 {
     let x = s.x;

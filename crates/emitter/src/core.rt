@@ -26,7 +26,9 @@ ghost use Rattle.characters.specs.Text.{chars};
 ghost use Rattle.edits.specs.Op.{delete, insert, cut};
 ghost use Rattle.record.specs.Layout.{countsStart, textStart};
 ghost use Rattle.record.specs.InnerFront.{frontOp, Stands, Cut};
-ghost use Rattle.emitter.specs.InnerEmit.{nothing, one, writtenOpIfAny, writtenOp, flushedAt, flushedIfClosed, Under, opens, insertedBy, deletedBy, Retains, Adds, Finishes, withinLimits, sizeIn, limitsThenRoom, headed, relocatedOps, relocated};
+ghost use Rattle.emitter.specs.InnerEmit.{nothing, one, writtenOpIfAny, writtenOp, flushedAt, flushedIfClosed, Under, opens};
+ghost use Rattle.emitter.specs.InnerEmit.{insertedBy, deletedBy, Retains, Adds, Finishes, withinLimits, sizeIn, limitsThenRoom};
+ghost use Rattle.emitter.specs.InnerEmit.{headed, relocatedOps, relocated};
 
 pub struct Emitter {
     // the pending group: bytes of the insert, characters of the delete and of the retain
@@ -104,7 +106,8 @@ fn group_fits(room: usize, n: usize, ops: usize, ret: usize) -> bool
 // `flush` for such a group. No count is asked about: a record of count 0 is written, too, and the next one over it.
 fn write_group(out: &mut [u8], n: usize, ops: usize, ins: usize, del: usize, ret: usize) -> usize
     requires { ⌜ (n ≤ 2 ^ 40) × (ops ≤ 2 ^ 40) × (0 < ret) × (ops + 2 < n) × (countsStart n + 2 * ops + 5 < length (now out)) ⌝ }
-    ensures { λ r. ⌜ (r ≡ ops + one ins + one del + one ret) × (r ≤ ops + 3) × (now (out .exit) ≡ flushedAt n ops ins del ret (now (out .entry))) ⌝ }
+    ensures { λ r. ⌜ (r ≡ ops + one ins + one del + one ret) × (r ≤ ops + 3)
+        × (now (out .exit) ≡ flushedAt n ops ins del ret (now (out .entry))) ⌝ }
 {
     write_op(out, n, ops, INSERT, ins);
     let x = ops + one_if_any(ins);
@@ -117,7 +120,8 @@ fn write_group(out: &mut [u8], n: usize, ops: usize, ins: usize, del: usize, ret
 // A group's records, by numbers: a struct would go through memory. The number of records afterwards.
 pub fn flush(out: &mut [u8], n: usize, ops: usize, ins: usize, del: usize, ret: usize) -> usize
     requires { ⌜ (n ≤ 2 ^ 40) × (ops ≤ 2 ^ 40) ⌝ }
-    ensures { λ r. ⌜ (r ≡ ops + one ins + one del + one ret) × (r ≤ ops + 3) × (now (out .exit) ≡ flushedAt n ops ins del ret (now (out .entry))) ⌝ }
+    ensures { λ r. ⌜ (r ≡ ops + one ins + one del + one ret) × (r ≤ ops + 3)
+        × (now (out .exit) ≡ flushedAt n ops ins del ret (now (out .entry))) ⌝ }
 {
     if group_fits(out.len(), n, ops, ret) {
         return write_group(out, n, ops, ins, del, ret);
@@ -243,8 +247,11 @@ pub fn insert(
     to: usize,
     num: usize,
 ) -> Emitter
-    requires { ⌜ (n ≤ 2 ^ 40) × (from ≤ to) × (to ≤ length (now src)) × (to - from ≤ 2 ^ 18) × T (wellFormed (take (to - from) (drop from (now src)))) × (num ≡ numChars (take (to - from) (drop from (now src)))) × Under (2 ^ 40) e ⌝ }
-    ensures { λ r. ⌜ Adds n (insert (chars (take (to - from) (drop from (now (src .entry))))) ∷ []) e (now (out .entry)) r (now (out .exit)) ⌝ }
+    requires { ⌜ (n ≤ 2 ^ 40) × (from ≤ to) × (to ≤ length (now src)) × (to - from ≤ 2 ^ 18)
+        × T (wellFormed (take (to - from) (drop from (now src)))) × (num ≡ numChars (take (to - from) (drop from (now src))))
+        × Under (2 ^ 40) e ⌝ }
+    ensures { λ r. ⌜ Adds n (insert (chars (take (to - from) (drop from (now (src .entry))))) ∷ []) e (now (out .entry)) r
+        (now (out .exit)) ⌝ }
 {
     let len = to - from;
     if len == 0 {
@@ -291,7 +298,8 @@ pub fn push_without_text(
     k: usize,
     mid: usize,
 ) -> Emitter
-    requires { ⌜ (n ≤ 2 ^ 40) × (length (now out) ≤ textStart n) × Stands (now src) f × (0 < k) × (k ≤ f .left) × Cut (now src) f k mid × Under (2 ^ 40) e ⌝ }
+    requires { ⌜ (n ≤ 2 ^ 40) × (length (now out) ≤ textStart n) × Stands (now src) f × (0 < k) × (k ≤ f .left) × Cut (now src) f k mid
+        × Under (2 ^ 40) e ⌝ }
     ensures { λ r. ⌜ Adds n (cut k (frontOp (now (src .entry)) f) ∷ []) e (now (out .entry)) r (now (out .exit)) ⌝ }
 {
     let kind = f.kind;

@@ -93,7 +93,8 @@ fn invert_into(
     out: &mut [u8],
     n: usize,
 ) -> Emitter
-    requires { ⌜ (recordFault (now rec) ≡ 0) × (count ≡ opCountOf (now rec)) × (count ≤ maxOps) × T (wellFormed (now text)) × (chars ≡ numChars (now text)) × (n ≤ 2 ^ 40) ⌝ }
+    requires { ⌜ (recordFault (now rec) ≡ 0) × (count ≡ opCountOf (now rec)) × (count ≤ maxOps) × T (wellFormed (now text))
+        × (chars ≡ numChars (now text)) × (n ≤ 2 ^ 40) ⌝ }
     ensures { λ r. ⌜ Done n (invertOf (ops (now (rec .entry))) (charsOf (now (text .entry)))) (now (out .entry)) r (now (out .exit)) ⌝ }
 {
     let mut e = emitter::core::new_emitter();
@@ -114,7 +115,8 @@ fn invert_into(
 
 // The record of a result of n records.
 fn write(rec: &[u8], count: usize, text: &[u8], chars: usize, out: &mut [u8], n: usize)
-    requires { ⌜ (recordFault (now rec) ≡ 0) × (count ≡ opCountOf (now rec)) × (count ≤ maxOps) × T (wellFormed (now text)) × (chars ≡ numChars (now text)) × (n ≤ 2 ^ 40) ⌝ }
+    requires { ⌜ (recordFault (now rec) ≡ 0) × (count ≡ opCountOf (now rec)) × (count ≤ maxOps) × T (wellFormed (now text))
+        × (chars ≡ numChars (now text)) × (n ≤ 2 ^ 40) ⌝ }
     ensures { λ _. ⌜ Writes n (invertOf (ops (now (rec .entry))) (charsOf (now (text .entry)))) (now (out .entry)) (now (out .exit)) ⌝ }
 {
     let e = invert_into(rec, count, text, chars, out, n);
@@ -125,7 +127,8 @@ fn write(rec: &[u8], count: usize, text: &[u8], chars: usize, out: &mut [u8], n:
 // than the text.
 fn surely_fits(rec: &[u8], count: usize, text: &[u8], chars: usize, room: usize) -> bool
     requires { ⌜ (recordFault (now rec) ≡ 0) × (count ≤ maxOps) ⌝ }
-    ensures { λ r. ⌜ r ≡ (eqb chars (baseOf (now (rec .entry))) && (leb (length (now (text .entry))) maxSize && leb (textStart count + length (now (text .entry))) room)) ⌝ }
+    ensures { λ r. ⌜ r ≡ (eqb chars (baseOf (now (rec .entry))) &&
+        (leb (length (now (text .entry))) maxSize && leb (textStart count + length (now (text .entry))) room)) ⌝ }
 {
     if chars != reader::core::base(rec) {
         return false;
@@ -144,8 +147,10 @@ fn measure_then_write(
     chars: usize,
     out: &mut [u8],
 ) -> Written
-    requires { ⌜ (recordFault (now rec) ≡ 0) × (count ≡ opCountOf (now rec)) × (count ≤ maxOps) × T (wellFormed (now text)) × (chars ≡ numChars (now text)) ⌝ }
-    ensures { λ r. ⌜ Gives (deliver 0 (invertOf (ops (now (rec .entry))) (charsOf (now (text .entry)))) (now (out .entry))) r (now (out .exit)) ⌝ }
+    requires { ⌜ (recordFault (now rec) ≡ 0) × (count ≡ opCountOf (now rec)) × (count ≤ maxOps) × T (wellFormed (now text))
+        × (chars ≡ numChars (now text)) ⌝ }
+    ensures { λ r. ⌜ Gives (deliver 0 (invertOf (ops (now (rec .entry))) (charsOf (now (text .entry)))) (now (out .entry))) r
+        (now (out .exit)) ⌝ }
 {
     let mut none = [0u8; 0];
     let e = invert_into(rec, count, text, chars, &mut none, count);
@@ -161,7 +166,8 @@ fn measure_then_write(
 // Of a record and a text that were checked.
 fn inverted(rec: &[u8], text: &[u8], chars: usize, out: &mut [u8]) -> Written
     requires { ⌜ (recordFault (now rec) ≡ 0) × T (wellFormed (now text)) × (chars ≡ numChars (now text)) ⌝ }
-    ensures { λ r. ⌜ Gives (deliver 0 (invertOf (ops (now (rec .entry))) (charsOf (now (text .entry)))) (now (out .entry))) r (now (out .exit)) ⌝ }
+    ensures { λ r. ⌜ Gives (deliver 0 (invertOf (ops (now (rec .entry))) (charsOf (now (text .entry)))) (now (out .entry))) r
+        (now (out .exit)) ⌝ }
 {
     let count = reader::core::op_count(rec);
     if surely_fits(rec, count, text, chars, out.len()) {
@@ -172,7 +178,8 @@ fn inverted(rec: &[u8], text: &[u8], chars: usize, out: &mut [u8]) -> Written
 
 // The sequence that undoes the record's on the text that it was applied to.
 pub fn invert(rec: &[u8], text: &[u8], out: &mut [u8]) -> Written
-    ensures { λ r. ⌜ (writtenOf r ≡ invertCall (now (rec .entry)) (now (text .entry)) (now (out .entry)) .answer) × (now (out .exit) ≡ invertCall (now (rec .entry)) (now (text .entry)) (now (out .entry)) .out) ⌝ }
+    ensures { λ r. ⌜ (writtenOf r ≡ invertCall (now (rec .entry)) (now (text .entry)) (now (out .entry)) .answer)
+        × (now (out .exit) ≡ invertCall (now (rec .entry)) (now (text .entry)) (now (out .entry)) .out) ⌝ }
 {
     match operation::check(rec) {
         Fact::Refused(x) => Written::Refused(x),

@@ -13,7 +13,7 @@ ghost use Rattle.characters.specs.InnerPlaces.{Passes};
 ghost use Rattle.characters.specs.Text.{chars as charsOf};
 ghost use Rattle.edits.specs.Invert.{invert as invertOf};
 ghost use Rattle.answers.specs.InnerGiven.{Gives};
-ghost use Rattle.record.specs.Layout.{textStart, maxOps, maxSize, opCountOf, kindAt, countAt, baseOf};
+ghost use Rattle.record.specs.Layout.{textStart, maxOps, maxSize, opCountOf, kindAt, countAt, baseOf, insertKind};
 ghost use Rattle.record.specs.Record.{recordFault, ops};
 ghost use Rattle.operational_transform.specs.Calls.{deliver};
 ghost use Rattle.invert_in_place.specs.InnerInverting.{Restores, restored, deleteBehind, Reached, Undoes};
@@ -50,7 +50,8 @@ fn restore(
     put: usize,
     count: usize,
 ) -> usize
-    requires { ⌜ (chars ≡ numChars (now text)) × (at ≤ length (now text)) × T (wellFormed (drop at (now text))) × (n ≤ maxOps) × (k < n) × (textStart n ≤ length (now out)) × (put ≤ 2 ^ 50) ⌝ }
+    requires { ⌜ (chars ≡ numChars (now text)) × (at ≤ length (now text)) × T (wellFormed (drop at (now text))) × (n ≤ maxOps) × (k < n)
+        × (textStart n ≤ length (now out)) × (put ≤ 2 ^ 50) ⌝ }
     ensures { λ to. ⌜ Restores n (now (text .entry)) k at put count (now (out .entry)) to (now (out .exit)) ⌝ }
 {
     let to = skip_chars(text, chars, at, count);
@@ -68,8 +69,10 @@ fn undo_delete(
     s: Inversion,
     count: usize,
 ) -> Inversion
-    requires { ⌜ (chars ≡ numChars (now text)) × (s .at ≤ length (now text)) × T (wellFormed (drop (s .at) (now text))) × (length (now text) ≤ maxSize) × (n ≤ maxOps) × (s .k < n) × (textStart n ≤ length (now out)) × (s .put ≤ textStart n + s .at) ⌝ }
-    ensures { λ u. ⌜ (u ≡ restored s (u .at)) × Restores n (now (text .entry)) (s .k) (s .at) (s .put) count (now (out .entry)) (u .at) (now (out .exit)) ⌝ }
+    requires { ⌜ (chars ≡ numChars (now text)) × (s .at ≤ length (now text)) × T (wellFormed (drop (s .at) (now text)))
+        × (length (now text) ≤ maxSize) × (n ≤ maxOps) × (s .k < n) × (textStart n ≤ length (now out)) × (s .put ≤ textStart n + s .at) ⌝ }
+    ensures { λ u. ⌜ (u ≡ restored s (u .at))
+        × Restores n (now (text .entry)) (s .k) (s .at) (s .put) count (now (out .entry)) (u .at) (now (out .exit)) ⌝ }
 {
     let to = restore(text, chars, out, n, s.k, s.at, s.put, count);
     Inversion {
@@ -101,7 +104,9 @@ fn undo_insert(
     s: Inversion,
     count: usize,
 ) -> Inversion
-    requires { ⌜ (recordFault (now rec) ≡ 0) × (n ≡ opCountOf (now rec)) × (chars ≡ numChars (now text)) × (length (now text) ≤ maxSize) × (textStart n ≤ length (now out)) × Reached n (now rec) (now text) s × (s .k < n) × (kindAt (now rec) (s .k) ≡ 2) × (count ≡ countAt (now rec) (s .k)) × (count < 65536) ⌝ }
+    requires { ⌜ (recordFault (now rec) ≡ 0) × (n ≡ opCountOf (now rec)) × (chars ≡ numChars (now text)) × (length (now text) ≤ maxSize)
+        × (textStart n ≤ length (now out)) × Reached n (now rec) (now text) s × (s .k < n) × (kindAt (now rec) (s .k) ≡ insertKind)
+        × (count ≡ countAt (now rec) (s .k)) × (count < 65536) ⌝ }
     ensures { λ u. ⌜ Undoes n (now (rec .entry)) (now (text .entry)) s (now (out .entry)) u (now (out .exit)) ⌝ }
 {
     let k = s.k;
@@ -129,7 +134,8 @@ fn undo_insert(
 
 // The next operation, or an insert and the delete behind it. Behind a last retain no character is asked for.
 fn undo(rec: &[u8], n: usize, text: &[u8], chars: usize, out: &mut [u8], s: Inversion) -> Inversion
-    requires { ⌜ (recordFault (now rec) ≡ 0) × (n ≡ opCountOf (now rec)) × (chars ≡ numChars (now text)) × (length (now text) ≤ maxSize) × (textStart n ≤ length (now out)) × Reached n (now rec) (now text) s × (s .k < n) ⌝ }
+    requires { ⌜ (recordFault (now rec) ≡ 0) × (n ≡ opCountOf (now rec)) × (chars ≡ numChars (now text)) × (length (now text) ≤ maxSize)
+        × (textStart n ≤ length (now out)) × Reached n (now rec) (now text) s × (s .k < n) ⌝ }
     ensures { λ u. ⌜ Undoes n (now (rec .entry)) (now (text .entry)) s (now (out .entry)) u (now (out .exit)) ⌝ }
 {
     let kind = reader::core::kind(rec, s.k);
@@ -166,8 +172,11 @@ pub fn write_in_place(
     chars: usize,
     out: &mut [u8],
 ) -> Written
-    requires { ⌜ (recordFault (now rec) ≡ 0) × (count ≡ opCountOf (now rec)) × (count ≤ maxOps) × T (wellFormed (now text)) × (chars ≡ numChars (now text)) × (chars ≡ baseOf (now rec)) × (length (now text) ≤ maxSize) × (textStart count + length (now text) ≤ length (now out)) ⌝ }
-    ensures { λ r. ⌜ Gives (deliver 0 (invertOf (ops (now (rec .entry))) (charsOf (now (text .entry)))) (now (out .entry))) r (now (out .exit)) ⌝ }
+    requires { ⌜ (recordFault (now rec) ≡ 0) × (count ≡ opCountOf (now rec)) × (count ≤ maxOps) × T (wellFormed (now text))
+        × (chars ≡ numChars (now text)) × (chars ≡ baseOf (now rec)) × (length (now text) ≤ maxSize)
+        × (textStart count + length (now text) ≤ length (now out)) ⌝ }
+    ensures { λ r. ⌜ Gives (deliver 0 (invertOf (ops (now (rec .entry))) (charsOf (now (text .entry)))) (now (out .entry))) r
+        (now (out .exit)) ⌝ }
 {
     let start = layout::core::text_start(count);
     let mut s = Inversion {

@@ -49,7 +49,8 @@ fn try_in(
     parts: &mut [u8],
     slots: usize,
 ) -> Tried
-    requires { ⌜ Admitted (now edit) r (now log) s × (n ≡ countOf (now log) - r) × (length (now next) ≡ textStart slots) × (length (now side) ≡ textStart slots) × (slots ≤ maxOps) ⌝ }
+    requires { ⌜ Admitted (now edit) r (now log) s × (n ≡ countOf (now log) - r) × (length (now next) ≡ textStart slots)
+        × (length (now side) ≡ textStart slots) × (slots ≤ maxOps) ⌝ }
     ensures { λ x. ⌜ Tries (now (edit .entry)) r (now (log .entry)) (now (out .entry)) x (now (log .exit)) (now (out .exit)) ⌝ }
 {
     let size = reader::core::size(edit);
@@ -77,7 +78,9 @@ fn write_again(
     side: &mut [u8],
     bytes: usize,
 ) -> WrittenPair
-    requires { ⌜ Admitted (now edit) r (now log) s × (n ≡ countOf (now log) - r) × (maxRecord ≤ length (now cur)) × (length (now next) ≡ textStart maxOps) × (length (now side) ≡ textStart maxOps) × MovedPast (now edit) r (now log) bytes (now cur) ⌝ }
+    requires { ⌜ Admitted (now edit) r (now log) s × (n ≡ countOf (now log) - r) × (maxRecord ≤ length (now cur))
+        × (length (now next) ≡ textStart maxOps) × (length (now side) ≡ textStart maxOps)
+        × MovedPast (now edit) r (now log) bytes (now cur) ⌝ }
     ensures { λ x. ⌜ Accepts (now (edit .entry)) r (now (log .entry)) (now (out .entry)) x (now (log .exit)) (now (out .exit)) ⌝ }
 {
     let size = reader::core::size(cur);
@@ -102,7 +105,8 @@ fn in_full_buffers(
     next: &mut [u8],
     side: &mut [u8],
 ) -> WrittenPair
-    requires { ⌜ Admitted (now edit) r (now log) s × (n ≡ countOf (now log) - r) × (maxRecord ≤ length (now cur)) × (length (now next) ≡ textStart maxOps) × (length (now side) ≡ textStart maxOps) ⌝ }
+    requires { ⌜ Admitted (now edit) r (now log) s × (n ≡ countOf (now log) - r) × (maxRecord ≤ length (now cur))
+        × (length (now next) ≡ textStart maxOps) × (length (now side) ≡ textStart maxOps) ⌝ }
     ensures { λ x. ⌜ Accepts (now (edit .entry)) r (now (log .entry)) (now (out .entry)) x (now (log .exit)) (now (out .exit)) ⌝ }
 {
     let mut none = [0u8; 0];

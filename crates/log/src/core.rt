@@ -62,7 +62,8 @@ pub fn read(log: &[u8], r: u64) -> Scanned
 }
 
 fn go_through(log: &[u8], count: usize, start: usize, r: u64) -> Scanned
-    requires { ⌜ (4 ≤ length (now log)) × (count ≡ countOf (now log)) × (count ≤ maxRevisions) × (start ≡ startOf (now log)) × (start ≤ maxSize) ⌝ }
+    requires { ⌜ (4 ≤ length (now log)) × (count ≡ countOf (now log)) × (count ≤ maxRevisions) × (start ≡ startOf (now log))
+        × (start ≤ maxSize) ⌝ }
     ensures { λ x. ⌜ Scans (now (log .entry)) r x ⌝ }
 {
     let mut here = Spot {

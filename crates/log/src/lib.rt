@@ -14,7 +14,8 @@ const LIMIT: u64 = MAX_SIZE as u64;
 
 // A log with no revisions, for texts that have `start` characters at first.
 pub fn open(start: u64, log: &mut [u8]) -> Written
-    ensures { λ r. ⌜ (writtenOf r ≡ openCall start (now (log .entry)) .answer) × (now (log .exit) ≡ openCall start (now (log .entry)) .out) ⌝ }
+    ensures { λ r. ⌜ (writtenOf r ≡ openCall start (now (log .entry)) .answer)
+        × (now (log .exit) ≡ openCall start (now (log .entry)) .out) ⌝ }
 {
     if LIMIT < start {
         return Written::Refused(Refusal::Limit);

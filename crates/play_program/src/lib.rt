@@ -30,7 +30,8 @@ pub fn play_input(input: &[u8], out: &mut [u8; MAX_INPUT]) -> usize
 
 // The log, and behind its `size` bytes the text.
 fn answer(input: &[u8], size: usize, out: &mut [u8]) -> usize
-    requires { ⌜ (length (now input) ≤ 65536) × T (readable (now input)) × (size ≡ sizeOfLog (now input)) × (size ≤ length (now input)) × (length (now out) ≡ 65536) ⌝ }
+    requires { ⌜ (length (now input) ≤ 65536) × T (readable (now input)) × (size ≡ sizeOfLog (now input)) × (size ≤ length (now input))
+        × (length (now out) ≡ 65536) ⌝ }
     ensures { λ n. ⌜ Writes (program (now (input .entry))) (now (out .entry)) n (now (out .exit)) ⌝ }
 {
     let mut a = buffer();

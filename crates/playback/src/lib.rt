@@ -31,7 +31,10 @@ pub fn play(
     scratch_b: &mut [u8],
     out: &mut [u8],
 ) -> Written
-    ensures { λ r. ⌜ (writtenOf r ≡ playCall (now (log .entry)) (now (text .entry)) (length (now («scratch_a» .entry))) (length (now («scratch_b» .entry))) (now (out .entry)) .answer) × (now (out .exit) ≡ playCall (now (log .entry)) (now (text .entry)) (length (now («scratch_a» .entry))) (length (now («scratch_b» .entry))) (now (out .entry)) .out) ⌝ }
+    ensures { λ r. ⌜ (writtenOf r ≡ playCall (now (log .entry)) (now (text .entry)) (length (now («scratch_a» .entry)))
+        (length (now («scratch_b» .entry))) (now (out .entry)) .answer)
+        × (now (out .exit) ≡ playCall (now (log .entry)) (now (text .entry)) (length (now («scratch_a» .entry)))
+        (length (now («scratch_b» .entry))) (now (out .entry)) .out) ⌝ }
 {
     let Form::Chars(chars) = utf8::core::form_of(text) else {
         return Written::Refused(Refusal::Utf8);
@@ -53,7 +56,8 @@ pub fn play(
 }
 
 fn play_from_start(log: &[u8], count: usize, text: &[u8], a: &mut [u8], b: &mut [u8]) -> Reached
-    requires { ⌜ T (readable (now log)) × (count ≡ countOf (now log)) × T (wellFormed (now text)) × (numChars (now text) ≡ startOf (now log)) ⌝ }
+    requires { ⌜ T (readable (now log)) × (count ≡ countOf (now log)) × T (wellFormed (now text))
+        × (numChars (now text) ≡ startOf (now log)) ⌝ }
     ensures { λ r. ⌜ Ends (now (log .entry)) (now (text .entry)) (length (now (a .entry))) (length (now (b .entry))) (now (a .exit)) r ⌝ }
 {
     if b.len() < text.len() {
@@ -67,8 +71,10 @@ fn play_from_start(log: &[u8], count: usize, text: &[u8], a: &mut [u8], b: &mut 
 
 // All revisions, played on the text a[..n].
 fn play_revisions(log: &[u8], count: usize, n: usize, a: &mut [u8], b: &mut [u8]) -> Reached
-    requires { ⌜ T (readable (now log)) × (count ≡ countOf (now log)) × (n ≤ length (now a)) × (n ≤ length (now b)) × T (wellFormed (take n (now a))) × (numChars (take n (now a)) ≡ startOf (now log)) ⌝ }
-    ensures { λ r. ⌜ Ends (now (log .entry)) (take n (now (a .entry))) (length (now (a .entry))) (length (now (b .entry))) (now (a .exit)) r ⌝ }
+    requires { ⌜ T (readable (now log)) × (count ≡ countOf (now log)) × (n ≤ length (now a)) × (n ≤ length (now b))
+        × T (wellFormed (take n (now a))) × (numChars (take n (now a)) ≡ startOf (now log)) ⌝ }
+    ensures { λ r. ⌜ Ends (now (log .entry)) (take n (now (a .entry))) (length (now (a .entry))) (length (now (b .entry))) (now (a .exit))
+        r ⌝ }
 {
     let mut len = n;
     let mut at = LOG_HEADER;
@@ -89,8 +95,10 @@ fn play_revisions(log: &[u8], count: usize, n: usize, a: &mut [u8], b: &mut [u8]
 
 // The text a[..n] becomes the text after the edit.
 fn advance(rec: &[u8], n: usize, a: &mut [u8], b: &mut [u8]) -> Reached
-    requires { ⌜ (recordFault (now rec) ≡ 0) × (n ≤ length (now a)) × T (wellFormed (take n (now a))) × (numChars (take n (now a)) ≡ baseOf (now rec)) ⌝ }
-    ensures { λ r. ⌜ Advances (now (rec .entry)) (take n (now (a .entry))) (length (now (a .entry))) (length (now (b .entry))) (now (a .exit)) r ⌝ }
+    requires { ⌜ (recordFault (now rec) ≡ 0) × (n ≤ length (now a)) × T (wellFormed (take n (now a)))
+        × (numChars (take n (now a)) ≡ baseOf (now rec)) ⌝ }
+    ensures { λ r. ⌜ Advances (now (rec .entry)) (take n (now (a .entry))) (length (now (a .entry))) (length (now (b .entry)))
+        (now (a .exit)) r ⌝ }
 {
     let m = apply::core::apply_into(b, rec, &a[..n]);
     if b.len() < m {

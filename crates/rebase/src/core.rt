@@ -67,7 +67,8 @@ fn store_counterpart(
     rec: &[u8],
     nb: usize,
 )
-    requires { ⌜ (to ≡ from + sizeIn f) × (slots ≤ 2 ^ 40) × (nb ≤ 2 ^ 40) × (f .ops ≤ slots) × (textStart slots ≤ length (now side)) × (textStart nb + f .text ≤ length (now rec)) × Under (2 ^ 40) f ⌝ }
+    requires { ⌜ (to ≡ from + sizeIn f) × (slots ≤ 2 ^ 40) × (nb ≤ 2 ^ 40) × (f .ops ≤ slots) × (textStart slots ≤ length (now side))
+        × (textStart nb + f .text ≤ length (now rec)) × Under (2 ^ 40) f ⌝ }
     ensures { λ _. ⌜ StoresCounterpart slots f (now (side .entry)) nb (now (rec .entry)) from to (now (parts .entry)) (now (parts .exit)) ⌝ }
 {
     if to <= parts.len() {
@@ -89,8 +90,13 @@ fn replace_edit(
     p: Pair,
     spot: Progress,
 ) -> Progress
-    requires { ⌜ (slots ≤ 2 ^ 40) × (ne ≡ opCountOf (now edit)) × (ne ≤ maxOps) × (nb ≡ opCountOf (now rec)) × (nb ≤ maxOps) × (recordFault (now edit) ≡ 0) × (recordFault (now rec) ≡ 0) × SameText (ops (now cur)) (ops (now edit)) × (length (now next) ≡ textStart slots) × (length (now side) ≡ textStart slots) × Ready slots (transformOf order (ops (now cur)) (ops (now rec))) p (length (now cur)) (now next) (now side) × (spot .at ≤ 2 ^ 63) × (spot .bytes ≤ 2 ^ 40) ⌝ }
-    ensures { λ r. ⌜ ReplacesEdit (transformOf order (ops (now (cur .entry))) (ops (now (rec .entry)))) (now (rec .entry)) spot r (now (cur .exit)) (now (parts .entry)) (now (parts .exit)) ⌝ }
+    requires { ⌜ (slots ≤ 2 ^ 40) × (ne ≡ opCountOf (now edit)) × (ne ≤ maxOps) × (nb ≡ opCountOf (now rec)) × (nb ≤ maxOps)
+        × (recordFault (now edit) ≡ 0) × (recordFault (now rec) ≡ 0) × SameText (ops (now cur)) (ops (now edit))
+        × (length (now next) ≡ textStart slots) × (length (now side) ≡ textStart slots)
+        × Ready slots (transformOf order (ops (now cur)) (ops (now rec))) p (length (now cur)) (now next) (now side) × (spot .at ≤ 2 ^ 63)
+        × (spot .bytes ≤ 2 ^ 40) ⌝ }
+    ensures { λ r. ⌜ ReplacesEdit (transformOf order (ops (now (cur .entry))) (ops (now (rec .entry)))) (now (rec .entry)) spot r
+        (now (cur .exit)) (now (parts .entry)) (now (parts .exit)) ⌝ }
 {
     let e = p.e;
     let f = p.f;
@@ -115,8 +121,11 @@ pub fn rebase(
     parts: &mut [u8],
     slots: usize,
 ) -> Run
-    requires { ⌜ (from ≤ length (now log)) × (n ≤ maxRevisions) × RecordsFollow n (baseOf (now edit)) (drop from (now log)) × (recordFault (now edit) ≡ 0) × Holds (ops (now edit)) (now cur) × (length (now next) ≡ textStart slots) × (length (now side) ≡ textStart slots) × (slots ≤ 2 ^ 40) ⌝ }
-    ensures { λ r. ⌜ Runs slots (length (now (cur .entry))) (ops (now (edit .entry))) (editsIn n (drop from (now (log .entry)))) r (now (cur .exit)) (now (parts .entry)) (now (parts .exit)) ⌝ }
+    requires { ⌜ (from ≤ length (now log)) × (n ≤ maxRevisions) × RecordsFollow n (baseOf (now edit)) (drop from (now log))
+        × (recordFault (now edit) ≡ 0) × Holds (ops (now edit)) (now cur) × (length (now next) ≡ textStart slots)
+        × (length (now side) ≡ textStart slots) × (slots ≤ 2 ^ 40) ⌝ }
+    ensures { λ r. ⌜ Runs slots (length (now (cur .entry))) (ops (now (edit .entry))) (editsIn n (drop from (now (log .entry)))) r
+        (now (cur .exit)) (now (parts .entry)) (now (parts .exit)) ⌝ }
 {
     let ne = reader::core::op_count(edit);
     let mut spot = Progress { at: from, bytes: 0 };

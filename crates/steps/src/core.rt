@@ -93,7 +93,8 @@ pub struct Counts {
 
 // The sizes of both sides: either has the text of its operand and begins where the other operand ends.
 pub fn sizes(a: &[u8], b: &[u8], c: Counts) -> Pair
-    requires { ⌜ (recordFault (now a) ≡ 0) × (recordFault (now b) ≡ 0) × (baseOf (now a) ≡ baseOf (now b)) × Counted (transformOf order (ops (now a)) (ops (now b))) c ⌝ }
+    requires { ⌜ (recordFault (now a) ≡ 0) × (recordFault (now b) ≡ 0) × (baseOf (now a) ≡ baseOf (now b))
+        × Counted (transformOf order (ops (now a)) (ops (now b))) c ⌝ }
     ensures { λ r. ⌜ SizedBoth (transformOf order (ops (now (a .entry))) (ops (now (b .entry)))) r ⌝ }
 {
     let e = Emitter {
@@ -119,8 +120,11 @@ pub fn sizes(a: &[u8], b: &[u8], c: Counts) -> Pair
 
 // What was staged, as a record of its own: the text is that of a record of n operations.
 pub fn place_with_text(out: &mut [u8], stage: &[u8], slots: usize, e: Emitter, rec: &[u8], n: usize)
-    requires { ⌜ (slots ≤ 2 ^ 40) × (n ≤ 2 ^ 40) × (e .ops ≤ slots) × (textStart slots ≤ length (now stage)) × (textStart n + e .text ≤ length (now rec)) × Under (2 ^ 40) e ⌝ }
-    ensures { λ _. ⌜ now (out .exit) ≡ headed e (relocatedOps slots (e .ops) (e .ops) (now (stage .entry)) (over (textStart (e .ops)) (take (e .text) (drop (textStart n) (now (rec .entry)))) (now (out .entry)))) ⌝ }
+    requires { ⌜ (slots ≤ 2 ^ 40) × (n ≤ 2 ^ 40) × (e .ops ≤ slots) × (textStart slots ≤ length (now stage))
+        × (textStart n + e .text ≤ length (now rec)) × Under (2 ^ 40) e ⌝ }
+    ensures { λ _. ⌜ now (out .exit) ≡ headed e
+        (relocatedOps slots (e .ops) (e .ops) (now (stage .entry))
+        (over (textStart (e .ops)) (take (e .text) (drop (textStart n) (now (rec .entry)))) (now (out .entry)))) ⌝ }
 {
     let from = layout::core::text_start(n);
     buffers::core::copy_short(
@@ -150,7 +154,8 @@ pub struct State {
 
 // The fronts of two whole records; nothing was emitted.
 pub fn begin(a: &[u8], na: usize, b: &[u8], nb: usize) -> State
-    requires { ⌜ (na ≡ opCountOf (now a)) × (na ≤ maxOps) × (nb ≡ opCountOf (now b)) × (nb ≤ maxOps) × (recordFault (now a) ≡ 0) × (recordFault (now b) ≡ 0) ⌝ }
+    requires { ⌜ (na ≡ opCountOf (now a)) × (na ≤ maxOps) × (nb ≡ opCountOf (now b)) × (nb ≤ maxOps) × (recordFault (now a) ≡ 0)
+        × (recordFault (now b) ≡ 0) ⌝ }
     ensures { λ s. ⌜ Begun (now (a .entry)) (now (b .entry)) s ⌝ }
 {
     let x = reader::core::first_front(a, na);

@@ -18,7 +18,8 @@ mod partial;
 
 // What the revisions do together, beginning with the sequence that retains the starting length.
 pub fn summary(log: &[u8], out: &mut [u8]) -> Written
-    ensures { λ r. ⌜ (writtenOf r ≡ summaryCall (now (log .entry)) (now (out .entry)) .answer) × (now (out .exit) ≡ summaryCall (now (log .entry)) (now (out .entry)) .out) ⌝ }
+    ensures { λ r. ⌜ (writtenOf r ≡ summaryCall (now (log .entry)) (now (out .entry)) .answer)
+        × (now (out .exit) ≡ summaryCall (now (log .entry)) (now (out .entry)) .out) ⌝ }
 {
     match log::core::read(log, 0) {
         Scanned::Unreadable => Written::Refused(Refusal::Log),

@@ -35,7 +35,8 @@ fn retain_all(start: usize, cur: &mut [u8]) -> usize
 
 // One revision more: the result takes the place of what the revision is composed with.
 fn compose_next(rec: &[u8], cur: &mut [u8], next: &mut [u8]) -> Written
-    requires { ⌜ (recordFault (now cur) ≡ 0) × (recordFault (now rec) ≡ 0) × (targetOf (now cur) ≡ baseOf (now rec)) × (maxRecord ≤ length (now cur)) × (maxRecord ≤ length (now next)) ⌝ }
+    requires { ⌜ (recordFault (now cur) ≡ 0) × (recordFault (now rec) ≡ 0) × (targetOf (now cur) ≡ baseOf (now rec))
+        × (maxRecord ≤ length (now cur)) × (maxRecord ≤ length (now next)) ⌝ }
     ensures { λ r. ⌜ Makes (composeOf (ops (now (cur .entry))) (ops (now (rec .entry)))) r (now (cur .exit)) ⌝ }
 {
     match compose::core::composed(cur, rec, next) {
@@ -55,7 +56,8 @@ pub(crate) fn sum_up(
     cur: &mut [u8],
     next: &mut [u8],
 ) -> Written
-    requires { ⌜ T (readable (now log)) × (count ≡ countOf (now log)) × (start ≡ startOf (now log)) × (start ≤ maxSize) × (maxRecord ≤ length (now cur)) × (maxRecord ≤ length (now next)) ⌝ }
+    requires { ⌜ T (readable (now log)) × (count ≡ countOf (now log)) × (start ≡ startOf (now log)) × (start ≤ maxSize)
+        × (maxRecord ≤ length (now cur)) × (maxRecord ≤ length (now next)) ⌝ }
     ensures { λ r. ⌜ Sums (now (log .entry)) r (now (cur .exit)) ⌝ }
 {
     let mut size = retain_all(start, cur);

@@ -8,7 +8,8 @@ ghost use lib.ListN.{length};
 ghost use mathlib.Core.Bool.{not};
 ghost use Rattle.record.specs.Record.{soundEntry};
 ghost use Rattle.record.specs.Layout.{opCountOf, textStart, maxOps};
-ghost use Rattle.tally.specs.InnerTally.{picked, entry, mayFollow, tallied, Tallied, Whole, partedBy, Parted, sumFrom, clashAt, entriesOf};
+ghost use Rattle.tally.specs.InnerTally.{picked, entry, mayFollow, tallied, Tallied, Whole, partedBy, Parted, sumFrom, clashAt};
+ghost use Rattle.tally.specs.InnerTally.{entriesOf};
 
 // What the kinds and the counts come to: the bytes inserted, whether all neighbours may stand so, the characters of
 // the text before the edit, and those of them that stay.
@@ -80,7 +81,8 @@ struct Tally {
 
 // One entry more.
 fn add_entry(t: Tally, kind: u8, count: usize, clashes: bool) -> Tally
-    requires { ⌜ (t .invalid ≤ 2 ^ 31) × (t .all ≤ 2 ^ 31) × (t .inserts ≤ t .all) × (t .kept ≤ t .all) × (t .clashes ≤ 2 ^ 31) × (count < 65536) ⌝ }
+    requires { ⌜ (t .invalid ≤ 2 ^ 31) × (t .all ≤ 2 ^ 31) × (t .inserts ≤ t .all) × (t .kept ≤ t .all) × (t .clashes ≤ 2 ^ 31)
+        × (count < 65536) ⌝ }
     ensures { λ r. ⌜ r ≡ tallied t (entry kind count) clashes ⌝ }
 {
     let c = count as u32;
@@ -124,7 +126,8 @@ fn tally_wide(rec: &[u8], n: usize) -> Tally
 
 // One entry more, by its kind.
 fn add_entry_by_kind(t: Tally, last: u8, kind: u8, count: u32) -> Tally
-    requires { ⌜ (t .invalid ≤ 2 ^ 31) × (t .all ≤ 2 ^ 31) × (t .inserts ≤ t .all) × (t .kept ≤ t .all) × (t .clashes ≤ 2 ^ 31) × (count < 65536) ⌝ }
+    requires { ⌜ (t .invalid ≤ 2 ^ 31) × (t .all ≤ 2 ^ 31) × (t .inserts ≤ t .all) × (t .kept ≤ t .all) × (t .clashes ≤ 2 ^ 31)
+        × (count < 65536) ⌝ }
     ensures { λ r. ⌜ r ≡ tallied t (entry kind count) (not (mayFollow last kind)) ⌝ }
 {
     let invalid = t.invalid + pick(count == 0, 1);

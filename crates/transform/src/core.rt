@@ -20,7 +20,8 @@ ghost use Rattle.steps.specs.InnerSteps.{liveIs};
 ghost use Rattle.transform.specs.InnerPairs.{Transforms};
 
 fn begin(a: &[u8], na: usize, b: &[u8], nb: usize) -> Both
-    requires { ⌜ (na ≡ opCountOf (now a)) × (na ≤ maxOps) × (nb ≡ opCountOf (now b)) × (nb ≤ maxOps) × (recordFault (now a) ≡ 0) × (recordFault (now b) ≡ 0) ⌝ }
+    requires { ⌜ (na ≡ opCountOf (now a)) × (na ≤ maxOps) × (nb ≡ opCountOf (now b)) × (nb ≤ maxOps) × (recordFault (now a) ≡ 0)
+        × (recordFault (now b) ≡ 0) ⌝ }
     ensures { λ r. ⌜ BegunBoth (now (a .entry)) (now (b .entry)) r ⌝ }
 {
     let s = steps::core::begin(a, na, b, nb);
@@ -49,8 +50,11 @@ fn transform_into(
     stage_b: &mut [u8],
     slots: usize,
 ) -> Counts
-    requires { ⌜ (na ≡ opCountOf (now a)) × (na ≤ maxOps) × (nb ≡ opCountOf (now b)) × (nb ≤ maxOps) × (recordFault (now a) ≡ 0) × (recordFault (now b) ≡ 0) × (slots ≤ 2 ^ 40) × (length (now «stage_a») ≤ textStart slots) × (length (now «stage_b») ≤ textStart slots) ⌝ }
-    ensures { λ r. ⌜ MarkedBoth slots (transformOf order (ops (now (a .entry))) (ops (now (b .entry)))) r (now («stage_a» .exit)) (now («stage_b» .exit)) ⌝ }
+    requires { ⌜ (na ≡ opCountOf (now a)) × (na ≤ maxOps) × (nb ≡ opCountOf (now b)) × (nb ≤ maxOps) × (recordFault (now a) ≡ 0)
+        × (recordFault (now b) ≡ 0) × (slots ≤ 2 ^ 40) × (length (now «stage_a») ≤ textStart slots)
+        × (length (now «stage_b») ≤ textStart slots) ⌝ }
+    ensures { λ r. ⌜ MarkedBoth slots (transformOf order (ops (now (a .entry))) (ops (now (b .entry)))) r (now («stage_a» .exit))
+        (now («stage_b» .exit)) ⌝ }
 {
     let mut s = begin(a, na, b, nb);
     while goes_on(s) {
@@ -102,8 +106,11 @@ fn staged(
     out_a: &mut [u8],
     out_b: &mut [u8],
 ) -> WrittenPair
-    requires { ⌜ (na ≡ opCountOf (now a)) × (na ≤ maxOps) × (nb ≡ opCountOf (now b)) × (nb ≤ maxOps) × (recordFault (now a) ≡ 0) × (recordFault (now b) ≡ 0) × (slots ≤ maxOps) × (min (na + nb) maxOps ≤ slots) × (length (now «stage_a») ≡ textStart slots) × (length (now «stage_b») ≡ textStart slots) × (baseOf (now a) ≡ baseOf (now b)) ⌝ }
-    ensures { λ r. ⌜ Transforms (now (a .entry)) (now (b .entry)) (now («out_a» .entry)) (now («out_b» .entry)) r (now («out_a» .exit)) (now («out_b» .exit)) ⌝ }
+    requires { ⌜ (na ≡ opCountOf (now a)) × (na ≤ maxOps) × (nb ≡ opCountOf (now b)) × (nb ≤ maxOps) × (recordFault (now a) ≡ 0)
+        × (recordFault (now b) ≡ 0) × (slots ≤ maxOps) × (min (na + nb) maxOps ≤ slots) × (length (now «stage_a») ≡ textStart slots)
+        × (length (now «stage_b») ≡ textStart slots) × (baseOf (now a) ≡ baseOf (now b)) ⌝ }
+    ensures { λ r. ⌜ Transforms (now (a .entry)) (now (b .entry)) (now («out_a» .entry)) (now («out_b» .entry)) r (now («out_a» .exit))
+        (now («out_b» .exit)) ⌝ }
 {
     let c = transform_into(a, na, b, nb, stage_a, stage_b, slots);
     let p = steps::core::sizes(a, b, c);
@@ -140,8 +147,10 @@ fn in_small_stages(
     out_a: &mut [u8],
     out_b: &mut [u8],
 ) -> WrittenPair
-    requires { ⌜ (na ≡ opCountOf (now a)) × (na ≤ maxOps) × (nb ≡ opCountOf (now b)) × (nb ≤ maxOps) × (recordFault (now a) ≡ 0) × (recordFault (now b) ≡ 0) × (na + nb ≤ 40) × (baseOf (now a) ≡ baseOf (now b)) ⌝ }
-    ensures { λ r. ⌜ Transforms (now (a .entry)) (now (b .entry)) (now («out_a» .entry)) (now («out_b» .entry)) r (now («out_a» .exit)) (now («out_b» .exit)) ⌝ }
+    requires { ⌜ (na ≡ opCountOf (now a)) × (na ≤ maxOps) × (nb ≡ opCountOf (now b)) × (nb ≤ maxOps) × (recordFault (now a) ≡ 0)
+        × (recordFault (now b) ≡ 0) × (na + nb ≤ 40) × (baseOf (now a) ≡ baseOf (now b)) ⌝ }
+    ensures { λ r. ⌜ Transforms (now (a .entry)) (now (b .entry)) (now («out_a» .entry)) (now («out_b» .entry)) r (now («out_a» .exit))
+        (now («out_b» .exit)) ⌝ }
 {
     let mut stage_a = [0u8; SMALL_STAGE];
     let mut stage_b = [0u8; SMALL_STAGE];
@@ -169,8 +178,10 @@ fn in_medium_stages(
     out_a: &mut [u8],
     out_b: &mut [u8],
 ) -> WrittenPair
-    requires { ⌜ (na ≡ opCountOf (now a)) × (na ≤ maxOps) × (nb ≡ opCountOf (now b)) × (nb ≤ maxOps) × (recordFault (now a) ≡ 0) × (recordFault (now b) ≡ 0) × (na + nb ≤ 338) × (baseOf (now a) ≡ baseOf (now b)) ⌝ }
-    ensures { λ r. ⌜ Transforms (now (a .entry)) (now (b .entry)) (now («out_a» .entry)) (now («out_b» .entry)) r (now («out_a» .exit)) (now («out_b» .exit)) ⌝ }
+    requires { ⌜ (na ≡ opCountOf (now a)) × (na ≤ maxOps) × (nb ≡ opCountOf (now b)) × (nb ≤ maxOps) × (recordFault (now a) ≡ 0)
+        × (recordFault (now b) ≡ 0) × (na + nb ≤ 338) × (baseOf (now a) ≡ baseOf (now b)) ⌝ }
+    ensures { λ r. ⌜ Transforms (now (a .entry)) (now (b .entry)) (now («out_a» .entry)) (now («out_b» .entry)) r (now («out_a» .exit))
+        (now («out_b» .exit)) ⌝ }
 {
     let mut stage_a = [0u8; MEDIUM_STAGE];
     let mut stage_b = [0u8; MEDIUM_STAGE];
@@ -198,8 +209,10 @@ fn in_large_stages(
     out_a: &mut [u8],
     out_b: &mut [u8],
 ) -> WrittenPair
-    requires { ⌜ (na ≡ opCountOf (now a)) × (na ≤ maxOps) × (nb ≡ opCountOf (now b)) × (nb ≤ maxOps) × (recordFault (now a) ≡ 0) × (recordFault (now b) ≡ 0) × (baseOf (now a) ≡ baseOf (now b)) ⌝ }
-    ensures { λ r. ⌜ Transforms (now (a .entry)) (now (b .entry)) (now («out_a» .entry)) (now («out_b» .entry)) r (now («out_a» .exit)) (now («out_b» .exit)) ⌝ }
+    requires { ⌜ (na ≡ opCountOf (now a)) × (na ≤ maxOps) × (nb ≡ opCountOf (now b)) × (nb ≤ maxOps) × (recordFault (now a) ≡ 0)
+        × (recordFault (now b) ≡ 0) × (baseOf (now a) ≡ baseOf (now b)) ⌝ }
+    ensures { λ r. ⌜ Transforms (now (a .entry)) (now (b .entry)) (now («out_a» .entry)) (now («out_b» .entry)) r (now («out_a» .exit))
+        (now («out_b» .exit)) ⌝ }
 {
     let mut stage_a = [0u8; LARGE_STAGE];
     let mut stage_b = [0u8; LARGE_STAGE];
@@ -222,7 +235,8 @@ fn in_large_stages(
 // Of two records that were checked.
 pub fn transformed(a: &[u8], b: &[u8], out_a: &mut [u8], out_b: &mut [u8]) -> WrittenPair
     requires { ⌜ (recordFault (now a) ≡ 0) × (recordFault (now b) ≡ 0) ⌝ }
-    ensures { λ r. ⌜ Transforms (now (a .entry)) (now (b .entry)) (now («out_a» .entry)) (now («out_b» .entry)) r (now («out_a» .exit)) (now («out_b» .exit)) ⌝ }
+    ensures { λ r. ⌜ Transforms (now (a .entry)) (now (b .entry)) (now («out_a» .entry)) (now («out_b» .entry)) r (now («out_a» .exit))
+        (now («out_b» .exit)) ⌝ }
 {
     let base_a = reader::core::base(a);
     let base_b = reader::core::base(b);

@@ -11,7 +11,8 @@ pub mod core;
 
 fn transformed_with(a: &[u8], b: &[u8], out_a: &mut [u8], out_b: &mut [u8]) -> WrittenPair
     requires { ⌜ recordFault (now a) ≡ 0 ⌝ }
-    ensures { λ r. ⌜ Transforms (now (a .entry)) (now (b .entry)) (now («out_a» .entry)) (now («out_b» .entry)) r (now («out_a» .exit)) (now («out_b» .exit)) ⌝ }
+    ensures { λ r. ⌜ Transforms (now (a .entry)) (now (b .entry)) (now («out_a» .entry)) (now («out_b» .entry)) r (now («out_a» .exit))
+        (now («out_b» .exit)) ⌝ }
 {
     match operation::check(b) {
         Fact::Refused(x) => WrittenPair::Refused(x),
@@ -21,7 +22,9 @@ fn transformed_with(a: &[u8], b: &[u8], out_a: &mut [u8], out_b: &mut [u8]) -> W
 
 // A past b, and b past a.
 pub fn transform(a: &[u8], b: &[u8], out_a: &mut [u8], out_b: &mut [u8]) -> WrittenPair
-    ensures { λ r. ⌜ (pairOf r ≡ transformCall (now (a .entry)) (now (b .entry)) (now («out_a» .entry)) (now («out_b» .entry)) .answer) × (now («out_a» .exit) ≡ transformCall (now (a .entry)) (now (b .entry)) (now («out_a» .entry)) (now («out_b» .entry)) .outA) × (now («out_b» .exit) ≡ transformCall (now (a .entry)) (now (b .entry)) (now («out_a» .entry)) (now («out_b» .entry)) .outB) ⌝ }
+    ensures { λ r. ⌜ (pairOf r ≡ transformCall (now (a .entry)) (now (b .entry)) (now («out_a» .entry)) (now («out_b» .entry)) .answer)
+        × (now («out_a» .exit) ≡ transformCall (now (a .entry)) (now (b .entry)) (now («out_a» .entry)) (now («out_b» .entry)) .outA)
+        × (now («out_b» .exit) ≡ transformCall (now (a .entry)) (now (b .entry)) (now («out_a» .entry)) (now («out_b» .entry)) .outB) ⌝ }
 {
     match operation::check(a) {
         Fact::Refused(x) => WrittenPair::Refused(x),

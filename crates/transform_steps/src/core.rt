@@ -13,7 +13,7 @@ ghost use mathlib.Core.Bool.{false, true};
 ghost use lib.Dec.{eqb};
 ghost use Rattle.characters.specs.Order.{order};
 ghost use Rattle.edits.specs.Transform.{transformTurn};
-ghost use Rattle.record.specs.Layout.{opCountOf, textStart};
+ghost use Rattle.record.specs.Layout.{opCountOf, textStart, insertKind};
 ghost use Rattle.record.specs.InnerFront.{Stands, Cut};
 ghost use Rattle.emitter.specs.InnerEmit.{Under};
 ghost use Rattle.steps.specs.InnerBoth.{FirstBoth, SecondBoth, Meets, TogetherBoth, WentBoth};
@@ -21,7 +21,8 @@ ghost use Rattle.steps.specs.InnerSteps.{Chooses, liveIs};
 
 // The first's operation goes by itself: the other side retains what it gives.
 fn step_first(a: &[u8], na: usize, out: &mut [u8], m: usize, s: Both) -> Both
-    requires { ⌜ (na ≡ opCountOf (now a)) × (m ≤ 2 ^ 40) × Under (2 ^ 38) (s .e) × Under (2 ^ 38) (s .f) × Stands (now a) (s .x) × (0 < s .x .kind) × (length (now out) ≤ textStart m) ⌝ }
+    requires { ⌜ (na ≡ opCountOf (now a)) × (m ≤ 2 ^ 40) × Under (2 ^ 38) (s .e) × Under (2 ^ 38) (s .f) × Stands (now a) (s .x)
+        × (0 < s .x .kind) × (length (now out) ≤ textStart m) ⌝ }
     ensures { λ r. ⌜ FirstBoth m (now (a .entry)) s (now (out .entry)) r (now (out .exit)) ⌝ }
 {
     let x = s.x;
@@ -38,7 +39,8 @@ fn step_first(a: &[u8], na: usize, out: &mut [u8], m: usize, s: Both) -> Both
 
 // The second's.
 fn step_second(b: &[u8], nb: usize, out: &mut [u8], n: usize, s: Both) -> Both
-    requires { ⌜ (nb ≡ opCountOf (now b)) × (n ≤ 2 ^ 40) × Under (2 ^ 38) (s .e) × Under (2 ^ 38) (s .f) × Stands (now b) (s .y) × (0 < s .y .kind) × (length (now out) ≤ textStart n) ⌝ }
+    requires { ⌜ (nb ≡ opCountOf (now b)) × (n ≤ 2 ^ 40) × Under (2 ^ 38) (s .e) × Under (2 ^ 38) (s .f) × Stands (now b) (s .y)
+        × (0 < s .y .kind) × (length (now out) ≤ textStart n) ⌝ }
     ensures { λ r. ⌜ SecondBoth n (now (b .entry)) s (now (out .entry)) r (now (out .exit)) ⌝ }
 {
     let x = s.x;
@@ -56,7 +58,8 @@ fn step_second(b: &[u8], nb: usize, out: &mut [u8], n: usize, s: Both) -> Both
 // The same for an insert where the other has none, and for the lesser of two inserts. Each is a copy of its own: a function with one
 // caller is taken into the loop, where the kind is known and the state stays in registers.
 fn insert_first(a: &[u8], na: usize, out: &mut [u8], m: usize, s: Both) -> Both
-    requires { ⌜ (na ≡ opCountOf (now a)) × (m ≤ 2 ^ 40) × Under (2 ^ 38) (s .e) × Under (2 ^ 38) (s .f) × Stands (now a) (s .x) × (0 < s .x .kind) × (length (now out) ≤ textStart m) ⌝ }
+    requires { ⌜ (na ≡ opCountOf (now a)) × (m ≤ 2 ^ 40) × Under (2 ^ 38) (s .e) × Under (2 ^ 38) (s .f) × Stands (now a) (s .x)
+        × (0 < s .x .kind) × (length (now out) ≤ textStart m) ⌝ }
     ensures { λ r. ⌜ FirstBoth m (now (a .entry)) s (now (out .entry)) r (now (out .exit)) ⌝ }
 {
     let x = s.x;
@@ -72,7 +75,8 @@ fn insert_first(a: &[u8], na: usize, out: &mut [u8], m: usize, s: Both) -> Both
 }
 
 fn lesser_first(a: &[u8], na: usize, out: &mut [u8], m: usize, s: Both) -> Both
-    requires { ⌜ (na ≡ opCountOf (now a)) × (m ≤ 2 ^ 40) × Under (2 ^ 38) (s .e) × Under (2 ^ 38) (s .f) × Stands (now a) (s .x) × (0 < s .x .kind) × (length (now out) ≤ textStart m) ⌝ }
+    requires { ⌜ (na ≡ opCountOf (now a)) × (m ≤ 2 ^ 40) × Under (2 ^ 38) (s .e) × Under (2 ^ 38) (s .f) × Stands (now a) (s .x)
+        × (0 < s .x .kind) × (length (now out) ≤ textStart m) ⌝ }
     ensures { λ r. ⌜ FirstBoth m (now (a .entry)) s (now (out .entry)) r (now (out .exit)) ⌝ }
 {
     let x = s.x;
@@ -88,7 +92,8 @@ fn lesser_first(a: &[u8], na: usize, out: &mut [u8], m: usize, s: Both) -> Both
 }
 
 fn insert_second(b: &[u8], nb: usize, out: &mut [u8], n: usize, s: Both) -> Both
-    requires { ⌜ (nb ≡ opCountOf (now b)) × (n ≤ 2 ^ 40) × Under (2 ^ 38) (s .e) × Under (2 ^ 38) (s .f) × Stands (now b) (s .y) × (0 < s .y .kind) × (length (now out) ≤ textStart n) ⌝ }
+    requires { ⌜ (nb ≡ opCountOf (now b)) × (n ≤ 2 ^ 40) × Under (2 ^ 38) (s .e) × Under (2 ^ 38) (s .f) × Stands (now b) (s .y)
+        × (0 < s .y .kind) × (length (now out) ≤ textStart n) ⌝ }
     ensures { λ r. ⌜ SecondBoth n (now (b .entry)) s (now (out .entry)) r (now (out .exit)) ⌝ }
 {
     let x = s.x;
@@ -104,7 +109,8 @@ fn insert_second(b: &[u8], nb: usize, out: &mut [u8], n: usize, s: Both) -> Both
 }
 
 fn lesser_second(b: &[u8], nb: usize, out: &mut [u8], n: usize, s: Both) -> Both
-    requires { ⌜ (nb ≡ opCountOf (now b)) × (n ≤ 2 ^ 40) × Under (2 ^ 38) (s .e) × Under (2 ^ 38) (s .f) × Stands (now b) (s .y) × (0 < s .y .kind) × (length (now out) ≤ textStart n) ⌝ }
+    requires { ⌜ (nb ≡ opCountOf (now b)) × (n ≤ 2 ^ 40) × Under (2 ^ 38) (s .e) × Under (2 ^ 38) (s .f) × Stands (now b) (s .y)
+        × (0 < s .y .kind) × (length (now out) ≤ textStart n) ⌝ }
     ensures { λ r. ⌜ SecondBoth n (now (b .entry)) s (now (out .entry)) r (now (out .exit)) ⌝ }
 {
     let x = s.x;
@@ -130,8 +136,12 @@ fn emit_both(
     s: Both,
     k: usize,
 ) -> Pair
-    requires { ⌜ (m ≤ 2 ^ 40) × (n ≤ 2 ^ 40) × Under (2 ^ 38) (s .e) × Under (2 ^ 38) (s .f) × Stands (now a) (s .x) × Stands (now b) (s .y) × (0 < k) × (k ≤ s .x .left) × (k ≤ s .y .left) × Cut (now a) (s .x) k (s .x .to) × Cut (now b) (s .y) k (s .y .to) × Chooses (transformTurn order) (now a) (now b) (s .x) (s .y) Turn.Together × (eqb (s .y .kind) 2 ≡ false) × (length (now «out_a») ≤ textStart m) × (length (now «out_b») ≤ textStart n) ⌝ }
-    ensures { λ r. ⌜ Meets m n (now (a .entry)) (now (b .entry)) s k (now («out_a» .entry)) (now («out_b» .entry)) r (now («out_a» .exit)) (now («out_b» .exit)) ⌝ }
+    requires { ⌜ (m ≤ 2 ^ 40) × (n ≤ 2 ^ 40) × Under (2 ^ 38) (s .e) × Under (2 ^ 38) (s .f) × Stands (now a) (s .x)
+        × Stands (now b) (s .y) × (0 < k) × (k ≤ s .x .left) × (k ≤ s .y .left) × Cut (now a) (s .x) k (s .x .to)
+        × Cut (now b) (s .y) k (s .y .to) × Chooses (transformTurn order) (now a) (now b) (s .x) (s .y) Turn.Together
+        × (eqb (s .y .kind) insertKind ≡ false) × (length (now «out_a») ≤ textStart m) × (length (now «out_b») ≤ textStart n) ⌝ }
+    ensures { λ r. ⌜ Meets m n (now (a .entry)) (now (b .entry)) s k (now («out_a» .entry)) (now («out_b» .entry)) r (now («out_a» .exit))
+        (now («out_b» .exit)) ⌝ }
 {
     let x = s.x;
     let y = s.y;
@@ -166,8 +176,12 @@ fn step_both(
     n: usize,
     s: Both,
 ) -> Both
-    requires { ⌜ (na ≡ opCountOf (now a)) × (nb ≡ opCountOf (now b)) × (m ≤ 2 ^ 40) × (n ≤ 2 ^ 40) × Under (2 ^ 38) (s .e) × Under (2 ^ 38) (s .f) × Stands (now a) (s .x) × Stands (now b) (s .y) × Chooses (transformTurn order) (now a) (now b) (s .x) (s .y) Turn.Together × (eqb (s .y .kind) 2 ≡ false) × (length (now «out_a») ≤ textStart m) × (length (now «out_b») ≤ textStart n) ⌝ }
-    ensures { λ r. ⌜ TogetherBoth m n (now (a .entry)) (now (b .entry)) s (now («out_a» .entry)) (now («out_b» .entry)) r (now («out_a» .exit)) (now («out_b» .exit)) ⌝ }
+    requires { ⌜ (na ≡ opCountOf (now a)) × (nb ≡ opCountOf (now b)) × (m ≤ 2 ^ 40) × (n ≤ 2 ^ 40) × Under (2 ^ 38) (s .e)
+        × Under (2 ^ 38) (s .f) × Stands (now a) (s .x) × Stands (now b) (s .y)
+        × Chooses (transformTurn order) (now a) (now b) (s .x) (s .y) Turn.Together × (eqb (s .y .kind) insertKind ≡ false)
+        × (length (now «out_a») ≤ textStart m) × (length (now «out_b») ≤ textStart n) ⌝ }
+    ensures { λ r. ⌜ TogetherBoth m n (now (a .entry)) (now (b .entry)) s (now («out_a» .entry)) (now («out_b» .entry)) r
+        (now («out_a» .exit)) (now («out_b» .exit)) ⌝ }
 {
     let x = s.x;
     let y = s.y;
@@ -191,8 +205,12 @@ fn emit_equal(
     s: Both,
     k: usize,
 ) -> Pair
-    requires { ⌜ (m ≤ 2 ^ 40) × (n ≤ 2 ^ 40) × Under (2 ^ 38) (s .e) × Under (2 ^ 38) (s .f) × Stands (now a) (s .x) × Stands (now b) (s .y) × (0 < k) × (k ≤ s .x .left) × (k ≤ s .y .left) × Cut (now a) (s .x) k (s .x .to) × Cut (now b) (s .y) k (s .y .to) × Chooses (transformTurn order) (now a) (now b) (s .x) (s .y) Turn.Together × (s .y .kind ≡ 2) × (length (now «out_a») ≤ textStart m) × (length (now «out_b») ≤ textStart n) ⌝ }
-    ensures { λ r. ⌜ Meets m n (now (a .entry)) (now (b .entry)) s k (now («out_a» .entry)) (now («out_b» .entry)) r (now («out_a» .exit)) (now («out_b» .exit)) ⌝ }
+    requires { ⌜ (m ≤ 2 ^ 40) × (n ≤ 2 ^ 40) × Under (2 ^ 38) (s .e) × Under (2 ^ 38) (s .f) × Stands (now a) (s .x)
+        × Stands (now b) (s .y) × (0 < k) × (k ≤ s .x .left) × (k ≤ s .y .left) × Cut (now a) (s .x) k (s .x .to)
+        × Cut (now b) (s .y) k (s .y .to) × Chooses (transformTurn order) (now a) (now b) (s .x) (s .y) Turn.Together × (s .y .kind ≡ insertKind)
+        × (length (now «out_a») ≤ textStart m) × (length (now «out_b») ≤ textStart n) ⌝ }
+    ensures { λ r. ⌜ Meets m n (now (a .entry)) (now (b .entry)) s k (now («out_a» .entry)) (now («out_b» .entry)) r (now («out_a» .exit))
+        (now («out_b» .exit)) ⌝ }
 {
     let x = s.x;
     let y = s.y;
@@ -218,8 +236,12 @@ fn equal_inserts(
     n: usize,
     s: Both,
 ) -> Both
-    requires { ⌜ (na ≡ opCountOf (now a)) × (nb ≡ opCountOf (now b)) × (m ≤ 2 ^ 40) × (n ≤ 2 ^ 40) × Under (2 ^ 38) (s .e) × Under (2 ^ 38) (s .f) × Stands (now a) (s .x) × Stands (now b) (s .y) × Chooses (transformTurn order) (now a) (now b) (s .x) (s .y) Turn.Together × (s .x .kind ≡ 2) × (s .y .kind ≡ 2) × (length (now «out_a») ≤ textStart m) × (length (now «out_b») ≤ textStart n) ⌝ }
-    ensures { λ r. ⌜ TogetherBoth m n (now (a .entry)) (now (b .entry)) s (now («out_a» .entry)) (now («out_b» .entry)) r (now («out_a» .exit)) (now («out_b» .exit)) ⌝ }
+    requires { ⌜ (na ≡ opCountOf (now a)) × (nb ≡ opCountOf (now b)) × (m ≤ 2 ^ 40) × (n ≤ 2 ^ 40) × Under (2 ^ 38) (s .e)
+        × Under (2 ^ 38) (s .f) × Stands (now a) (s .x) × Stands (now b) (s .y)
+        × Chooses (transformTurn order) (now a) (now b) (s .x) (s .y) Turn.Together × (s .x .kind ≡ insertKind) × (s .y .kind ≡ insertKind)
+        × (length (now «out_a») ≤ textStart m) × (length (now «out_b») ≤ textStart n) ⌝ }
+    ensures { λ r. ⌜ TogetherBoth m n (now (a .entry)) (now (b .entry)) s (now («out_a» .entry)) (now («out_b» .entry)) r
+        (now («out_a» .exit)) (now («out_b» .exit)) ⌝ }
 {
     let x = s.x;
     let y = s.y;
@@ -244,8 +266,11 @@ fn inserts(
     n: usize,
     s: Both,
 ) -> Both
-    requires { ⌜ (na ≡ opCountOf (now a)) × (nb ≡ opCountOf (now b)) × (m ≤ 2 ^ 40) × (n ≤ 2 ^ 40) × Under (2 ^ 38) (s .e) × Under (2 ^ 38) (s .f) × Stands (now a) (s .x) × Stands (now b) (s .y) × (s .x .kind ≡ 2) × (s .y .kind ≡ 2) × (length (now «out_a») ≤ textStart m) × (length (now «out_b») ≤ textStart n) ⌝ }
-    ensures { λ r. ⌜ WentBoth m n (now (a .entry)) (now (b .entry)) s (now («out_a» .entry)) (now («out_b» .entry)) r (now («out_a» .exit)) (now («out_b» .exit)) ⌝ }
+    requires { ⌜ (na ≡ opCountOf (now a)) × (nb ≡ opCountOf (now b)) × (m ≤ 2 ^ 40) × (n ≤ 2 ^ 40) × Under (2 ^ 38) (s .e)
+        × Under (2 ^ 38) (s .f) × Stands (now a) (s .x) × Stands (now b) (s .y) × (s .x .kind ≡ insertKind) × (s .y .kind ≡ insertKind)
+        × (length (now «out_a») ≤ textStart m) × (length (now «out_b») ≤ textStart n) ⌝ }
+    ensures { λ r. ⌜ WentBoth m n (now (a .entry)) (now (b .entry)) s (now («out_a» .entry)) (now («out_b» .entry)) r (now («out_a» .exit))
+        (now («out_b» .exit)) ⌝ }
 {
     let x = s.x;
     let y = s.y;
@@ -268,8 +293,11 @@ pub fn step(
     n: usize,
     s: Both,
 ) -> Both
-    requires { ⌜ (na ≡ opCountOf (now a)) × (nb ≡ opCountOf (now b)) × (m ≤ 2 ^ 40) × (n ≤ 2 ^ 40) × Under (2 ^ 38) (s .e) × Under (2 ^ 38) (s .f) × Stands (now a) (s .x) × Stands (now b) (s .y) × (liveIs (s .x) (s .y) ≡ true) × (length (now «out_a») ≤ textStart m) × (length (now «out_b») ≤ textStart n) ⌝ }
-    ensures { λ r. ⌜ WentBoth m n (now (a .entry)) (now (b .entry)) s (now («out_a» .entry)) (now («out_b» .entry)) r (now («out_a» .exit)) (now («out_b» .exit)) ⌝ }
+    requires { ⌜ (na ≡ opCountOf (now a)) × (nb ≡ opCountOf (now b)) × (m ≤ 2 ^ 40) × (n ≤ 2 ^ 40) × Under (2 ^ 38) (s .e)
+        × Under (2 ^ 38) (s .f) × Stands (now a) (s .x) × Stands (now b) (s .y) × (liveIs (s .x) (s .y) ≡ true)
+        × (length (now «out_a») ≤ textStart m) × (length (now «out_b») ≤ textStart n) ⌝ }
+    ensures { λ r. ⌜ WentBoth m n (now (a .entry)) (now (b .entry)) s (now («out_a» .entry)) (now («out_b» .entry)) r (now («out_a» .exit))
+        (now («out_b» .exit)) ⌝ }
 {
     let x = s.x;
     let y = s.y;

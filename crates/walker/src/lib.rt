@@ -61,7 +61,9 @@ impl<'a> Walker<'a> {
 
     // A step: what is found, the walker moved on by one. At the end it stays.
     pub fn next(&mut self) -> Found
-        ensures { λ s. ⌜ (s ≡ stepAt (now (now (self .entry) .rec)) (now (self .entry) .at)) × ((now (self .exit) .rec ≡ now (self .entry) .rec) × (now (self .exit) .at ≡ nextAt (now (now (self .entry) .rec)) (now (self .entry) .at))) ⌝ }
+        ensures { λ s. ⌜ (s ≡ stepAt (now (now (self .entry) .rec)) (now (self .entry) .at))
+            × ((now (self .exit) .rec ≡ now (self .entry) .rec)
+            × (now (self .exit) .at ≡ nextAt (now (now (self .entry) .rec)) (now (self .entry) .at))) ⌝ }
     {
         let m = move_at(self.rec, self.at);
         self.at = m.at;
