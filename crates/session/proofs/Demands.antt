@@ -36,8 +36,8 @@ module _ (n : ℕ) (log : List ℕ) (f : Fresh n log) (cs : List Call) where
   session-given : (s : List ℕ) → Given (logAfter log cs) s → Given (logIn (after (fresh n) cs)) s
   session-given s g = subst (λ (l : List ℕ). Given l s) session-log g
 
-  as-foretold : AsExpected n log cs
-  as-foretold =
+  as-expected : AsExpected n log cs
+  as-expected =
       let (e, s) = fresh-log n log f in
       record {
         calls = ap (λ l. ran l cs) e ∙ run-log (fresh n) s cs;
@@ -134,7 +134,7 @@ copies-meet h k sh sk starts c mine lent same₀ goesA goesB s t gs gt =
 
 pub demand3 : Demand3
 demand3 = record {
-  as-foretold = as-foretold;
+  as-expected = as-expected;
   summaries-tell = summaries-tell;
   copies-meet = λ n log log′ f f′ cs ds.
       subst₂ CopiesMeet (sym (session-log n log f cs)) (sym (session-log n log′ f′ ds))

@@ -129,6 +129,6 @@ CopiesMeet here there =
     → (s t : List ℕ) → Given (logAfter here (c ∷ [])) s → Given (logAfter there (edited ∷ then)) t → s ≡ t
 
 pub record Demand3 : Type 0 where
-  pub as-foretold : (n : ℕ) (log : List ℕ) → Fresh n log → (cs : List Call) → AsExpected n log cs
+  pub as-expected : (n : ℕ) (log : List ℕ) → Fresh n log → (cs : List Call) → AsExpected n log cs
   pub summaries-tell : (n : ℕ) (log log′ : List ℕ) → Fresh n log → Fresh n log′ → (cs ds : List Call) → SummariesTell n log log′ cs ds
   pub copies-meet : (n : ℕ) (log log′ : List ℕ) → Fresh n log → Fresh n log′ → (cs ds : List Call) → CopiesMeet (logAfter log cs) (logAfter log′ ds)

@@ -1,0 +1,2 @@
+-- promises
+pub mod Promises
