@@ -20,8 +20,8 @@ const SHORT_EDIT: usize = 128;
 
 const FEW_REVISIONS: usize = 384;
 
-// Past n revisions that came meanwhile. A short edit past few bytes of revisions nearly always does with short buffers, which cost little
-// to clear.
+// An edit that n revisions came before meanwhile is rebased past them. A short edit past few bytes of revisions nearly always
+// does with short buffers, which cost little to clear.
 fn choose_buffers(
     edit: &[u8],
     r: u64,
@@ -46,7 +46,7 @@ fn choose_buffers(
     late_edits::core::in_small_buffers(edit, r, log, s, n, out)
 }
 
-// Into a log that can be read.
+// An edit that was checked goes into a log that can be read, unless 7, 8 or 9 refuses it.
 fn admit(edit: &[u8], r: u64, log: &mut [u8], s: Scan, out: &mut [u8]) -> WrittenPair
     requires { ⌜ (recordFault (now edit) ≡ 0) × Found (now log) r s ⌝ }
     ensures { λ x. ⌜ Accepts (now (edit .entry)) r (now (log .entry)) (now (out .entry)) x (now (log .exit)) (now (out .exit)) ⌝ }

@@ -33,7 +33,7 @@ use Rattle.apply.specs.InnerSteps.{played, Stage, Steps, TakesRest}
 
 -- ---- one step
 
--- the records ahead begin with o, whose characters the text has up to `end`
+-- the operations ahead begin with o, whose characters the text has up to `end`
 module _ (r t : List ℕ) (s : Progress) (g : Stage r t s) (o : Op Char) (to end : ℕ) (b : Begins r (s .k) (s .from) o to) (v : Passes t (s .at) (takes o) end) where
   -- o gives the bytes y
   moves : (y : List ℕ) (len : ℕ) (d e : List ℕ) → y ≡ bytes (writes o (chars (drop (s .at) t))) → len ≡ s .len + length y → e ≡ over (s .len) y d
@@ -69,7 +69,7 @@ module _ (r t : List ℕ) (s : Progress) (g : Stage r t s) (o : Op Char) (to end
         wrote = w ∙ ap (λ z. over (s .len) z d) (sym (ap₂ take j all ∙ take-append-seam y others));
       }
 
--- the record at k, as the code finds it
+-- the operation at k, as the code finds it
 module _ (r t : List ℕ) (n : ℕ) (s : Progress) (kind count : ℕ) (g : Stage r t s) (p : n ≡ opCountOf r) (h : s .k < n) (q : kind ≡ kindAt r (s .k)) (c : count ≡ countAt r (s .k)) (small : count < 65536) where
   module _ (e : kind ≡ 2) where
     pub insert-room : s .from + count ≤ length r

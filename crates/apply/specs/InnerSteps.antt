@@ -19,7 +19,7 @@ unfoldable pub played : List ℕ → List ℕ → List ℕ
 unfolding ops chars bytes
 played r t = bytes (apply (ops r) (chars t))
 
--- of it, `len` bytes were given, and the records from k on make the others of what lies ahead in the text
+-- of it, `len` bytes were given, and the operations from k on make the others of what lies ahead in the text
 pub record Stage (r t : List ℕ) (s : Progress) : Type 0 where
   pub place : Place r (s .k) (s .from)
   pub inside : s .at ≤ length t

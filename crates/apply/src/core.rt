@@ -14,7 +14,7 @@ ghost use Rattle.record.specs.Layout.{opCountOf, baseOf};
 ghost use Rattle.record.specs.Record.{recordFault};
 ghost use Rattle.apply.specs.InnerSteps.{TakesRest, Stage, Steps, played};
 
-// How far the record and the text were gone through: the next record, the places of the next insert's text and of the next
+// How far the record and the text were gone through: the next operation, the places of the next insert's text and of the next
 // character, and how many bytes were given.
 pub(crate) struct Progress {
     pub k: usize,
@@ -35,7 +35,7 @@ fn skip_chars(text: &[u8], chars: usize, at: usize, count: usize) -> usize
     utf8::core::skip(text, at, count)
 }
 
-// The same for the first of `left` operations.
+// The place `count` characters behind `at`, where the operation that takes them is the first of `left`: the last takes all.
 fn end_of(text: &[u8], chars: usize, at: usize, count: usize, left: usize) -> usize
     requires { ⌜ (chars ≡ numChars (now text)) × (at ≤ length (now text)) × T (wellFormed (drop at (now text))) × (count < 65536)
         × (count ≤ numChars (drop at (now text))) × TakesRest (now text) at count left ⌝ }

@@ -1,4 +1,10 @@
-// Blocks of bytes, gone through without a branch for each byte, so that the compiler takes many at once.
+// Blocks of sixteen bytes, checked branch-free, so that the compiler vectorises the loop.
+//
+// Why it works: by RFC 3629's table it is told by the three bytes before a byte whether it may stand there. A continuation, 80..BF, must
+// stand one byte behind C2..F4, two bytes behind E0..F4 and three bytes behind F0..F4, and may stand nowhere else. C0, C1 and F5..FF stand
+// nowhere. Directly behind E0, ED, F0 and F4 the continuation has a narrower range. So a text that is well-formed up to the end of a
+// character goes on well up to a place exactly when each byte up to there may stand behind the three before it, and the last three
+// bytes tell how many bytes of a character are pending. Differences that stop at 0 and masks of all bits stand for the tests.
 ghost use mathlib.Core.Path.{_≡_};
 ghost use Prim.Native.Nat.{_≤_, _-_, _+_};
 ghost use lib.ListN.{length};
@@ -27,7 +33,7 @@ fn bit(b: bool) -> u8
     if b { 1 } else { 0 }
 }
 
-// How far b is above `most`.
+// The saturating subtraction: how far b is above `most`.
 fn saturating_sub(b: u8, most: u8) -> u8
     ensures { λ r. ⌜ r ≡ b - most ⌝ }
 {
@@ -40,21 +46,21 @@ fn mask(b: bool) -> u8
     if b { 0xFF } else { 0 }
 }
 
-// Not 0 where a continuation must follow these three bytes.
+// A number that isn't 0 exactly where a continuation must follow these three bytes.
 fn due(p3: u8, p2: u8, p1: u8) -> u8
     ensures { λ r. ⌜ Tells r (dueOf p3 p2 p1) ⌝ }
 {
     saturating_sub(p1, 0xBF) | saturating_sub(p2, 0xDF) | saturating_sub(p3, 0xEF)
 }
 
-// Not 0 where b neither begins a character nor continues one.
+// A number that isn't 0 exactly where b neither begins a character nor continues one.
 fn invalid_byte(b: u8) -> u8
     ensures { λ r. ⌜ Tells r (invalidByteOf b) ⌝ }
 {
     mask(b & 0xFE == 0xC0) | saturating_sub(b, 0xF4)
 }
 
-// Not 0 where the second byte is outside of the range that the first asks for.
+// A number that isn't 0 exactly where the second byte is outside of the range that the first asks for.
 fn outside(p: u8, b: u8) -> u8
     ensures { λ r. ⌜ Tells r (outsideOf p b) ⌝ }
 {
@@ -66,7 +72,7 @@ fn outside(p: u8, b: u8) -> u8
         | (mask(p == 0xF4) & !lowest)
 }
 
-// 0 only where b may stand behind the three bytes.
+// A number that is 0 exactly where b may stand behind the three bytes.
 fn misplaced(p3: u8, p2: u8, p1: u8, b: u8) -> u8
     ensures { λ r. ⌜ Tells r (misplacedOf p3 p2 p1 b) ⌝ }
 {
@@ -111,7 +117,7 @@ fn pending(text: &[u8], i: usize) -> u8
     bit(0xC0 <= text[i - 1]) + 2 * bit(0xE0 <= text[i - 2]) + 3 * bit(0xF0 <= text[i - 3])
 }
 
-// Whether blocks may begin at the end of a character: three bytes stand before it, nineteen in all, and nothing is held.
+// Whether blocks may begin at the end of a character: three bytes stand before it, nineteen in all, and nothing is pending.
 fn begins(text: &[u8], at: usize) -> bool
     requires { ⌜ at ≤ length (now text) ⌝ }
     ensures { λ r. ⌜ OnlyIf r ((3 ≤ at) × (19 ≤ length (now (text .entry))) × (before pendingOf (now (text .entry)) at ≡ 0)) ⌝ }
@@ -125,7 +131,7 @@ fn begins(text: &[u8], at: usize) -> bool
     pending(text, at) == 0
 }
 
-// Over blocks that go on well, as long as sixteen bytes are left.
+// How far blocks go on well, from `from` on, as long as sixteen bytes are left.
 fn pass(text: &[u8], from: usize, passed: usize) -> Spot
     requires { ⌜ Window (now text) from passed ⌝ }
     ensures { λ w. ⌜ Window (now (text .entry)) (w .at) (w .conts) ⌝ }
@@ -153,7 +159,7 @@ fn pass(text: &[u8], from: usize, passed: usize) -> Spot
     Spot { at: i, conts }
 }
 
-// Back to where the last character ended.
+// The place where the last whole character before w ended.
 fn back(text: &[u8], w: Spot) -> Spot
     requires { ⌜ Window (now text) (w .at) (w .conts) ⌝ }
     ensures { λ s. ⌜ Passed (now (text .entry)) (s .at) (s .conts) ⌝ }
@@ -168,7 +174,7 @@ fn back(text: &[u8], w: Spot) -> Spot
     }
 }
 
-// Whether only ASCII is left, told by the last eight bytes, and nothing is held.
+// Whether only ASCII is left, told by the last eight bytes, and nothing is pending.
 fn ends_ascii(text: &[u8], at: usize) -> bool
     requires { ⌜ (3 ≤ at) × (at ≤ length (now text)) × (8 ≤ length (now text)) ⌝ }
     ensures { λ r. ⌜ OnlyIf r (Runs (now (text .entry)) at (length (now (text .entry))) × (before pendingOf (now (text .entry)) at ≡ 0)) ⌝ }
@@ -182,7 +188,7 @@ fn ends_ascii(text: &[u8], at: usize) -> bool
     pending(text, at) == 0
 }
 
-// Whether the last sixteen bytes go on well, and nothing is held behind them.
+// Whether the last sixteen bytes go on well, and nothing is pending behind them.
 fn ends_well(text: &[u8]) -> bool
     requires { ⌜ 19 ≤ length (now text) ⌝ }
     ensures { λ r. ⌜ OnlyIf r (StandWell (now (text .entry)) (length (now (text .entry)) - 16) (length (now (text .entry)))
@@ -195,7 +201,7 @@ fn ends_well(text: &[u8]) -> bool
     pending(text, text.len()) == 0
 }
 
-// To the end of the text where its last bytes tell that it ends well, else back.
+// The end of the text where its last bytes tell that it ends well; else the place where the last whole character before w ended.
 fn ending(text: &[u8], w: Spot) -> Spot
     requires { ⌜ Window (now text) (w .at) (w .conts) × (19 ≤ length (now text)) ⌝ }
     ensures { λ s. ⌜ Passed (now (text .entry)) (s .at) (s .conts) ⌝ }
@@ -219,7 +225,7 @@ fn ending(text: &[u8], w: Spot) -> Spot
     back(text, w)
 }
 
-// From the end of a character to the end of another, by blocks.
+// The end of a character that is reached by blocks from the end of another, s.
 pub fn through(text: &[u8], s: Spot) -> Spot
     requires { ⌜ Passed (now text) (s .at) (s .conts) ⌝ }
     ensures { λ e. ⌜ Passed (now (text .entry)) (e .at) (e .conts) ⌝ }

@@ -51,7 +51,7 @@ pub fn copy(out: &mut [u8], at: usize, src: &[u8], from: usize, to: usize)
     copy_into(out, at, &src[from..from + len]);
 }
 
-// The same where few bytes are the rule. In the emitter `copy` is taken into loops, and has to be short itself.
+// `copy` for what is mostly short. (In the emitter `copy` is inlined into loops, and has to be short itself.)
 pub fn copy_short(out: &mut [u8], at: usize, src: &[u8], from: usize, to: usize)
     requires { ⌜ (at ≤ 2 ^ 50) × (from ≤ to) × (to ≤ length (now src)) ⌝ }
     ensures { λ _. ⌜ now (out .exit) ≡ over at (take (to - from) (drop from (now (src .entry)))) (now (out .entry)) ⌝ }
@@ -108,7 +108,7 @@ fn two(dst: &mut [u8], at: usize, src: &[u8], from: usize)
     dst[at + 1] = b;
 }
 
-// The same as `copy_into`, for what is mostly short: up to eight bytes by two moves, which may overlap.
+// `copy_into` for what is mostly short: up to eight bytes are copied by two moves, which may overlap.
 pub fn copy_few(dst: &mut [u8], at: usize, src: &[u8])
     requires { ⌜ at + length (now src) ≤ length (now dst) ⌝ }
     ensures { λ _. ⌜ now (dst .exit) ≡ take at (now (dst .entry)) ++ now (src .entry) ++ drop (at + length (now (src .entry)))

@@ -15,7 +15,7 @@ use Rattle.record.specs.Record.{ops}
 use Rattle.emitter.specs.declared.core.Emitter.{Emitter}
 use Rattle.emitter.specs.InnerEmit.{flushedOps, Under, textsOf, laid, group, relocated}
 
--- the count of the record before record k, where it is of this kind; else 0
+-- the count of the operation before operation k, where it is of this kind; else 0
 unfoldable pub lastCount : List ℕ → ℕ → ℕ → ℕ
 lastCount r zero kind = 0
 lastCount r (suc k) kind = cond (eqb (kindAt r k) kind) (countAt r k) 0
@@ -24,7 +24,7 @@ lastCount r (suc k) kind = cond (eqb (kindAt r k) kind) (countAt r k) 0
 abbrev pub closedOf : Emitter → Emitter
 closedOf f = record { ins = 0; del = 0; ret = 0; ops = flushedOps f; text = f .text; base = f .base; target = f .target }
 
--- the emitter stands for the record's operations and the operation p, once the text u that p inserts and all records before the
+-- the emitter stands for the record's operations and the operation p, once the text u that p inserts and all operations before the
 -- pending group are in their places
 pub record Grown (r : List ℕ) (p : Op Char) (u : List ℕ) (f : Emitter) : Type 0 where
   pub few : f .ops ≤ opCountOf r

@@ -1,6 +1,6 @@
 // The Rust's `retain`, `delete` and `insert`, on records.
 //
-// One operation more changes the last one or two records only. All before them, and the text, is copied by blocks to its place in
+// One operation more changes the last one or two operations only. All before them, and the text, is copied by blocks to its place in
 // the result; those that change are held by an emitter as its pending group, and written behind it.
 use answers::Fact;
 use answers::Refusal;
@@ -33,7 +33,7 @@ ghost use Rattle.builders.specs.InnerExtending.{lastCount, closedOf, Gro
 // The limit of a count, for counts of 64 bits.
 const LIMIT: u64 = MAX_SIZE as u64;
 
-// The count of the record before record k, where it is of this kind; else 0.
+// The count of the operation before operation k, where it is of this kind; else 0.
 fn ending(rec: &[u8], ops: usize, k: usize, kind: u8) -> usize
     requires { ⌜ (recordFault (now rec) ≡ 0) × (ops ≡ opCountOf (now rec)) × (k ≤ ops) ⌝ }
     ensures { λ r. ⌜ (r ≡ lastCount (now (rec .entry)) k kind) × (r < 65536) ⌝ }
@@ -47,7 +47,7 @@ fn ending(rec: &[u8], ops: usize, k: usize, kind: u8) -> usize
     reader::core::count(rec, ops, k - 1)
 }
 
-// How many records stand before one of this count, which is none where the count is 0.
+// How many operations stand before one of this count, which is none where the count is 0.
 fn before(k: usize, count: usize) -> usize
     requires { ⌜ one count ≤ k ⌝ }
     ensures { λ r. ⌜ r + one count ≡ k ⌝ }
@@ -94,7 +94,7 @@ fn retain_more(rec: &[u8], ops: usize, k: usize) -> Emitter
     }
 }
 
-// With k characters more deleted: the delete at its end is pending.
+// The sequence with k characters more deleted: the delete at its end is pending.
 fn delete_more(rec: &[u8], ops: usize, k: usize) -> Emitter
     requires { ⌜ (recordFault (now rec) ≡ 0) × (ops ≡ opCountOf (now rec)) × (ops ≤ maxOps) × (k ≤ maxSize) ⌝ }
     ensures { λ r. ⌜ Grown (now (rec .entry)) (delete k) [] r × (r .ins ≡ 0) × (r .ret ≡ 0) ⌝ }
@@ -111,7 +111,7 @@ fn delete_more(rec: &[u8], ops: usize, k: usize) -> Emitter
     }
 }
 
-// With the text inserted: a delete at the end and the insert before it are pending. (`text` is what the contract speaks of.)
+// The sequence with the text inserted: a delete at the end and the insert before it are pending. (`text` is what the contract speaks of.)
 fn insert_more(rec: &[u8], ops: usize, text: &[u8], num: usize) -> Emitter
     requires { ⌜ (recordFault (now rec) ≡ 0) × (ops ≡ opCountOf (now rec)) × (ops ≤ maxOps) × T (wellFormed (now text))
         × (num ≡ numChars (now text)) × (length (now text) ≤ maxSize) ⌝ }
@@ -131,7 +131,7 @@ fn insert_more(rec: &[u8], ops: usize, text: &[u8], num: usize) -> Emitter
     }
 }
 
-// And more text behind it.
+// The first k operations and the text of a record, moved to their places in one of n operations, and more text behind it.
 fn settle_with(
     out: &mut [u8],
     n: usize,
@@ -150,7 +150,7 @@ fn settle_with(
     buffers::core::copy(out, at, more, 0, more.len());
 }
 
-// The pending group, and the sizes in front.
+// The pending group is written, and the sizes in front of the record.
 fn finish(out: &mut [u8], f: Emitter, g: Emitter)
     requires { ⌜ Under (2 ^ 38) f × Under (2 ^ 40) g ⌝ }
     ensures { λ _. ⌜ now (out .exit) ≡ headed g (flushed (g .ops) f (now (out .entry))) ⌝ }
@@ -159,7 +159,7 @@ fn finish(out: &mut [u8], f: Emitter, g: Emitter)
     emitter::core::write_header(out, g);
 }
 
-// Of a record that was checked, and a count within the limits.
+// The answer of `retain` for a record that was checked and a count within the limits.
 fn retained(rec: &[u8], k: usize, out: &mut [u8]) -> Written
     requires { ⌜ (recordFault (now rec) ≡ 0) × (k ≤ maxSize) ⌝ }
     ensures { λ r. ⌜ Gives (deliver 0 (extend (ops (now (rec .entry))) (retain k)) (now (out .entry))) r (now (out .exit)) ⌝ }

@@ -42,7 +42,7 @@ fn count(bytes: &[u8]) -> usize
     n
 }
 
-// The same of text[at..to]; where it is short and the eight bytes there are ASCII, its bytes are its characters.
+// The number of characters of text[at..to]. Where it is short and the eight bytes there are ASCII, its bytes are its characters.
 pub fn count_in(text: &[u8], at: usize, to: usize) -> usize
     requires { ⌜ (at ≤ to) × (to ≤ length (now text)) ⌝ }
     ensures { λ r. ⌜ (r ≡ numChars (take (to - at) (drop at (now (text .entry))))) × (r ≤ to - at) ⌝ }
@@ -83,7 +83,7 @@ struct Sum {
     marks: u64,
 }
 
-// Four, two and one words more, where so many bytes are left, and then the bytes that are no word.
+// The sum after four, two or one words more, where so many bytes are left; `rest` adds the bytes that are no word.
 fn thirty_two(text: &[u8], at: usize) -> Sum
     requires { ⌜ (at ≤ length (now text)) × (length (now text) - at < 64) ⌝ }
     ensures { λ s. ⌜ Further (now (text .entry)) at 0 (s .at) (s .marks) 32 × (s .marks ≤ 0x0404_0404_0404_0404) ⌝ }
@@ -151,7 +151,7 @@ pub fn tail(text: &[u8], from: usize) -> usize
     (rest(text, c.at, c.marks) % 255) as usize
 }
 
-// The same where fewer than sixteen bytes are left.
+// The number of characters of text[from..], of which fewer than sixteen bytes are left.
 pub fn few_left(text: &[u8], from: usize) -> usize
     requires { ⌜ (8 ≤ length (now text)) × (from ≤ length (now text)) × (length (now text) - from < 16) ⌝ }
     ensures { λ r. ⌜ (r ≡ numChars (drop from (now (text .entry)))) × (r ≤ length (now (text .entry)) - from) ⌝ }

@@ -351,7 +351,7 @@ module _ (src : List ℕ) (from to num : ℕ) (room : to ≤ length src) (well :
         rw q
         (insert-all n (chars part) e o (to - from) num lw part-bytes part-chars z o′ (placed o₁ a oe ∙ ap (over (textStart n + e .text) (bytes (chars part))) p))
 
--- ---- `part`
+-- ---- `push`
 
 -- the first k characters of a front's operation
 module _ (r : List ℕ) (f : Front) (k mid : ℕ) (s : Stands r f) (h : k ≤ f .left) (c : Cut r f k mid) where

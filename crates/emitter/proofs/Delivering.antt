@@ -94,7 +94,7 @@ pub builds : (n : ℕ) (out : List ℕ) (xs : Seq) {e e₁ e₂ : Emitter} {o₁
 unfolding build
 builds n out xs z a f = f .done out (addAll [] xs) (a .keeps out [] (rw z (rep-start n out)))
 
--- ---- `judge`
+-- ---- `limits_then_room`
 
 -- an emitter whose numbers keep the limits
 pub record Inside (e : Emitter) : Type 0 where

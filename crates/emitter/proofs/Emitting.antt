@@ -1,4 +1,4 @@
--- The emitter's records and text, at their places in the buffer.
+-- The emitter's operations and text, at their places in the buffer.
 use Prim.Native.Nat.{ℕ, zero, suc, _<_, _≤_, _+_, _*_, _/_, _%_, _^_}
 use mathlib.Core.Path.{_≡_, ap, refl, sym, ap₂, _∙_}
 use native.Mathlib.Omega.{arith}
@@ -33,7 +33,7 @@ one-few : (c : ℕ) → one c ≤ 1
 one-few zero = omega arith
 one-few (suc c) = omega arith
 
--- ---- `enter`, `emit`
+-- ---- `write_op`, `write_op_if_any`
 
 module _ (n k kind c : ℕ) (o : List ℕ) where
   enter-both : {i j : ℕ} {o₁ o₂ : List ℕ} → i ≡ kindsStart + k → j ≡ countsStart n + 2 * k → o₁ ≡ over i (kind ∷ []) o → o₂ ≡ over j (bytes16 c) o₁ → o₂ ≡ writtenOp n k kind c o
@@ -87,9 +87,9 @@ module _ (ops ins del ret : ℕ) {x y : ℕ} (p : x ≡ ops + one ins) (q : y �
   unfolding flushedAt
   flush-all n o f g h = simp (h, g, f, q, p)
 
--- ---- `close`
+-- ---- `write_group`
 
--- a record over another at the same place
+-- an operation over another at the same place
 enter-again : (n k i c j d : ℕ) (o : List ℕ) → k < n → writtenOp n k i c (writtenOp n k j d o) ≡ writtenOp n k i c o
 enter-again n k i c j d o h =
     let p = kindsStart + k in
@@ -97,7 +97,7 @@ enter-again n k i c j d o h =
     ap (over q (bytes16 c)) (sym (over-swap p q (i ∷ []) (bytes16 d) (over p (j ∷ []) o) (omega arith)) ∙ ap (over q (bytes16 d)) (over-again p (i ∷ []) (j ∷ []) o refl))
     ∙ over-again q (bytes16 c) (bytes16 d) (over p (i ∷ []) o) refl
 
--- so where another follows, a record of count 0 may be written, too
+-- so where another follows, an operation of count 0 may be written, too
 enter-next : (n k i c j d : ℕ) (o : List ℕ) → k < n → writtenOp n (k + one c) j d (writtenOp n k i c o) ≡ writtenOp n (k + one c) j d (writtenOpIfAny n k i c o)
 unfolding writtenOpIfAny
 enter-next n k i zero j d o h = rw (add-zero k) (enter-again n k j d i 0 o h)
@@ -149,7 +149,7 @@ module _ (room n ops ret : ℕ) where
 pub flushed-few : (e : Emitter) → flushedOps e ≤ e .ops + 3
 flushed-few e = omega (arith, one-few (e .ins), one-few (e .del), one-few (e .ret))
 
--- ---- `some`, `opened`, `spill`
+-- ---- `some`, `opened`, `flush_if_closed`
 
 pub some-is : (c : ℕ) → (c ≡ 0 → ⊥) → 1 ≡ one c
 some-is c z = sym (one-some c (omega arith))
@@ -208,7 +208,7 @@ length-counts [] = refl
 length-counts (o ∷ r) = omega (arith, length-append (countsOf r) (bytes16 (size (inBytes o))), length-counts r)
 
 module _ (n : ℕ) (s : Seq) (t out : List ℕ) where
-  -- one record more
+  -- one operation more
   pub lay-record : (o : Op Char) → length s < n → writtenOp n (length s) (code (inBytes o)) (size (inBytes o)) (laid n s t out) ≡ laid n (o ∷ s) t out
   unfolding laid kindsOf countsOf
   lay-record o h =

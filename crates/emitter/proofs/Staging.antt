@@ -93,7 +93,7 @@ marked-writes slots s e stage t out out′ g z u few room tt p =
 pub marks : {slots : ℕ} {s : Seq} {o stage : List ℕ} {e : Emitter} → Done slots s o e stage → length stage ≡ length o → Marked slots s stage
 marks {slots} {s} {o} d l = record { before = o; as-long = l; wrote = λ h. d .wrote (omega (arith, d .sizes .ops)) }
 
--- and so does `settle` with the stage's text
+-- and so does `relocate` with the stage's text
 pub staged-writes : (slots : ℕ) (s : Seq) (e : Emitter) (stage out out′ : List ℕ) → Staged slots s e stage → e .ops ≤ slots → textStart slots + e .text ≤ length stage
     → out′ ≡ headed e (relocated slots (e .ops) (e .ops) (e .text) stage out) → Writes (e .ops) s out out′
 unfolding relocated
@@ -125,7 +125,7 @@ module _ (slots : ℕ) (e : Emitter) (stage : List ℕ) (v : Bool) (p : v ≡ (l
   pub settled-writes : (s : Seq) (out out₁ out₂ : List ℕ) → Staged slots s e stage → out₁ ≡ relocated slots (e .ops) (e .ops) (e .text) stage out → out₂ ≡ headed e out₁ → Writes (e .ops) s out out₂
   settled-writes s out out₁ out₂ g a b = staged-writes slots s e stage out out₂ g has-records has-text (b ∙ ap (headed e) a)
 
--- ---- `has_place`, `settle`
+-- ---- `has_place`, `relocate`
 
 module _ (e : Emitter) (slots room : ℕ) where
   pub place-few : slots < e .ops → false ≡ (leb (e .ops) slots && leb (textStart slots + e .text) room)

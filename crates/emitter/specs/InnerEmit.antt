@@ -24,16 +24,16 @@ use Rattle.emitter.specs.declared.core.Emitter.{Emitter}
 abbrev pub one : ℕ → ℕ
 one c = ifZero c 0 1
 
--- kind and count of record k of n
+-- kind and count of operation k of n
 abbrev pub writtenOp : ℕ → ℕ → ℕ → ℕ → List ℕ → List ℕ
 writtenOp n k kind c o = over (countsStart n + 2 * k) (bytes16 c) (over (kindsStart + k) (kind ∷ []) o)
 
--- a record is written where its count is not 0
+-- an operation is written where its count is not 0
 unfoldable pub writtenOpIfAny : ℕ → ℕ → ℕ → ℕ → List ℕ → List ℕ
 unfolding over
 writtenOpIfAny n k kind c o = ifZero c o (writtenOp n k kind c o)
 
--- how many records there are once the group is flushed, and the buffer then
+-- how many operations there are once the group is flushed, and the buffer then
 abbrev pub flushedOps : Emitter → ℕ
 flushedOps e = e .ops + one (e .ins) + one (e .del) + one (e .ret)
 

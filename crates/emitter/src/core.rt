@@ -2,7 +2,7 @@
 //
 // A built sequence is groups of an insert, a delete and a retain, each of which may be missing. The group that is being
 // built is held as three numbers; an insert's bytes go to the text at once, which only ever grows. Every function takes the
-// number n of records of the whole, so that each byte has its place. A byte that has none in the buffer is not written: a
+// number n of operations of the whole, so that each byte has its place. A byte that has none in the buffer is not written: a
 // run on an empty buffer yields the sizes.
 use answers::Refusal;
 use answers::Written;
@@ -35,7 +35,7 @@ pub struct Emitter {
     pub ins: usize,
     pub del: usize,
     pub ret: usize,
-    // records written, text bytes, base and target so far
+    // operations written, text bytes, base and target so far
     pub ops: usize,
     pub text: usize,
     pub base: usize,
@@ -56,8 +56,8 @@ pub fn new_emitter() -> Emitter
     }
 }
 
-// One record, unless its count is 0: the number of records afterwards. (Its bytes are written out: with `enter` here the compiler no
-// longer inlines `part`.)
+// One operation, unless its count is 0: the number of operations afterwards. (Its bytes are written out: with `write_op` here the
+// compiler no longer inlines `push`.)
 fn write_op_if_any(out: &mut [u8], n: usize, ops: usize, kind: u8, count: usize) -> usize
     requires { ⌜ (n ≤ 2 ^ 41) × (ops ≤ 2 ^ 41) ⌝ }
     ensures { λ r. ⌜ (r ≡ ops + one count) × (r ≤ ops + 1) × (now (out .exit) ≡ writtenOpIfAny n ops kind count (now (out .entry))) ⌝ }
@@ -78,7 +78,7 @@ fn write_op_if_any(out: &mut [u8], n: usize, ops: usize, kind: u8, count: usize)
     ops + 1
 }
 
-// Kind and count of record k of n, which have their places in the buffer.
+// Kind and count of operation k of n, which have their places in the buffer.
 pub fn write_op(out: &mut [u8], n: usize, k: usize, kind: u8, count: usize)
     requires { ⌜ (n ≤ 2 ^ 41) × (k ≤ 2 ^ 41) × (countsStart n + 2 * k + 1 < length (now out)) ⌝ }
     ensures { λ _. ⌜ now (out .exit) ≡ writtenOp n k kind count (now (out .entry)) ⌝ }
@@ -89,7 +89,7 @@ pub fn write_op(out: &mut [u8], n: usize, k: usize, kind: u8, count: usize)
     out[at + 1] = (count / 256 % 256) as u8;
 }
 
-// Whether a group ends with a retain, and three records have their places.
+// Whether a group ends with a retain, and three operations have their places.
 fn group_fits(room: usize, n: usize, ops: usize, ret: usize) -> bool
     requires { ⌜ (n ≤ 2 ^ 40) × (ops ≤ 2 ^ 40) ⌝ }
     ensures { λ r. ⌜ r ≡ (leb 1 ret && (leb (ops + 3) n && leb (countsStart n + 2 * ops + 6) room)) ⌝ }
@@ -103,7 +103,8 @@ fn group_fits(room: usize, n: usize, ops: usize, ret: usize) -> bool
     layout::core::count_place(n, ops) + 6 <= room
 }
 
-// `flush` for such a group. No count is asked about: a record of count 0 is written, too, and the next one over it.
+// `flush` for a group that ends with a retain, where three operations have their places. No count is asked about: an operation of
+// count 0 is written, too, and the next one over it.
 fn write_group(out: &mut [u8], n: usize, ops: usize, ins: usize, del: usize, ret: usize) -> usize
     requires { ⌜ (n ≤ 2 ^ 40) × (ops ≤ 2 ^ 40) × (0 < ret) × (ops + 2 < n) × (countsStart n + 2 * ops + 5 < length (now out)) ⌝ }
     ensures { λ r. ⌜ (r ≡ ops + one ins + one del + one ret) × (r ≤ ops + 3)
@@ -117,7 +118,7 @@ fn write_group(out: &mut [u8], n: usize, ops: usize, ins: usize, del: usize, ret
     y + 1
 }
 
-// A group's records, by numbers: a struct would go through memory. The number of records afterwards.
+// A group's operations, by numbers: a struct would go through memory. The number of operations afterwards.
 pub fn flush(out: &mut [u8], n: usize, ops: usize, ins: usize, del: usize, ret: usize) -> usize
     requires { ⌜ (n ≤ 2 ^ 40) × (ops ≤ 2 ^ 40) ⌝ }
     ensures { λ r. ⌜ (r ≡ ops + one ins + one del + one ret) × (r ≤ ops + 3)
@@ -141,7 +142,7 @@ pub fn flush_if_closed(out: &mut [u8], n: usize, e: Emitter)
     }
 }
 
-// The same, by `close` where it can. (With it in `part`, too, compose would be slower.)
+// `flush_if_closed`, by `write_group` where it can. (With it in `push`, too, compose would be slower.)
 fn write_if_closed(out: &mut [u8], n: usize, e: Emitter)
     requires { ⌜ (n ≤ 2 ^ 40) × Under (2 ^ 40) e ⌝ }
     ensures { λ _. ⌜ now (out .exit) ≡ flushedIfClosed n e (now (out .entry)) ⌝ }
@@ -288,7 +289,7 @@ pub fn push(
     deleted(e, k)
 }
 
-// The same where the buffer has no place for text: none is copied.
+// `push` into a buffer that has no place for text: none is copied.
 pub fn push_without_text(
     out: &mut [u8],
     n: usize,
@@ -313,7 +314,7 @@ pub fn push_without_text(
     deleted(e, k)
 }
 
-// The pending group is written, too.
+// The emitter once the pending group is written.
 pub fn finish(out: &mut [u8], n: usize, e: Emitter) -> Emitter
     requires { ⌜ (n ≤ 2 ^ 40) × Under (2 ^ 39) e ⌝ }
     ensures { λ r. ⌜ Finishes n e (now (out .entry)) r (now (out .exit)) ⌝ }
@@ -380,7 +381,7 @@ pub fn write_header(out: &mut [u8], e: Emitter)
     buffers::core::put16(out, 6, e.target);
 }
 
-// A record may be written before its number of records is known: to a stage that has places for `slots` of them. Whether all of it
+// A record may be written before its number of operations is known: to a stage that has places for `slots` of them. Whether all of it
 // has a place in a stage of `room` bytes.
 pub fn fits_stage(e: Emitter, slots: usize, room: usize) -> bool
     requires { ⌜ (slots ≤ 2 ^ 40) × Under (2 ^ 40) e ⌝ }
@@ -392,7 +393,7 @@ pub fn fits_stage(e: Emitter, slots: usize, room: usize) -> bool
     layout::core::text_start(slots) + e.text <= room
 }
 
-// From a record with places for `slots` records the first k counts and kinds go to their places in one of n.
+// From a record with places for `slots` operations the first k counts and kinds go to their places in one of n.
 pub fn relocate_ops(out: &mut [u8], n: usize, stage: &[u8], slots: usize, k: usize)
     requires { ⌜ (n ≤ 2 ^ 40) × (slots ≤ 2 ^ 40) × (k ≤ slots) × (textStart slots ≤ length (now stage)) ⌝ }
     ensures { λ _. ⌜ now (out .exit) ≡ relocatedOps slots n k (now (stage .entry)) (now (out .entry)) ⌝ }
@@ -409,7 +410,7 @@ pub fn relocate_ops(out: &mut [u8], n: usize, stage: &[u8], slots: usize, k: usi
     buffers::core::copy_short(out, kinds, stage, kinds, kinds + k);
 }
 
-// The text, too. (Written out: what calls this calls nothing below it.)
+// `relocate_ops`, and the text. (It is written out so that its callers call one function only.)
 pub fn relocate(out: &mut [u8], n: usize, stage: &[u8], slots: usize, k: usize, text: usize)
     requires { ⌜ (n ≤ 2 ^ 40) × (slots ≤ 2 ^ 40) × (k ≤ slots) × (textStart slots + text ≤ length (now stage)) ⌝ }
     ensures { λ _. ⌜ now (out .exit) ≡ relocated slots n k text (now (stage .entry)) (now (out .entry)) ⌝ }

@@ -84,7 +84,7 @@ fn is_last_retain(f: Front, count: usize) -> bool
     false
 }
 
-// All of invert, for a result of n records.
+// The inverse is emitted into a record of n operations.
 fn invert_into(
     rec: &[u8],
     count: usize,
@@ -113,7 +113,7 @@ fn invert_into(
     emitter::core::finish(out, n, e)
 }
 
-// The record of a result of n records.
+// The record of an inverse of n operations is written.
 fn write(rec: &[u8], count: usize, text: &[u8], chars: usize, out: &mut [u8], n: usize)
     requires { ⌜ (recordFault (now rec) ≡ 0) × (count ≡ opCountOf (now rec)) × (count ≤ maxOps) × T (wellFormed (now text))
         × (chars ≡ numChars (now text)) × (n ≤ 2 ^ 40) ⌝ }
@@ -123,7 +123,7 @@ fn write(rec: &[u8], count: usize, text: &[u8], chars: usize, out: &mut [u8], n:
     emitter::core::write_header(out, e);
 }
 
-// Whether nothing can be refused: on a text of base characters the inverse has as many records as the record, and no more text
+// Whether nothing can be refused: on a text of base characters the inverse has as many operations as the record, and no more text
 // than the text.
 fn surely_fits(rec: &[u8], count: usize, text: &[u8], chars: usize, room: usize) -> bool
     requires { ⌜ (recordFault (now rec) ≡ 0) × (count ≤ maxOps) ⌝ }
@@ -139,7 +139,7 @@ fn surely_fits(rec: &[u8], count: usize, text: &[u8], chars: usize, room: usize)
     layout::core::text_start(count) + text.len() <= room
 }
 
-// Else a first run yields the sizes and writes nothing.
+// Where something may be refused, a first run yields the sizes and writes nothing.
 fn measure_then_write(
     rec: &[u8],
     count: usize,
@@ -163,7 +163,7 @@ fn measure_then_write(
     }
 }
 
-// Of a record and a text that were checked.
+// The answer of `invert` for a record and a text that were checked.
 fn inverted(rec: &[u8], text: &[u8], chars: usize, out: &mut [u8]) -> Written
     requires { ⌜ (recordFault (now rec) ≡ 0) × T (wellFormed (now text)) × (chars ≡ numChars (now text)) ⌝ }
     ensures { λ r. ⌜ Gives (deliver 0 (invertOf (ops (now (rec .entry))) (charsOf (now (text .entry)))) (now (out .entry))) r

@@ -1,4 +1,4 @@
--- Each record written to its place at once.
+-- Each operation written to its place at once.
 use Prim.Native.Nat.{ℕ, _-_, _+_, _≤_, _<_, zero-le, _*_, suc}
 use mathlib.Core.Path.{_≡_, ap, _∙_, refl, sym}
 use mathlib.Core.List.{List, [], _∷_, map, _++_, append-nil, reverse, reverse-reverse}
@@ -100,7 +100,7 @@ add-pair y m t r s f p l h =
     go (insert x ∷ r) h = absurd h
     go (delete j ∷ r) h = absurd h
 
--- ---- one record more at its place
+-- ---- one operation more at its place
 
 -- with its text behind the text
 lay-all : (n : ℕ) (s : Seq) (out : List ℕ) → length s < n → (o : Op Char)
@@ -109,7 +109,7 @@ unfolding textsOf
 lay-all n s out h o =
     ap (over (textStart n + length (textsOf s)) (inserted (inBytes o))) (lay-record n s (textsOf s) out o h) ∙ lay-text n (o ∷ s) (textsOf s) out (inserted (inBytes o)) h
 
--- two records in either order
+-- two operations in either order
 swap : (n k i c j d : ℕ) (o : List ℕ) → k + 1 < n → writtenOp n k i c (writtenOp n (k + 1) j d o) ≡ writtenOp n (k + 1) j d (writtenOp n k i c o)
 swap n k i c j d o h =
     let k₀ = kindsStart + k in
@@ -172,7 +172,7 @@ goes-passes t at k end q p h =
 goes-none : (t : List ℕ) (at : ℕ) (q : Seq) (x : List Char) → at ≤ length t → T (wellFormed (drop at t)) → q ≡ [] → Goes t at q x
 goes-none t at q x h w e = rw e (record { inside = h; well = w; enough = zero-le; same = refl })
 
--- the records ahead begin with p
+-- the operations ahead begin with p
 module _ {n : ℕ} {r t : List ℕ} {s : Inversion} (g : Reached n r t s) {p : Op Char} {to : ℕ} (b : Begins r (s .k) (s .from) p to) where
   links : Links (p ∷ opsLeft r (s .k + 1) to)
   links = built-links (p ∷ opsLeft r (s .k + 1) to) (rw (b .has) at (g .built))
@@ -294,7 +294,7 @@ module _ {n : ℕ} {r t o₀ : List ℕ} {s : Inversion} {o : List ℕ} (g : Und
 
 -- ---- `undo_insert`, `undo`
 
--- the record at k, as the code finds it
+-- the operation at k, as the code finds it
 module _ (n : ℕ) (r t : List ℕ) (s : Inversion) (g : Reached n r t s) (e : n ≡ opCountOf r) (h : s .k < n) (kind count : ℕ) (q : kind ≡ kindAt r (s .k)) (c : count ≡ countAt r (s .k)) (small : count < 65536) (o : List ℕ) where
   module _ (z : kind ≡ 1) (o′ : List ℕ) (w : o′ ≡ writtenOp n (s .k) 1 count o) where
     retains : Begins r (s .k) (s .from) (retain count) (s .from)

@@ -28,17 +28,17 @@ taken f = cond (eqb (f .kind) insertKind) 0 (f .left)
 abbrev pub undone : Front → List Char → Op Char
 undone f t = cond (eqb (f .kind) retainKind) (retain (f .left)) (cond (eqb (f .kind) insertKind) (delete (f .left)) (insert (take (f .left) t)))
 
--- the front is a retain, the last of so many records
+-- the front is a retain, the last of so many operations
 abbrev pub lastRetain : Front → ℕ → Bool
 lastRetain f count = cond (eqb (f .kind) retainKind) (leb count (f .next)) false
 
--- ---- each record at its place at once
+-- ---- each operation at its place at once
 
--- a delete stands behind record k of n
+-- a delete stands behind operation k of n
 abbrev pub deleteBehind : List ℕ → ℕ → ℕ → Bool
 deleteBehind r n k = cond (leb n (k + 1)) false (eqb (kindAt r (k + 1)) deleteKind)
 
--- record k inserts `count` characters of the text from `at` up to `to`; its text stands at `put`
+-- operation k inserts `count` characters of the text from `at` up to `to`; its text stands at `put`
 pub record Restores (n : ℕ) (t : List ℕ) (k at put count : ℕ) (o : List ℕ) (to : ℕ) (o′ : List ℕ) : Type 0 where
   pub passes : Passes t at count to
   pub wrote : o′ ≡ over put (take (to - at) (drop at t)) (writtenOp n k insertKind (to - at) o)
@@ -47,7 +47,7 @@ pub record Restores (n : ℕ) (t : List ℕ) (k at put count : ℕ) (o : List �
 abbrev pub restored : Inversion → ℕ → Inversion
 restored s to = record { k = s .k + 1; from = s .from; at = to; put = s .put + (to - s .at) }
 
--- a state in going through: the text has the characters that the records ahead take
+-- a state in going through: the text has the characters that the operations ahead take
 pub record Reached (n : ℕ) (r t : List ℕ) (s : Inversion) : Type 0 where
   pub place : Place r (s .k) (s .from)
   pub built : Built (opsLeft r (s .k) (s .from))
@@ -63,7 +63,7 @@ apart (retain m ∷ r) s = next (retain m) s
 apart (insert x ∷ r) s = next (delete 0) s
 apart (delete m ∷ r) s = next (delete 0) s
 
--- what undoes the records gone through is held, and stands at its place over `o`
+-- what undoes the operations gone through is held, and stands at its place over `o`
 pub record Undone (n : ℕ) (r t o : List ℕ) (s : Inversion) (o′ : List ℕ) : Type 0 where
   pub reached : Reached n r t s
   pub held : Seq
@@ -73,7 +73,7 @@ pub record Undone (n : ℕ) (r t o : List ℕ) (s : Inversion) (o′ : List ℕ)
   pub all : addAll held (undoAll (opsLeft r (s .k) (s .from)) (chars (drop (s .at) t))) ≡ addAll [] (undoAll (ops r) (chars t))
   pub wrote : o′ ≡ laid n held (textsOf held) o
 
--- one or two records further
+-- one or two operations further
 pub record Undoes (n : ℕ) (r t : List ℕ) (s : Inversion) (o : List ℕ) (u : Inversion) (o′ : List ℕ) : Type 0 where
   pub forth : s .k < u .k
   pub keeps : (o₀ : List ℕ) → Undone n r t o₀ s o → Undone n r t o₀ u o′

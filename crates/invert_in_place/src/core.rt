@@ -30,7 +30,7 @@ pub fn skip_chars(text: &[u8], chars: usize, at: usize, k: usize) -> usize
     utf8::core::skip(text, at, k)
 }
 
-// How far the record and the text were gone through: the next record, the places of the next insert's text and of the next
+// How far the record and the text were gone through: the next operation, the places of the next insert's text and of the next
 // character, and the place of the next byte of text in the output.
 struct Inversion {
     k: usize,
@@ -39,7 +39,7 @@ struct Inversion {
     put: usize,
 }
 
-// Record k inserts again what a delete took: `count` characters from `at` on. The place behind them.
+// Operation k inserts again what a delete took: `count` characters from `at` on. The place behind them.
 fn restore(
     text: &[u8],
     chars: usize,
@@ -83,7 +83,7 @@ fn undo_delete(
     }
 }
 
-// Whether a delete stands behind record k of n.
+// Whether a delete stands behind operation k of n.
 fn delete_follows(rec: &[u8], n: usize, k: usize) -> bool
     requires { ⌜ (recordFault (now rec) ≡ 0) × (n ≡ opCountOf (now rec)) × (k < n) ⌝ }
     ensures { λ r. ⌜ r ≡ deleteBehind (now (rec .entry)) n k ⌝ }
@@ -164,7 +164,7 @@ fn undo(rec: &[u8], n: usize, text: &[u8], chars: usize, out: &mut [u8], s: Inve
     undo_insert(rec, n, text, chars, out, s, count)
 }
 
-// Where nothing can be refused each record is written to its place at once.
+// Where nothing can be refused each operation is written to its place at once.
 pub fn write_in_place(
     rec: &[u8],
     count: usize,

@@ -35,7 +35,7 @@ const MEDIUM_STAGE: usize = HEADER + OP_BYTES * MEDIUM_OPS;
 // A stage in which every record within the limits has its places.
 const LARGE_STAGE: usize = HEADER + OP_BYTES * MAX_OPS;
 
-// In buffers of any length: one run, which keeps the counterparts, too.
+// The edit is rebased in buffers of any length, by one run, which keeps the counterparts, too.
 fn try_in(
     edit: &[u8],
     r: u64,
@@ -93,7 +93,7 @@ fn write_again(
     WrittenPair::Bytes(size, bytes)
 }
 
-// In buffers in which every record has a place: the first run keeps no counterparts.
+// The edit is rebased in buffers in which every record has a place: the first run keeps no counterparts.
 fn in_full_buffers(
     edit: &[u8],
     r: u64,

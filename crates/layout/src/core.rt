@@ -34,7 +34,7 @@ pub fn target(rec: &[u8]) -> usize
     buffers::core::word(rec, 6)
 }
 
-// The places of n records: of the kind and of the count of record k, and where the text begins.
+// The places of n operations: of the kind and of the count of operation k, and where the text begins.
 pub fn kind_place(k: usize) -> usize
     requires { ⌜ k ≤ 2 ^ 62 ⌝ }
     ensures { λ r. ⌜ r ≡ kindsStart + k ⌝ }
@@ -63,7 +63,7 @@ pub fn kind(rec: &[u8], k: usize) -> u8
     rec[kind_place(k)]
 }
 
-// The count of record k of n.
+// The count of operation k of n.
 pub fn count(rec: &[u8], n: usize, k: usize) -> usize
     requires { ⌜ (n ≡ opCountOf (now rec)) × (textStart (opCountOf (now rec)) ≤ length (now rec)) × (k < opCountOf (now rec)) ⌝ }
     ensures { λ r. ⌜ (r ≡ countAt (now (rec .entry)) k) × (r < 65536) ⌝ }

@@ -108,7 +108,7 @@ fn marked(k: usize, r: u64, here: Spot, kept: Spot) -> Spot
     }
 }
 
-// Past the record that stands here.
+// The spot behind the record that stands here, unless the log can't be read.
 fn next_revision(log: &[u8], here: Spot) -> Stepped
     requires { ⌜ here .at ≤ length (now log) ⌝ }
     ensures { λ x. ⌜ Steps (now (log .entry)) here x ⌝ }

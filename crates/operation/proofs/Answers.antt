@@ -58,7 +58,7 @@ formed false x c e p q = absurd (let z : _≡_ {A = ℕ} 0 1 = cc (p, q) in omeg
 
 -- ---- check
 
--- nothing is wrong with a record of n records and t bytes of text, unless that its target isn't g
+-- nothing is wrong with a record of n operations and t bytes of text, unless that its target isn't g
 pub record Agreed (r : List ℕ) (n t g : ℕ) : Type 0 where
   pub in-limits : inLimits r ≡ true
   pub is-sound : sound r ≡ true
@@ -263,7 +263,7 @@ module _ (r : List ℕ) (f : Fact) (p : factOf f ≡ checkCall r) where
                 other true g = one _ 0 _ (left-insert r 0 (omega arith) _ (sym pk ∙ eqb-true kind 2 g)) refl
                 other false g = one _ 0 _ (left-delete r 0 (omega arith) _ no (λ y. eqb-false kind 2 g (pk ∙ y))) refl
 
-    -- ---- the text of record k
+    -- ---- the text of operation k
 
     module _ (n k : ℕ) (pn : n ≡ opCountOf r) where
       text-by : (x : List ℕ) → x ≡ getD (map inserted (byteOps r)) k [] → x ≡ textCall r k
@@ -304,7 +304,7 @@ module _ (r : List ℕ) (f : Fact) (p : factOf f ≡ checkCall r) where
 
 -- ---- where it begins
 
--- behind the text of the records before it
+-- behind the text of the operations before it
 module _ (r : List ℕ) (k from : ℕ) (z : recordFault r ≡ 0) (h : k < opCountOf r) (g : Reached r k from) where
   pub text-from : from ≡ textFrom r k
   unfolding textFrom
@@ -361,7 +361,7 @@ take-again zero l = refl
 take-again (suc n) [] = refl
 take-again (suc n) (x ∷ l) = ap (λ t. x ∷ t) (take-again n l)
 
--- the text of record k is the part of the record that begins there
+-- the text of operation k is the part of the record that begins there
 pub text-stands : (r : List ℕ) (k : ℕ) → take (length (textCall r k)) (drop (textFrom r k) r) ≡ textCall r k
 text-stands r k = go (ltb 0 (length (textCall r k))) refl
   where

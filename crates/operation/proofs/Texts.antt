@@ -97,7 +97,7 @@ plain-starts (e ∷ es) t s l h =
         rw (plain-first n t x (omega arith) (omega arith), ih (drop n t) (simp length-drop (omega arith)) (omega arith))
     go false x l h ih = ih t l h
 
--- ---- where the text of a record begins
+-- ---- where the text of an operation begins
 
 pub reached-start : (r : List ℕ) (n at : ℕ) → Sound r → n ≡ opCountOf r → at ≡ textStart n → Reached r 0 at
 unfolding entries
@@ -136,7 +136,7 @@ pub record Reach (r : List ℕ) (k : ℕ) : Type 0 where
   pub at : ℕ
   pub reached : Reached r k at
 
--- every record's text begins somewhere
+-- every operation's text begins somewhere
 pub reach : (r : List ℕ) → Sound r → (k : ℕ) → k ≤ opCountOf r → Reach r k
 reach r s zero h = record { at = textStart (opCountOf r); reached = reached-start r (opCountOf r) (textStart (opCountOf r)) s refl refl }
 reach r s (suc k) h = go (eqb (kindAt r k) 2) refl (reach r s k (omega arith))
@@ -147,7 +147,7 @@ reach r s (suc k) h = go (eqb (kindAt r k) 2) refl (reach r s k (omega arith))
 
 -- ---- whether inserts begin with a continuation
 
--- from record k on, with its text at `at`, it comes to w
+-- from operation k on, with its text at `at`, it comes to w
 pub record Starting (r : List ℕ) (k at : ℕ) (w : Bool) : Type 0 where
   pub sound : T (allOf soundEntry (entriesLeft r k))
   pub reached : Reached r k at
@@ -203,7 +203,7 @@ module _ (r : List ℕ) (n k at kind : ℕ) {w : Bool} (h : k < n) (e : n ≡ op
             same = rw x at first;
           }
 
--- from record k on it comes to w, or there is none from k on
+-- from operation k on it comes to w, or there is none from k on
 pub record Began (r : List ℕ) (n k at : ℕ) (w : Bool) : Type 0 where
   pub here : k ≤ n → Starting r k at w
   pub past : n ≤ k → true ≡ w
@@ -215,7 +215,7 @@ not-twice : (k l : ℕ) → mayFollow k l ≡ true → k ≡ 2 → l ≡ 2 → �
 unfolding mayFollow
 not-twice k l f p q = absurd (known (sym (ap₂ mayFollow p q) ∙ f))
 
--- behind an insert, where all neighbours may stand so, one record is passed without a look
+-- behind an insert, where all neighbours may stand so, one operation is passed without a look
 module _ (r : List ℕ) (n k at : ℕ) {w : Bool} (s : Sound r) (e : n ≡ opCountOf r) (z : kindAt r k ≡ 2) (g : Starting r (k + 1) at w) where
   began-second : chained (byteOps r) ≡ true → k + 1 < n → Starting r (k + 1 + 1) at w
   began-second p h =

@@ -30,7 +30,7 @@ pub record Sound (r : List ℕ) : Type 0 where
   pub entries-sound : T (allOf soundEntry (entries r))
   pub adds-up : insertBytes (entries r) ≡ textBytesOf r
 
--- the text of the records from k on begins at `at`
+-- the text of the operations from k on begins at `at`
 pub record Reached (r : List ℕ) (k at : ℕ) : Type 0 where
   pub whole : sizeOf r ≤ length r
   pub ends : at + insertBytes (entriesLeft r k) ≡ sizeOf r

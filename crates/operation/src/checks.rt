@@ -36,9 +36,6 @@ pub(crate) fn in_limits(rec: &[u8]) -> bool
     layout::core::text_start(n) + text <= rec.len()
 }
 
-// The passes over eight entries and more have no branch, so they are done several entries at a time: the more, the
-// narrower their numbers are.
-
 // Whether no insert begins with a continuation. Where all neighbours may stand so, none stands directly behind another.
 fn start_well(rec: &[u8], n: usize, ordered: bool) -> bool
     requires { ⌜ (n ≡ opCountOf (now rec)) × (ordered ≡ chained (byteOps (now rec))) × Sound (now rec) ⌝ }
@@ -90,7 +87,7 @@ pub(crate) fn inserted_chars(rec: &[u8], n: usize, text: usize, ordered: bool) -
     Inserted::Chars(chars)
 }
 
-// Where the text of record k begins, were it an insert.
+// Where the text of operation k begins, were it an insert.
 pub(crate) fn text_at(rec: &[u8], n: usize, k: usize) -> usize
     requires { ⌜ (n ≡ opCountOf (now rec)) × (k < n) × Sound (now rec) ⌝ }
     ensures { λ r. ⌜ Reached (now (rec .entry)) k r ⌝ }

@@ -5,7 +5,7 @@ ghost use Rattle.record.specs.Layout.{opCountOf, maxRecord};
 ghost use Rattle.record.specs.Record.{recordFault};
 ghost use Rattle.record.specs.Calls.{textFrom};
 
-// Where the text of record k of n begins, were it an insert.
+// Where the text of operation k of n begins, were it an insert.
 pub fn text_from(rec: &[u8], n: usize, k: usize) -> usize
     requires { ⌜ (recordFault (now rec) ≡ 0) × (n ≡ opCountOf (now rec)) × (k < opCountOf (now rec)) ⌝ }
     ensures { λ r. ⌜ (r ≡ textFrom (now (rec .entry)) k) × (r ≤ maxRecord) ⌝ }

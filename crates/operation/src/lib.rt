@@ -62,7 +62,7 @@ pub fn target_len(rec: &[u8]) -> Fact
     }
 }
 
-// Whether the edit changes no text: no records, or one retain.
+// Whether the edit changes no text: no operations, or one retain.
 pub fn is_noop(rec: &[u8]) -> Noop
     ensures { λ r. ⌜ noopOf r ≡ noopCall (now (rec .entry)) ⌝ }
 {
@@ -81,7 +81,7 @@ pub fn is_noop(rec: &[u8]) -> Noop
     }
 }
 
-// The text of record k: a part of the record, empty where there is none.
+// The text of operation k: a part of the record, empty where there is none.
 pub fn insert_text(rec: &[u8], k: usize) -> &[u8]
     ensures { λ r. ⌜ now r ≡ textCall (now (rec .entry)) k ⌝ }
 {

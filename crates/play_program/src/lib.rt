@@ -15,7 +15,7 @@ pub mod core;
 // "input over 65,536 bytes is `refused 10`": so many bytes have the scratch buffers and the output, too.
 pub const MAX_INPUT: usize = 65536;
 
-// From input to output: how many bytes of the output are written.
+// The program's output for its input: how many bytes of it are written.
 pub fn play_input(input: &[u8], out: &mut [u8; MAX_INPUT]) -> usize
     ensures { λ n. ⌜ Writes (program (now (input .entry))) (now (out .entry)) n (now (out .exit)) ⌝ }
 {

@@ -125,7 +125,7 @@ pub ended-ahead : (r : List ℕ) (f : Front) → Stands r f → f .kind ≡ 0 �
 unfolding ahead
 ended-ahead r f s e = rw (s .ended e)
 
--- the records from k on begin with the operation o, and the text of those behind it begins at `to`
+-- the operations from k on begin with the operation o, and the text of those behind it begins at `to`
 pub record Begins (r : List ℕ) (k at : ℕ) (o : Op Char) (to : ℕ) : Type 0 where
   pub place : Place r (k + 1) to
   pub has : opsLeft r k at ≡ o ∷ opsLeft r (k + 1) to
@@ -151,7 +151,7 @@ load-end r n k at e p h =
       has = sym (begins-none r n k at e h);
     }
 
--- the record at k, as the code finds it
+-- the operation at k, as the code finds it
 module _ (r : List ℕ) (n k at kind count : ℕ) (e : n ≡ opCountOf r) (p : Place r k at) (h : k < n) (q : kind ≡ kindAt r k) (c : count ≡ countAt r k) (small : count < 65536) where
   in-range : k < opCountOf r
   in-range = omega arith

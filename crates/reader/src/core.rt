@@ -48,7 +48,7 @@ pub fn size(rec: &[u8]) -> usize
     layout::core::text_start(n) + layout::core::text_bytes(rec)
 }
 
-// What stands at record k: its kind, and its count of n.
+// What stands at operation k: its kind, and its count of n.
 pub fn kind(rec: &[u8], k: usize) -> u8
     requires { ⌜ (recordFault (now rec) ≡ 0) × (k < opCountOf (now rec)) ⌝ }
     ensures { λ r. ⌜ r ≡ kindAt (now (rec .entry)) k ⌝ }
@@ -71,7 +71,7 @@ pub fn first_front(rec: &[u8], n: usize) -> Front
     load(rec, n, 0, layout::core::text_start(n))
 }
 
-// The front at record k of n, where the text of the records from k on begins at `at`.
+// The front at operation k of n, where the text of the operations from k on begins at `at`.
 pub fn load(rec: &[u8], n: usize, k: usize, at: usize) -> Front
     requires { ⌜ (n ≡ opCountOf (now rec)) × Place (now rec) k at ⌝ }
     ensures { λ f. ⌜ Loads (now (rec .entry)) k at f ⌝ }

@@ -1,4 +1,4 @@
--- Going through a record: the records from k on, and what the next one adds.
+-- Going through a record: the operations from k on, and what the next one adds.
 use Prim.Native.Nat.{ℕ, suc, _+_, _-_, _≤_, _<_, zero}
 use native.Mathlib.Numerals.{add-one}
 use native.Mathlib.Omega.{arith}
@@ -32,7 +32,7 @@ module _ (r : List ℕ) (k : ℕ) where
   unfolding byteOpsLeft
   left-done at h = rw (entries-done h)
 
-  -- the record at k
+  -- the operation at k
   module _ (h : k < opCountOf r) where
     left-next : (at : ℕ) → byteOpsLeft r k at ≡ operation (kindAt r k) (countAt r k) (drop at r) ∷ operations (entriesLeft r (k + 1)) (cond (eqb (kindAt r k) 2) (drop (countAt r k) (drop at r)) (drop at r))
     unfolding byteOpsLeft
@@ -99,7 +99,7 @@ left-all r e =
     ap (λ n. operations (entriesFrom r 0 n) (drop (textStart (opCountOf r)) r)) (sub-zero (opCountOf r))
     ∙ sym (operations-take (entriesFrom r 0 (opCountOf r)) (textBytesOf r) (drop (textStart (opCountOf r)) r) (omega arith))
 
--- the inserts of the records before k and of those from k on are all of them
+-- the inserts of the operations before k and of those from k on are all of them
 inserts-split : (r : List ℕ) (i a b : ℕ) → insertBytes (entriesFrom r i (a + b)) ≡ insertBytes (entriesFrom r i a) + insertBytes (entriesFrom r (i + a) b)
 inserts-split r i zero b = ap₂ (λ n j. insertBytes (entriesFrom r j n)) (zero-add b) (sym (add-zero i)) ∙ sym (zero-add _)
 inserts-split r i (suc a) b =

@@ -42,6 +42,6 @@ unfoldable pub textCall : List ℕ → ℕ → List ℕ
 unfolding recordFault byteOps
 textCall r k = unlessRefused (recordFault r) (λ n. []) (getD (map inserted (byteOps r)) k [])
 
--- where it begins in the record: behind the text of the k records before it
+-- where it begins in the record: behind the text of the k operations before it
 unfoldable pub textFrom : List ℕ → ℕ → ℕ
 textFrom r k = textStart (opCountOf r) + insertBytes (entriesFrom r 0 k)

@@ -15,7 +15,7 @@ use Rattle.record.specs.Layout.{opCountOf, textStart, maxOps, insertKind
 use Rattle.record.specs.Record.{Entry, entriesFrom, ByteSeq, operations, inChars, soundEntry, insertBytes, wellInserted, inBytes, inserted}
 use Rattle.record.specs.declared.core.Front.{Front}
 
--- the records from k on, and their operations where their text begins at `at`
+-- the operations from k on: as entries, and as operations where their text begins at `at`
 abbrev pub entriesLeft : List ℕ → ℕ → List Entry
 entriesLeft r k = entriesFrom r k (opCountOf r - k)
 
@@ -26,7 +26,7 @@ unfoldable pub opsLeft : List ℕ → ℕ → ℕ → Seq
 unfolding byteOpsLeft inChars
 opsLeft r k at = map inChars (byteOpsLeft r k at)
 
--- `at` is a place at which the text of the records from k on can begin
+-- `at` is a place at which the text of the operations from k on can begin
 pub record Place (r : List ℕ) (k at : ℕ) : Type 0 where
   pub few : opCountOf r ≤ maxOps
   pub header : textStart (opCountOf r) ≤ length r
@@ -65,7 +65,7 @@ pub record Cut (r : List ℕ) (f : Front) (k mid : ℕ) : Type 0 where
   pub first : take (mid - f .from) (drop (f .from) r) ≡ inserted (inBytes (cut k (frontOp r f)))
   pub second : take (f .to - mid) (drop mid r) ≡ inserted (inBytes (rest k (frontOp r f)))
 
--- `f` is the front of the records from k on
+-- `f` is the front of the operations from k on
 pub record Loads (r : List ℕ) (k at : ℕ) (f : Front) : Type 0 where
   pub stands : Stands r f
   pub has : ahead r f ≡ opsLeft r k at

@@ -5,7 +5,7 @@ use mathlib.Core.List.{List}
 use lib.ListN.{getD}
 use Rattle.buffers.specs.Words.{wordAt}
 
--- the sizes
+-- the sizes; document 01 calls the single operations records, too: "records (here the sequence's single operations)"
 abbrev pub opCountOf : List ℕ → ℕ
 opCountOf r = wordAt r 0
 

@@ -63,7 +63,7 @@ fits s =
 
 -- ---- reading
 
--- the kind and the count of one record
+-- the kind and the count of one operation
 pub record Entry : Type 0 where
   pub kind : ℕ
   pub count : ℕ
@@ -99,7 +99,7 @@ ops r = map inChars (byteOps r)
 
 -- ---- checking
 
--- 1: a buffer shorter than 8 bytes or than the sizes require, over 1,024 records, or another size over 32,768
+-- 1: a buffer shorter than 8 bytes or than the sizes require, over 1,024 operations, or another size over 32,768
 unfoldable pub inLimits : List ℕ → Bool
 inLimits r =
     leb 8 (length r)

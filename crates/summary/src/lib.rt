@@ -31,7 +31,7 @@ pub fn summary(log: &[u8], out: &mut [u8]) -> Written
     }
 }
 
-// Of a log that can be read. A record within the limits has at most 35,848 bytes.
+// The answer of `summary` for a log that can be read.
 fn summed(log: &[u8], count: usize, start: usize, out: &mut [u8]) -> Written
     requires { ⌜ T (readable (now log)) × (count ≡ countOf (now log)) × (start ≡ startOf (now log)) × (start ≤ maxSize) ⌝ }
     ensures { λ r. ⌜ Gives (summaryCall (now (log .entry)) (now (out .entry))) r (now (out .exit)) ⌝ }

@@ -174,7 +174,7 @@ parts-le k n = go (eqb k 2) (eqb k 1) (eqb k 3) refl refl refl
     go false false true p q s = omega arith
     go false false false p q s = omega arith
 
--- the record at k, as the code finds it
+-- the operation at k, as the code finds it
 module _ (r : List ℕ) (k kind count : ℕ) (q : kind ≡ kindAt r k) (c : count ≡ countAt r k) where
   more : (f : Entry → ℕ) {x : ℕ} → x ≡ sumOf f r k → x + f (entry kind count) ≡ sumOf f r (k + 1)
   more f e = ap₂ _+_ e (ap₂ (λ x y. f (entry x y)) q c) ∙ sym (sum-more (λ j. f (entryAt r j)) k)
@@ -232,7 +232,7 @@ module _ (r : List ℕ) (k kind count : ℕ) (q : kind ≡ kindAt r k) (c : coun
   pub part-room : (p : Parts) (n all : ℕ) → k < n → all < 65536 → Whole r n all → Parted r k p → p .inserts + p .kept + p .deleted + count < 65536
   part-room p n all h l w g = omega (arith, g .less, w .counts l, sum-under (λ j. countAt r j) k n h, c)
 
--- no record, and the first one
+-- no operation, and the first one
 module _ (r : List ℕ) where
   pub tally-empty : (n : ℕ) → n ≡ 0 → Tallied r n (record { invalid = 0; inserts = 0; all = 0; kept = 0; clashes = 0 })
   tally-empty n e = rw e (tally-none r)
@@ -240,7 +240,7 @@ module _ (r : List ℕ) where
   pub tally-first : (kind count : ℕ) (u : Tally) → kind ≡ kindAt r 0 → count ≡ countAt r 0 → count < 65536 → u ≡ tallied (record { invalid = 0; inserts = 0; all = 0; kept = 0; clashes = 0 }) (entry kind count) false → Tallied r 1 u
   tally-first kind count u q c h v = tally-step r 0 kind count q c (record { invalid = 0; inserts = 0; all = 0; kept = 0; clashes = 0 }) u false (tally-none r) h v (λ z. refl)
 
--- the kind before record k, and 0 before the first
+-- the kind before operation k, and 0 before the first
 abbrev pub lastKind : List ℕ → ℕ → ℕ
 lastKind r zero = 0
 lastKind r (suc k) = kindAt r k

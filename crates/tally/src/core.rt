@@ -1,4 +1,5 @@
-// The passes of the check over the kinds and the counts of a record.
+// The passes of the check over the kinds and the counts of a record. Those over eight entries and more are branch-free, so that the
+// compiler vectorises them: the narrower their numbers, the more entries are done at once.
 use record::core::DELETE;
 use record::core::INSERT;
 use record::core::RETAIN;
@@ -277,7 +278,7 @@ fn clashes_in(rec: &[u8], from: usize, to: usize) -> u8
     clashes
 }
 
-// The same of all entries. 8 bits are enough for 224 of them: 7 times the 32 that are done at once.
+// How many neighbours of all entries may not stand so.
 fn clashes(rec: &[u8], n: usize) -> u32
     requires { ⌜ (n ≡ opCountOf (now rec)) × (n ≤ maxOps) × (textStart n ≤ length (now rec)) ⌝ }
     ensures { λ r. ⌜ (r ≡ sumFrom (clashAt (now (rec .entry))) 0 (n - 1)) × (r ≤ n) ⌝ }

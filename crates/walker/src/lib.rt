@@ -8,7 +8,7 @@ pub struct Walker<'a> {
     pub at: usize,
 }
 
-// What a step finds: a kind (1 retain, 2 insert, 3 delete) and its count, an insert's in bytes; or no record.
+// What a step finds: a kind (1 retain, 2 insert, 3 delete) and its count, an insert's in bytes; or the end.
 pub enum Found {
     Op { kind: u8, count: u16 },
     End,
@@ -52,7 +52,7 @@ fn step_at(rec: &[u8], at: usize) -> Found
 }
 
 impl<'a> Walker<'a> {
-    // A walker that stands at the first record.
+    // A walker that stands at the first operation.
     pub fn new(rec: &'a [u8]) -> Walker<'a>
         ensures { λ r. ⌜ (r .rec ≡ rec .entry) × (r .at ≡ 0) ⌝ }
     {
@@ -78,7 +78,7 @@ impl<'a> Walker<'a> {
     }
 }
 
-// What a walker finds at record `at`: with plain parameters, for callers that keep the position themselves.
+// What a walker finds at operation `at`: with plain parameters, for callers that keep the position themselves.
 pub fn step(rec: &[u8], at: usize) -> Found
     ensures { λ r. ⌜ r ≡ stepAt (now (rec .entry)) at ⌝ }
 {
