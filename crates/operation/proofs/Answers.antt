@@ -32,7 +32,7 @@ use Rattle.record.proofs.Checked.{same-refusal, passed}
 use Rattle.tally.specs.declared.core.Entries.{Entries}
 use Rattle.tally.specs.declared.core.Entries.the-variants.{Unsound, Of}
 use Rattle.tally.specs.declared.core.Sums.{Sums}
-use Rattle.tally.specs.InnerTally.{sumsOf, entriesOf}
+use Rattle.tally.specs.InnerTally.{HasEntries, sumsOf, entriesOf}
 use Rattle.tally.proofs.Tallying.{found, Found}
 use Rattle.operation.specs.declared.checks.Inserted.{Inserted}
 use Rattle.operation.specs.declared.checks.Inserted.the-variants.{IllFormed, Chars}
@@ -92,11 +92,8 @@ module _ (r : List ℕ) (a : Bool) (pa : a ≡ inLimits r) where
     has-header = bounds .header
 
     module _ (n : ℕ) (pn : n ≡ opCountOf r) where
-      pub few-entries : n ≤ 1024
-      few-entries = omega (arith, bounds)
-
-      pub has-entries : textStart n ≤ length r
-      has-entries = omega (arith, bounds)
+      pub has-entries : HasEntries r n
+      has-entries = record { count-is = omega (arith, bounds); few = omega (arith, bounds); there = omega (arith, bounds) }
 
     module _ (t : ℕ) (pt : t ≡ textBytesOf r) (e : Entries) (pe : e ≡ entriesOf r) where
       pub check-2 : e ≡ Unsound → refused 2 ≡ checkCall r

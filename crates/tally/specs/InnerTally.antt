@@ -8,7 +8,8 @@ use Rattle.buffers.specs.Lists.{allOf}
 use Rattle.edits.specs.Op.{Op, retain, insert, delete, total, base}
 use Rattle.edits.specs.Built.{chained}
 use Rattle.record.specs.Record.{Entry, soundEntry, entryAt, entries, byteOps, insertBytes}
-use Rattle.record.specs.Layout.{deleteKind, insertKind, kindAt, retainKind}
+use lib.ListN.{length}
+use Rattle.record.specs.Layout.{deleteKind, insertKind, kindAt, maxOps, opCountOf, retainKind, textStart}
 use Rattle.tally.specs.declared.core.Tally.{Tally}
 use Rattle.tally.specs.declared.core.Parts.{Parts}
 use Rattle.tally.specs.declared.core.Sums.{Sums}
@@ -17,6 +18,12 @@ use Rattle.tally.specs.declared.core.Entries.the-variants.{Unsound, Of}
 
 abbrev pub entry : ℕ → ℕ → Entry
 entry k n = record { kind = k; count = n }
+
+-- n is the record's number of operations, it keeps the limit, and the kinds and the counts of all of them are there
+pub record HasEntries (r : List ℕ) (n : ℕ) : Type 0 where
+  pub count-is : n ≡ opCountOf r
+  pub few : n ≤ maxOps
+  pub there : textStart n ≤ length r
 
 -- ---- the sums of the entries
 

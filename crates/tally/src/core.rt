@@ -9,7 +9,7 @@ ghost use lib.ListN.{length};
 ghost use mathlib.Core.Bool.{not};
 ghost use Rattle.record.specs.Record.{soundEntry};
 ghost use Rattle.record.specs.Layout.{opCountOf, textStart, maxOps};
-ghost use Rattle.tally.specs.InnerTally.{picked, entry, mayFollow, tallied, Tallied, Whole, partedBy, Parted, sumFrom, clashAt};
+ghost use Rattle.tally.specs.InnerTally.{HasEntries, picked, entry, mayFollow, tallied, Tallied, Whole, partedBy, Parted, sumFrom, clashAt};
 ghost use Rattle.tally.specs.InnerTally.{entriesOf};
 
 // What the kinds and the counts come to: the bytes inserted, whether all neighbours may stand so, the characters of
@@ -98,7 +98,7 @@ fn add_entry(t: Tally, kind: u8, count: usize, clashes: bool) -> Tally
 
 // Any entries, in one pass: in 32 bits, that are enough for all sums.
 fn tally_wide(rec: &[u8], n: usize) -> Tally
-    requires { ⌜ (n ≡ opCountOf (now rec)) × (n ≤ maxOps) × (textStart n ≤ length (now rec)) ⌝ }
+    requires { ⌜ HasEntries (now rec) n ⌝ }
     ensures { λ r. ⌜ Tallied (now (rec .entry)) n r ⌝ }
 {
     let mut t = Tally {
@@ -172,7 +172,7 @@ fn add_entry_by_kind(t: Tally, last: u8, kind: u8, count: u32) -> Tally
 // A few entries, one after another: with branches that is the fewest instructions for those of a keystroke. Kind 0 stands
 // before the first: only what can't be may not follow it.
 fn tally_short(rec: &[u8], n: usize) -> Tally
-    requires { ⌜ (n ≡ opCountOf (now rec)) × (n ≤ maxOps) × (textStart n ≤ length (now rec)) ⌝ }
+    requires { ⌜ HasEntries (now rec) n ⌝ }
     ensures { λ r. ⌜ Tallied (now (rec .entry)) n r ⌝ }
 {
     let mut t = Tally {
@@ -196,7 +196,7 @@ fn tally_short(rec: &[u8], n: usize) -> Tally
 
 // All counts, or 65,536 where the entries are so few that one pass in 32 bits was measured to be faster.
 fn all_counts(rec: &[u8], n: usize) -> u32
-    requires { ⌜ (n ≡ opCountOf (now rec)) × (n ≤ maxOps) × (textStart n ≤ length (now rec)) ⌝ }
+    requires { ⌜ HasEntries (now rec) n ⌝ }
     ensures { λ r. ⌜ Whole (now (rec .entry)) n r ⌝ }
 {
     if n < 32 {
@@ -235,7 +235,7 @@ fn add_part(p: Parts, kind: u8, count: usize) -> Parts
 
 // Where all counts together are under 65,536, 16 bits are enough for each part of them.
 fn sum_parts(rec: &[u8], n: usize, all: u32) -> Parts
-    requires { ⌜ (n ≡ opCountOf (now rec)) × (n ≤ maxOps) × (textStart n ≤ length (now rec)) × (all < 65536) × Whole (now rec) n all ⌝ }
+    requires { ⌜ HasEntries (now rec) n × (all < 65536) × Whole (now rec) n all ⌝ }
     ensures { λ r. ⌜ Parted (now (rec .entry)) n r ⌝ }
 {
     let mut p = Parts {
@@ -280,7 +280,7 @@ fn clashes_in(rec: &[u8], from: usize, to: usize) -> u8
 
 // How many neighbours of all entries may not stand so.
 fn clashes(rec: &[u8], n: usize) -> u32
-    requires { ⌜ (n ≡ opCountOf (now rec)) × (n ≤ maxOps) × (textStart n ≤ length (now rec)) ⌝ }
+    requires { ⌜ HasEntries (now rec) n ⌝ }
     ensures { λ r. ⌜ (r ≡ sumFrom (clashAt (now (rec .entry))) 0 (n - 1)) × (r ≤ n) ⌝ }
 {
     let mut clashes: u32 = 0;
@@ -294,7 +294,7 @@ fn clashes(rec: &[u8], n: usize) -> u32
 
 // What can't be has a count of 0, or one that is of no kind.
 fn tally_all(rec: &[u8], n: usize) -> Tally
-    requires { ⌜ (n ≡ opCountOf (now rec)) × (n ≤ maxOps) × (textStart n ≤ length (now rec)) ⌝ }
+    requires { ⌜ HasEntries (now rec) n ⌝ }
     ensures { λ r. ⌜ Tallied (now (rec .entry)) n r ⌝ }
 {
     if n < 8 {
@@ -318,7 +318,7 @@ fn tally_all(rec: &[u8], n: usize) -> Tally
 }
 
 pub fn sum_up(rec: &[u8], n: usize) -> Entries
-    requires { ⌜ (n ≡ opCountOf (now rec)) × (n ≤ maxOps) × (textStart n ≤ length (now rec)) ⌝ }
+    requires { ⌜ HasEntries (now rec) n ⌝ }
     ensures { λ r. ⌜ r ≡ entriesOf (now (rec .entry)) ⌝ }
 {
     let t = tally_all(rec, n);

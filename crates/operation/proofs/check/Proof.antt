@@ -1,7 +1,7 @@
 use Prim.Native.Nat.{_+_}
 use native.Mathlib.Omega.{arith}
 use borrow.Author.Needs.{needs}
-use Rattle.operation.proofs.Answers.{check-1, check-2, check-2′, check-3, check-4, check-5, check-5′, check-0, has-header, few-entries, has-entries, sounds, links, Agreed, agreed}
+use Rattle.operation.proofs.Answers.{check-1, check-2, check-2′, check-3, check-4, check-5, check-5′, check-0, has-header, has-entries, sounds, links, Agreed, agreed}
 use Rattle.operation.proofs.check.Statement.{statement}
 use Rattle.operation.proofs.check.Tie as tie
 
@@ -18,7 +18,7 @@ text-bytes-requires : tie.Need-text-bytes-requires
 text-bytes-requires c κs = search has-header
 
 sum-up-requires : tie.Need-sum-up-requires
-sum-up-requires c κs = search (few-entries, has-entries)
+sum-up-requires c κs = search has-entries
 
 enum-known-sums : tie.Need-enum-known-sums
 enum-known-sums c = search needs
