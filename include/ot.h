@@ -1,6 +1,6 @@
 /* Shared string editing: the calls of the library libc_api.a.
 
-   An edit is a record of bytes: four sizes (records, text bytes, base, target), then the kinds (1 retain, 2 insert,
+   An edit is a record of bytes: four sizes (operations, text bytes, base, target), then the kinds (1 retain, 2 insert,
    3 delete), the counts and the inserted text. Eight zero bytes are the empty edit. A log is a session's history: the
    number of revisions, the starting length, then the revisions' records end to end. A text is UTF-8 (RFC 3629).
    Lengths of texts, retains and deletes are in characters, an insert's count in bytes.
@@ -19,7 +19,7 @@
    ot_well_formed, ot_num_chars, ot_step and ot_insert_text are never refused.
 
    Stack: ot_accept uses about 12 KB, and 55 KB where the edit on its way past other revisions has more than 1,024 bytes, it or a
-   counterpart more than 128 records, or the counterparts more than 8,192 bytes; ot_summary 82 KB, ot_compose 9 KB,
+   counterpart more than 128 operations, or the counterparts more than 8,192 bytes; ot_summary 82 KB, ot_compose 9 KB,
    ot_transform 7 KB, every other call less than 4 KB. */
 #ifndef OT_H
 #define OT_H
@@ -33,15 +33,15 @@ extern "C" {
 
 /* Why a call is refused. Operands are checked in order: records, text, log, then the rest. */
 enum ot_refusal {
-    OT_BAD_SIZE = 1,       /* an edit's buffer is too short for it, or it has over 1,024 records or another size over 32,768 */
+    OT_BAD_SIZE = 1,       /* an edit's buffer is too short for it, or it has over 1,024 operations or another size over 32,768 */
     OT_BAD_ENTRY = 2,      /* an edit has an unknown kind or a count of 0, or its insert counts don't add up to its text */
     OT_BAD_UTF8 = 3,       /* a text, or one insert's bytes, isn't well-formed UTF-8 */
     OT_BAD_NEIGHBOURS = 4, /* two neighbours in an edit have the same kind, or an insert directly follows a delete */
-    OT_BAD_SUMS = 5,       /* an edit's stated base or target differs from the sum of its records */
+    OT_BAD_SUMS = 5,       /* an edit's stated base or target differs from the sum of its operations */
     OT_BAD_LOG = 6,        /* the log can't be read */
     OT_NO_REVISION = 7,    /* the revision named is greater than the log's count */
     OT_LENGTHS_DIFFER = 8, /* the edit wasn't made for this text, this revision or this other edit: the lengths differ */
-    OT_OVER_LIMIT = 9,     /* the result would pass a limit: 1,024 records, 32,768 of another size, 256 revisions */
+    OT_OVER_LIMIT = 9,     /* the result would pass a limit: 1,024 operations, 32,768 of another size, 256 revisions */
     OT_NO_ROOM = 10        /* an output, a scratch buffer or the rest of the log's buffer is too short; nothing was written */
 };
 
@@ -74,14 +74,14 @@ uint64_t ot_check(const uint8_t *rec, size_t rec_len);
 uint64_t ot_base_len(const uint8_t *rec, size_t rec_len);
 uint64_t ot_target_len(const uint8_t *rec, size_t rec_len);
 
-/* 1 where the edit changes no text (no records, or one retain), else 0. */
+/* 1 where the edit changes no text (no operations, or one retain), else 0. */
 uint64_t ot_is_noop(const uint8_t *rec, size_t rec_len);
 
-/* What stands at record `at`, counted from 0: the kind plus 256 times the count. 0 past the last record and where the edit is
+/* What stands at operation `at`, counted from 0: the kind plus 256 times the count. 0 past the last one and where the edit is
    one that ot_check refuses. */
 uint64_t ot_step(const uint8_t *rec, size_t rec_len, uint64_t at);
 
-/* The text that record k inserts: where it begins in rec, then how many bytes it has. 0 where there is none. */
+/* The text that operation k inserts: where it begins in rec, then how many bytes it has. 0 where there is none. */
 uint64_t ot_insert_text(const uint8_t *rec, size_t rec_len, uint64_t k);
 
 /* ---- building an edit: rec with one more operation goes to out; how many bytes out then has */

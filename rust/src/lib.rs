@@ -158,7 +158,7 @@ pub enum Kind {
     Delete,
 }
 
-/// What stands at record `at`: its kind, and its count (an insert's in bytes). None past the last, or where the record is refused.
+/// What stands at operation `at`: its kind, and its count (an insert's in bytes). None past the last, or where the record is refused.
 pub fn step(rec: &[u8], at: usize) -> Option<(Kind, usize)> {
     let found = unsafe { sys::ot_step(rec.as_ptr(), rec.len(), at as u64) };
     let kind = match found & 0xFF {
@@ -170,7 +170,7 @@ pub fn step(rec: &[u8], at: usize) -> Option<(Kind, usize)> {
     Some((kind, (found >> 8) as usize))
 }
 
-/// The text of record `k`, where it is an insert.
+/// The text of operation `k`, where it is an insert.
 pub fn insert_text(rec: &[u8], k: usize) -> &[u8] {
     let found = unsafe { sys::ot_insert_text(rec.as_ptr(), rec.len(), k as u64) };
     let (from, len) = ((found & 0xFFFF_FFFF) as usize, (found >> 32) as usize);

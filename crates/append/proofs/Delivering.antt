@@ -12,7 +12,7 @@ use Rattle.answers.specs.declared.Refusal.the-variants.{Room}
 use Rattle.answers.specs.declared.WrittenPair.the-variants as written
 use Rattle.answers.specs.declared.WrittenPair.{WrittenPair}
 use Rattle.answers.proofs.Outputs.{atFront-take}
-use Rattle.record.specs.Layout.{sizeOf}
+use Rattle.record.specs.Layout.{sizeOf, maxOps, maxRecord}
 use Rattle.record.specs.Record.{recordFault, ops}
 use Rattle.reader.proofs.Fronts.{fault-size, fault-small}
 use Rattle.log.specs.declared.core.Scan.{Scan}
@@ -27,7 +27,7 @@ use Rattle.append.specs.declared.core.Tried.the-variants as tried
 use Rattle.append.proofs.Places.{edits-from}
 use Rattle.append.proofs.Answering.{accepts-limit}
 
-pub record-small : (r : List ℕ) → recordFault r ≡ 0 → sizeOf r ≤ 35848
+pub record-small : (r : List ℕ) → recordFault r ≡ 0 → sizeOf r ≤ maxRecord
 record-small r z = omega (arith, fault-size r refl refl refl, fault-small r refl refl refl z)
 
 module _ (edit : List ℕ) (r : ℕ) (log : List ℕ) (s : Scan) (a : Admitted edit r log s) (n : ℕ) (e : n ≡ countOf log - r) where
@@ -52,7 +52,7 @@ module _ (edit : List ℕ) (r : ℕ) (log : List ℕ) (s : Scan) (a : Admitted e
         subst (λ z. Accepts edit r log out (written.Refused z) log out) (sym l) (accepts-limit edit r log out s a k)
 
     -- long buffers are never too short
-    module _ (few : 1024 ≡ slots) (wide : 35848 ≤ room) where
+    module _ (few : maxOps ≡ slots) (wide : maxRecord ≤ room) where
       pub past-never : x ≡ outcome.Short → (out : List ℕ) → Accepts edit r log out (written.Refused Room) log out
       past-never p out = absurd (runs-as outcome.Short p .runs (omega (arith, few)) wide)
 

@@ -6,7 +6,7 @@ use lib.ListN.{drop, length}
 use native.Mathlib.Nat.{sub-zero}
 use mathlib.Core.Path.{sym, subst, subst₂, _≡_, ap, ap₂, _∙_}
 use lib.Seq.{drop-drop}
-use Rattle.record.specs.Layout.{sizeOf, targetOf}
+use Rattle.record.specs.Layout.{sizeOf, targetOf, maxRecord}
 use Rattle.record.proofs.Faults.{limits, faultless}
 use Rattle.log.specs.Log.{sizesIn, lengthIn, editsIn, countOf, startOf, recordsStart, placeOf, sizeOfLog, lengthAt, revisions}
 use Rattle.log.specs.declared.core.Scan.{Scan}
@@ -17,7 +17,7 @@ use Rattle.rebase.proofs.Moving.{lie-first, lie-rest}
 
 -- ---- records that stand end to end
 
-small : (n len : ℕ) (m : List ℕ) → RecordsFollow n len m → sizesIn n m ≤ 35848 * n
+small : (n len : ℕ) (m : List ℕ) → RecordsFollow n len m → sizesIn n m ≤ maxRecord * n
 small zero len m h = omega arith
 small (suc n) len m h =
     let f = limits m .0 (faultless m .0 (lie-first (suc n) len m (λ z. absurd (omega (arith, z))) h .0) .in-limits) in

@@ -1,4 +1,4 @@
--- What the functions of `accept` promise each other. No entry's contract cites this.
+-- What the functions of `append`, `late_edits` and `accept` promise each other. No entry's contract cites this.
 use Prim.Native.Nat.{ℕ, _≤_, _<_, _+_}
 use mathlib.Core.Path.{_≡_}
 use mathlib.Core.List.{List}

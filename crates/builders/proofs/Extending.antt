@@ -25,7 +25,7 @@ use Rattle.answers.specs.declared.Fact.the-variants as fact
 use Rattle.answers.specs.Answer.{factOf}
 use Rattle.answers.specs.declared.Refusal.the-variants.{Limit}
 use Rattle.record.specs.Record.{text, ops, recordFault, fits, inBytes, inserted}
-use Rattle.record.specs.Layout.{opCountOf, textBytesOf, textStart}
+use Rattle.record.specs.Layout.{opCountOf, textBytesOf, textStart, maxSize}
 use Rattle.record.specs.Calls.{checkCall}
 use Rattle.record.proofs.Faults.{limits, faultless}
 use Rattle.record.proofs.Sequences.{fits-limits}
@@ -121,11 +121,11 @@ module _ (r : List ℕ) (s : Seq) (o : List ℕ) where
 -- ---- 9, where the operation alone passes a limit
 
 -- the result takes and inserts at least as much as the operation
-extend-takes : (s : Seq) (p : Op Char) → fits (extend s p) ≡ true → takes p ≤ 32768
+extend-takes : (s : Seq) (p : Op Char) → fits (extend s p) ≡ true → takes p ≤ maxSize
 unfolding extend
 extend-takes s p h = omega (arith, fits-limits (reverse (add (reverse s) p)) .0 (known h) .bases, add-base (reverse s) p)
 
-extend-inserts : (s : Seq) (p : Op Char) → fits (extend s p) ≡ true → length (inserted (inBytes p)) ≤ 32768
+extend-inserts : (s : Seq) (p : Op Char) → fits (extend s p) ≡ true → length (inserted (inBytes p)) ≤ maxSize
 unfolding extend
 extend-inserts s p h =
     let w = reverse s in
@@ -140,12 +140,12 @@ module _ (r o : List ℕ) where
       go true q = absurd (f q)
       go false q = refl
 
-  pub retain-limit : (k : ℕ) → 32768 < k → Gives (deliver 0 (extend (ops r) (retain k)) o) (written.Refused Limit) o
+  pub retain-limit : (k : ℕ) → maxSize < k → Gives (deliver 0 (extend (ops r) (retain k)) o) (written.Refused Limit) o
   retain-limit k h = limit-passed (retain k) (λ q. omega (arith, extend-takes (ops r) (retain k) q))
 
-  pub delete-limit : (k : ℕ) → 32768 < k → Gives (deliver 0 (extend (ops r) (delete k)) o) (written.Refused Limit) o
+  pub delete-limit : (k : ℕ) → maxSize < k → Gives (deliver 0 (extend (ops r) (delete k)) o) (written.Refused Limit) o
   delete-limit k h = limit-passed (delete k) (λ q. omega (arith, extend-takes (ops r) (delete k) q))
 
-  pub insert-limit : (t : List ℕ) → T (wellFormed t) → 32768 < length t → Gives (deliver 0 (extend (ops r) (insert (chars t))) o) (written.Refused Limit) o
+  pub insert-limit : (t : List ℕ) → T (wellFormed t) → maxSize < length t → Gives (deliver 0 (extend (ops r) (insert (chars t))) o) (written.Refused Limit) o
   unfolding inBytes
   insert-limit t w h = limit-passed (insert (chars t)) (λ q. omega (arith, extend-inserts (ops r) (insert (chars t)) q, ap length (bytes-chars t w)))

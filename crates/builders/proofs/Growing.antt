@@ -19,7 +19,7 @@ use Rattle.edits.specs.Sequence.{Seq}
 use Rattle.edits.specs.Build.{put, add, extend}
 use Rattle.edits.proofs.Building.{Back}
 use Rattle.record.specs.Record.{inBytes, code, recordFault, inserted, text, textOf, ops}
-use Rattle.record.specs.Layout.{kindAt, countAt, opCountOf, textBytesOf, baseOf, targetOf, kindsStart, countsStart, textStart}
+use Rattle.record.specs.Layout.{kindAt, countAt, opCountOf, textBytesOf, baseOf, targetOf, kindsStart, countsStart, textStart, maxSize}
 use Rattle.record.proofs.Sequences.{inBytes-size}
 use Rattle.record.proofs.Records.{Bytes, ops-base, ops-target}
 use Rattle.record.proofs.Faults.{limits, faultless}
@@ -216,7 +216,7 @@ module _ (r : List ℕ) (b : Bytes r) (z : recordFault r ≡ 0) where
       }
 
   module _ (k : ℕ) (kp : k ≡ opCountOf r) where
-    pub retains-more : (c ret j t g h : ℕ) → c ≤ 32768 → ret ≡ lastCount r k 1 → ret < 65536 → j + one ret ≡ k → t ≡ textBytesOf r → g ≡ baseOf r → h ≡ targetOf r
+    pub retains-more : (c ret j t g h : ℕ) → c ≤ maxSize → ret ≡ lastCount r k 1 → ret < 65536 → j + one ret ≡ k → t ≡ textBytesOf r → g ≡ baseOf r → h ≡ targetOf r
         → Grown r (retain c) [] (record { ins = 0; del = 0; ret = ret + c; ops = j; text = t; base = g + c; target = h + c })
     unfolding inBytes bytes
     retains-more c ret j t g h cl rp rl jp tp gp hp =
@@ -229,7 +229,7 @@ module _ (r : List ℕ) (b : Bytes r) (z : recordFault r ≡ 0) where
         (omega arith) (omega arith) (omega arith) (omega (arith, l)) (omega (arith, l)) (omega (arith, l))
         (omega arith) (omega arith) (omega arith)
 
-    pub deletes-more : (c del j t g h : ℕ) → c ≤ 32768 → del ≡ lastCount r k 3 → del < 65536 → j + one del ≡ k → t ≡ textBytesOf r → g ≡ baseOf r → h ≡ targetOf r
+    pub deletes-more : (c del j t g h : ℕ) → c ≤ maxSize → del ≡ lastCount r k 3 → del < 65536 → j + one del ≡ k → t ≡ textBytesOf r → g ≡ baseOf r → h ≡ targetOf r
         → Grown r (delete c) [] (record { ins = 0; del = del + c; ret = 0; ops = j; text = t; base = g + c; target = h })
     unfolding inBytes bytes
     deletes-more c del j t g h cl dp dl jp tp gp hp =
@@ -242,7 +242,7 @@ module _ (r : List ℕ) (b : Bytes r) (z : recordFault r ≡ 0) where
         (omega arith) (omega arith) (omega arith) (omega (arith, l)) (omega (arith, l)) (omega (arith, l))
         (omega arith) (omega arith) (omega arith)
 
-    pub inserts-more : (u : List ℕ) (num del x ins j t g h : ℕ) → T (wellFormed u) → num ≡ numChars u → length u ≤ 32768
+    pub inserts-more : (u : List ℕ) (num del x ins j t g h : ℕ) → T (wellFormed u) → num ≡ numChars u → length u ≤ maxSize
         → del ≡ lastCount r k 3 → del < 65536 → x + one del ≡ k → ins ≡ lastCount r x 2 → ins < 65536 → j + one ins ≡ x
         → t ≡ textBytesOf r → g ≡ baseOf r → h ≡ targetOf r
         → Grown r (insert (chars u)) u (record { ins = ins + length u; del = del; ret = 0; ops = j; text = t + length u; base = g; target = h + num })

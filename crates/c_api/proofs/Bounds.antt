@@ -15,12 +15,12 @@ use Rattle.answers.specs.Answer.{unlessRefused, success, refused, needs, orElse
 use Rattle.answers.specs.Output.{Outs, writingBoth}
 use Rattle.answers.specs.declared.WrittenPair.{WrittenPair}
 use Rattle.answers.proofs.Refusals.{first-zero, needs-out}
-use Rattle.record.specs.Layout.{baseOf, sizeOf}
+use Rattle.record.specs.Layout.{baseOf, sizeOf, maxRecord}
 use Rattle.record.specs.Record.{encode, fits, ops, recordFault}
 use Rattle.record.proofs.Records.{encode-small, ops-good}
 use Rattle.record.proofs.Sequences.{Good}
 use Rattle.operational_transform.specs.Calls.{recordsFault, transformCall}
-use Rattle.log.specs.Log.{encodeAll, editsIn, countOf, readable, lengthAt, revisions}
+use Rattle.log.specs.Log.{encodeAll, editsIn, countOf, readable, lengthAt, revisions, maxRevisions}
 use Rattle.log.proofs.Rows.{Each}
 use Rattle.session.specs.Rows.{rebase}
 use Rattle.session.specs.Session.{movedIn, acceptFault, append, acceptCall}
@@ -60,7 +60,7 @@ transform-small a b x y =
 
 -- ---- accept: a record, and at most 255 counterparts
 
-all-small : (es : List Seq) → Each Good es → length (encodeAll es) ≤ 35848 * length es
+all-small : (es : List Seq) → Each Good es → length (encodeAll es) ≤ maxRecord * length es
 unfolding encodeAll
 all-small [] h = omega arith
 all-small (e ∷ es) h = omega (arith, length-append (encode e) (encodeAll es), encode-small e (h .0 .in-limits), all-small es (h .1))
@@ -83,8 +83,8 @@ accept-small edit r log out =
     let (b, z₂) = needs-out (readable log) 5 _ z₁ in
     let (c, z₃) = needs-out (leb r (countOf log)) 6 _ z₂ in
     let (d, z₄) = needs-out (eqb (baseOf edit) (lengthAt r log)) 7 _ z₃ in
-    let (e, z₅) = needs-out (ltb (countOf log) 256 && m .kept) 8 _ z₄ in
-    let (f, k) = both (ltb (countOf log) 256) (m .kept) .0 e in
+    let (e, z₅) = needs-out (ltb (countOf log) maxRevisions && m .kept) 8 _ z₄ in
+    let (f, k) = both (ltb (countOf log) maxRevisions) (m .kept) .0 e in
     let g = rebase-good (ops edit) vs (ops-good edit a) k in
     two (length (encode (m .edit))) (length (encodeAll (m .counterparts))) (omega (arith, encode-small (m .edit) (g .0 .in-limits)))
     (omega

@@ -23,7 +23,7 @@ use Rattle.answers.specs.declared.Refusal.the-variants.{Size, Entry, Utf8, Neig
 use Rattle.answers.specs.Answer.{number, Answer, success, refused, unlessRefused, needs, orElse}
 use Rattle.answers.specs.Output.{Out, writing}
 use Rattle.answers.proofs.Refusals.{needs-out, first-zero}
-use Rattle.record.specs.Layout.{baseOf, targetOf, sizeOf}
+use Rattle.record.specs.Layout.{baseOf, targetOf, sizeOf, maxSize}
 use Rattle.record.specs.Record.{ops, recordFault, encode, fits}
 use Rattle.record.specs.Calls.{checkCall, baseCall, targetCall, noEffect, noopCall}
 use Rattle.record.proofs.Faults.{InLimits, limits, faultless}
@@ -161,7 +161,7 @@ module _ (o : List ℕ) (h : length o < 2 ^ 63) where
 
   pub open-read : (n : ℕ) → let a = openCall n o .answer in readOne (packed a) ≡ a
   unfolding openCall
-  open-read n = written (needs (leb n 32768) 9 0) (words (0 ∷ n ∷ [])) o h
+  open-read n = written (needs (leb n maxSize) 9 0) (words (0 ∷ n ∷ [])) o h
 
   pub summary-read : (log : List ℕ) → let a = summaryCall log o .answer in readOne (packed a) ≡ a
   unfolding summaryCall

@@ -1,5 +1,5 @@
--- The main promises, on sequences of characters. `Results` has what the calls leave in their outputs, and `Symmetry` that no
--- call of transform favours a side.
+-- The main promises, on sequences of characters. What the calls leave in their outputs is in operational_transform's `Results`, and that no
+-- call of transform favours a side in its `Exchange`.
 use mathlib.Core.List.{List, [], _∷_, _++_}
 use mathlib.Core.Path.{_≡_, ap, sym, _∙_}
 use lib.ListN.{length}

@@ -24,7 +24,7 @@ use Rattle.answers.specs.Answer.{number, success, refused, writtenOf}
 use Rattle.answers.specs.Output.{writing}
 use Rattle.answers.specs.declared.Written.{Written}
 use Rattle.record.specs.Record.{inBytes, code, inserted, text, encode, fits}
-use Rattle.record.specs.Layout.{kindsStart, countsStart, textStart}
+use Rattle.record.specs.Layout.{kindsStart, countsStart, textStart, maxOps, maxSize}
 use Rattle.record.proofs.Sequences.{Limits, fits-limits}
 use Rattle.record.proofs.Records.{encode-length}
 use Rattle.operational_transform.specs.Calls.{deliver}
@@ -98,39 +98,39 @@ builds n out xs z a f = f .done out (addAll [] xs) (a .keeps out [] (rw z (rep-s
 
 -- an emitter whose numbers keep the limits
 pub record Inside (e : Emitter) : Type 0 where
-  pub ops : e .ops ≤ 1024
-  pub text : e .text ≤ 32768
-  pub base : e .base ≤ 32768
-  pub target : e .target ≤ 32768
+  pub ops : e .ops ≤ maxOps
+  pub text : e .text ≤ maxSize
+  pub base : e .base ≤ maxSize
+  pub target : e .target ≤ maxSize
 
 module _ (e : Emitter) where
   pub within-inside : T (withinLimits e) → Inside e
   within-inside h =
-      let (a, h₁) = le-and (e .ops) 1024 _ .0 h in
-      let (b, h₂) = le-and (e .text) 32768 _ .0 h₁ in
-      let (c, d) = le-and (e .base) 32768 _ .0 h₂ in
-      record { ops = a; text = b; base = c; target = leb→le (e .target) 32768 d }
+      let (a, h₁) = le-and (e .ops) maxOps _ .0 h in
+      let (b, h₂) = le-and (e .text) maxSize _ .0 h₁ in
+      let (c, d) = le-and (e .base) maxSize _ .0 h₂ in
+      record { ops = a; text = b; base = c; target = leb→le (e .target) maxSize d }
 
-  pub limits-no : (1024 < e .ops) ⊎ ((32768 < e .text) ⊎ (32768 < e .base)) → false ≡ withinLimits e
+  pub limits-no : (maxOps < e .ops) ⊎ ((maxSize < e .text) ⊎ (maxSize < e .base)) → false ≡ withinLimits e
   limits-no f = go (withinLimits e) refl f
     where
-      go : (t : Bool) → withinLimits e ≡ t → (1024 < e .ops) ⊎ ((32768 < e .text) ⊎ (32768 < e .base)) → false ≡ t
+      go : (t : Bool) → withinLimits e ≡ t → (maxOps < e .ops) ⊎ ((maxSize < e .text) ⊎ (maxSize < e .base)) → false ≡ t
       go true p (inl h) = absurd (omega (arith, within-inside (known p)))
       go true p (inr (inl h)) = absurd (omega (arith, within-inside (known p)))
       go true p (inr (inr h)) = absurd (omega (arith, within-inside (known p)))
       go false p h = refl
 
-  pub limits-records : 1024 < e .ops → false ≡ withinLimits e
+  pub limits-records : maxOps < e .ops → false ≡ withinLimits e
   limits-records h = limits-no (inl h)
 
-  pub limits-text : 32768 < e .text → false ≡ withinLimits e
+  pub limits-text : maxSize < e .text → false ≡ withinLimits e
   limits-text h = limits-no (inr (inl h))
 
-  pub limits-base : 32768 < e .base → false ≡ withinLimits e
+  pub limits-base : maxSize < e .base → false ≡ withinLimits e
   limits-base h = limits-no (inr (inr h))
 
-  pub limits-last : e .ops ≤ 1024 → e .text ≤ 32768 → e .base ≤ 32768 → leb (e .target) 32768 ≡ withinLimits e
-  limits-last a b c = rw (le-leb (e .ops) 1024 a, le-leb (e .text) 32768 b, le-leb (e .base) 32768 c)
+  pub limits-last : e .ops ≤ maxOps → e .text ≤ maxSize → e .base ≤ maxSize → leb (e .target) maxSize ≡ withinLimits e
+  limits-last a b c = rw (le-leb (e .ops) maxOps a, le-leb (e .text) maxSize b, le-leb (e .base) maxSize c)
 
   module _ (room : ℕ) (v : Bool) (p : v ≡ withinLimits e) where
     pub judge-limit : not v ≡ true → Refused Limit ≡ limitsThenRoom e room
@@ -158,7 +158,7 @@ count-is (retain n) = omega arith
 count-is (insert x) = omega arith
 count-is (delete n) = omega arith
 
-counts-words : (s : Seq) → base s ≤ 32768 → length (text (map inBytes s)) ≤ 32768 → counts s ≡ words (map size (map inBytes s))
+counts-words : (s : Seq) → base s ≤ maxSize → length (text (map inBytes s)) ≤ maxSize → counts s ≡ words (map size (map inBytes s))
 counts-words [] b t = refl
 counts-words (o ∷ s) b t =
     let l = length-append (inserted (inBytes o)) (text (map inBytes s)) in

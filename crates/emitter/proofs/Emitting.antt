@@ -149,7 +149,7 @@ module _ (room n ops ret : ℕ) where
 pub flushed-few : (e : Emitter) → flushedOps e ≤ e .ops + 3
 flushed-few e = omega (arith, one-few (e .ins), one-few (e .del), one-few (e .ret))
 
--- ---- `some`, `opened`, `flush_if_closed`
+-- ---- `one_if_any`, `reopened`, `flush_if_closed`
 
 pub some-is : (c : ℕ) → (c ≡ 0 → ⊥) → 1 ≡ one c
 some-is c z = sym (one-some c (omega arith))

@@ -12,7 +12,7 @@ use Rattle.edits.specs.Sequence.{Seq}
 use Rattle.edits.specs.Op.{Op, retain, insert, delete, size, base, takes}
 use Rattle.edits.proofs.Building.{Back, built-back}
 use Rattle.record.specs.Record.{inBytes, code, inserted, ops, text, textOf, recordFault, encode}
-use Rattle.record.specs.Layout.{opCountOf, textBytesOf, kindsStart, countsStart, sizeOf, kindAt, countAt}
+use Rattle.record.specs.Layout.{opCountOf, textBytesOf, kindsStart, countsStart, sizeOf, kindAt, countAt, maxSize}
 use Rattle.record.proofs.Sequences.{fits-limits}
 use Rattle.record.proofs.Records.{text-length, inBytes-text, inBytes-ops, ops-length, ops-good, Bytes, drop-kinds, drop-counts, encode-ops}
 use Rattle.emitter.specs.InnerEmit.{kindsOf, textsOf, countsOf}
@@ -32,7 +32,7 @@ kinds-before [] u = refl
 kinds-before (o ∷ w) u = kinds-before w (o ∷ u) ∙ sym (append-assoc (kindsOf w) (code (inBytes o) ∷ []) (map code (map inBytes u)))
 
 -- no count is over a limit
-count-few : (o : Op Char) (w : Seq) → base (o ∷ w) ≤ 32768 → length (textsOf (o ∷ w)) ≤ 32768 → size (inBytes o) < 65536
+count-few : (o : Op Char) (w : Seq) → base (o ∷ w) ≤ maxSize → length (textsOf (o ∷ w)) ≤ maxSize → size (inBytes o) < 65536
 unfolding inBytes textsOf
 count-few (retain n) w b t = omega arith
 count-few (insert x) w b t = omega (arith, length-append (textsOf w) (inserted (inBytes (insert x))))
@@ -42,7 +42,7 @@ fewer-text : (o : Op Char) (w : Seq) → length (textsOf w) ≤ length (textsOf 
 unfolding textsOf
 fewer-text o w = omega (arith, length-append (textsOf w) (inserted (inBytes o)))
 
-counts-before : (w u : Seq) → base w ≤ 32768 → length (textsOf w) ≤ 32768
+counts-before : (w u : Seq) → base w ≤ maxSize → length (textsOf w) ≤ maxSize
     → words (map size (map inBytes (reverseAux w u))) ≡ countsOf w ++ words (map size (map inBytes u))
 unfolding countsOf
 counts-before [] u b t = refl
@@ -62,8 +62,8 @@ pub record At (r : List ℕ) (k : ℕ) (w : Seq) : Type 0 where
   pub is : ops r ≡ reverseAux w behind
   pub long : length w ≡ k
   pub links : Back w
-  pub bases : base w ≤ 32768
-  pub texts : length (textsOf w) ≤ 32768
+  pub bases : base w ≤ maxSize
+  pub texts : length (textsOf w) ≤ maxSize
 
 pub at-before : (r : List ℕ) (k : ℕ) (o : Op Char) (w : Seq) → At r (suc k) (o ∷ w) → At r k w
 at-before r k o w a = record {

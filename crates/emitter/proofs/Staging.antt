@@ -65,7 +65,7 @@ module _ (slots : ℕ) (w : Seq) (t o : List ℕ) (few : length w ≤ slots) (ro
 text-of : (s : Seq) → text (map inBytes s) ≡ textsOf (reverse s)
 text-of s = ap (λ u. text (map inBytes u)) (sym (reverse-reverse s)) ∙ text-ahead (reverse s)
 
--- `settle_records` with the text in its place gives what a run of as many places as there are operations writes
+-- `relocate_ops` with the text in its place gives what a run of as many places as there are operations writes
 pub marked-writes : (slots : ℕ) (s : Seq) (e : Emitter) (stage t out out′ : List ℕ) → Marked slots s stage → Sizes s e → Under (2 ^ 40) e → e .ops ≤ slots → textStart slots ≤ length stage → t ≡ text (map inBytes s)
     → out′ ≡ headed e (relocatedOps slots (e .ops) (e .ops) stage (over (textStart (e .ops)) t out)) → Writes (e .ops) s out out′
 unfolding laid
@@ -111,7 +111,7 @@ staged-writes slots s e stage out out′ g few room p =
 pub stages : {slots : ℕ} {s : Seq} {o stage : List ℕ} {e : Emitter} → Done slots s o e stage → length stage ≡ length o → Staged slots s e stage
 stages {slots} {s} {o} d l = record { before = o; done = d; as-long = l }
 
--- where `has_place` says so
+-- where `fits_stage` says so
 module _ (slots : ℕ) (e : Emitter) (stage : List ℕ) (v : Bool) (p : v ≡ (leb (e .ops) slots && leb (textStart slots + e .text) (length stage))) (h : not v ≡ false) where
   has : T (leb (e .ops) slots && leb (textStart slots + e .text) (length stage))
   has = known (sym p ∙ not-false v h)
@@ -125,7 +125,7 @@ module _ (slots : ℕ) (e : Emitter) (stage : List ℕ) (v : Bool) (p : v ≡ (l
   pub settled-writes : (s : Seq) (out out₁ out₂ : List ℕ) → Staged slots s e stage → out₁ ≡ relocated slots (e .ops) (e .ops) (e .text) stage out → out₂ ≡ headed e out₁ → Writes (e .ops) s out out₂
   settled-writes s out out₁ out₂ g a b = staged-writes slots s e stage out out₂ g has-records has-text (b ∙ ap (headed e) a)
 
--- ---- `has_place`, `relocate`
+-- ---- `fits_stage`, `relocate`
 
 module _ (e : Emitter) (slots room : ℕ) where
   pub place-few : slots < e .ops → false ≡ (leb (e .ops) slots && leb (textStart slots + e .text) room)

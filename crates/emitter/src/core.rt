@@ -410,7 +410,7 @@ pub fn relocate_ops(out: &mut [u8], n: usize, stage: &[u8], slots: usize, k: usi
     buffers::core::copy_short(out, kinds, stage, kinds, kinds + k);
 }
 
-// `relocate_ops`, and the text. (It is written out so that its callers call one function only.)
+// `relocate_ops`, and the text. (The moves are written out: a call below this one would wait for its arguments, a store-forwarding stall.)
 pub fn relocate(out: &mut [u8], n: usize, stage: &[u8], slots: usize, k: usize, text: usize)
     requires { ⌜ (n ≤ 2 ^ 40) × (slots ≤ 2 ^ 40) × (k ≤ slots) × (textStart slots + text ≤ length (now stage)) ⌝ }
     ensures { λ _. ⌜ now (out .exit) ≡ relocated slots n k text (now (stage .entry)) (now (out .entry)) ⌝ }

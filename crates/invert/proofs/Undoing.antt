@@ -17,7 +17,7 @@ use Rattle.edits.specs.Op.{retain}
 use Rattle.record.specs.declared.core.Front.{Front}
 use Rattle.record.specs.Record.{ops, recordFault}
 use Rattle.record.specs.InnerFront.{ahead, Stands, frontOp, Place, Loads}
-use Rattle.record.specs.Layout.{opCountOf}
+use Rattle.record.specs.Layout.{opCountOf, maxOps}
 use Rattle.record.proofs.Records.{ops-length}
 use Rattle.reader.proofs.Fronts.{fault-few, some-ahead, ended-ahead, op-retain, begins-none}
 use Rattle.emitter.specs.declared.core.Emitter.{Emitter}
@@ -42,7 +42,7 @@ pub record Going (n : ℕ) (r t out : List ℕ) (f : Front) (at : ℕ) (e : Emit
   pub place : at ≤ length t
   pub well : T (wellFormed (drop at t))
   pub done : Seq
-  pub few : length done + length (ahead r f) ≤ 1024
+  pub few : length done + length (ahead r f) ≤ maxOps
   pub adds : Adds n done nothing out e o
   pub all : done ++ undoAll (ahead r f) (chars (drop at t)) ≡ undoAll (ops r) (chars t)
 

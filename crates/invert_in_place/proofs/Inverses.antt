@@ -24,7 +24,7 @@ use Rattle.edits.proofs.Kept.{typed-lasts}
 use Rattle.answers.specs.declared.Written.the-variants.{Bytes}
 use Rattle.answers.specs.InnerGiven.{Gives}
 use Rattle.record.specs.Record.{inBytes, text, ops, recordFault}
-use Rattle.record.specs.Layout.{opCountOf, baseOf, textStart}
+use Rattle.record.specs.Layout.{opCountOf, baseOf, textStart, maxSize}
 use Rattle.record.proofs.Sequences.{Limits, fits-limits}
 use Rattle.record.proofs.Records.{ops-length, ops-base, ops-good}
 use Rattle.operational_transform.specs.Calls.{deliver}
@@ -87,7 +87,7 @@ module _ (r t : List ℕ) (z : recordFault r ≡ 0) (w : T (wellFormed t)) (n : 
   pub inverse-text : length (text (map inBytes inverse)) ≤ length t
   inverse-text = omega (arith, invert-text (ops r) (chars t), ap length (bytes-chars t w))
 
-  inverse-limits : length t ≤ 32768 → length inverse ≡ opCountOf r → Limits inverse
+  inverse-limits : length t ≤ maxSize → length inverse ≡ opCountOf r → Limits inverse
   inverse-limits l m =
       let g = fits-limits (ops r) .0 (ops-good r z .in-limits) in
       record {
@@ -98,7 +98,7 @@ module _ (r t : List ℕ) (z : recordFault r ≡ 0) (w : T (wellFormed t)) (n : 
       }
 
   -- so, where it has as many operations as the record, nothing is refused, and a run with places for so many leaves what is to be delivered
-  module _ (l : length t ≤ 32768) (count : ℕ) (p : count ≡ opCountOf r) (m : length inverse ≡ count) (o : List ℕ) (room : textStart count + length t ≤ length o) where
+  module _ (l : length t ≤ maxSize) (count : ℕ) (p : count ≡ opCountOf r) (m : length inverse ≡ count) (o : List ℕ) (room : textStart count + length t ≤ length o) where
     pub straight-gives : (o′ : List ℕ) (k : ℕ) → k ≡ textStart count + length (text (map inBytes inverse)) → Writes count inverse o o′ → Gives (deliver 0 inverse o) (Bytes k) o′
     straight-gives o′ k q u =
         let e = u .emitter in
@@ -108,11 +108,11 @@ module _ (r t : List ℕ) (z : recordFault r ≡ 0) (w : T (wellFormed t)) (n : 
         let j : k ≡ textStart (e .ops) + e .text = omega (arith, d .sizes .text-bytes) in
         gives-written inverse o e o (u .before) d (Bytes k) (judge-bytes e (length o) true f k refl j (omega (arith, inverse-text))) k o′ refl (rw n u)
 
--- ---- `evident`
+-- ---- `surely_fits`
 
 module _ (t : List ℕ) (n b count room : ℕ) where
   abbrev evidently : Bool
-  evidently = eqb n b && (leb (length t) 32768 && leb (textStart count + length t) room)
+  evidently = eqb n b && (leb (length t) maxSize && leb (textStart count + length t) room)
 
   -- where the record's base was found to be m
   module _ (m : ℕ) (q : m ≡ b) where
@@ -120,21 +120,21 @@ module _ (t : List ℕ) (n b count room : ℕ) where
     evident-other h = rw (ne-eqb n b (λ e. h (e ∙ sym q)))
 
     module _ (e : n ≡ m) where
-      pub evident-long : 32768 < length t → false ≡ evidently
-      evident-long h = rw (eq-eqb n b (e ∙ q), lt-leb (length t) 32768 h)
+      pub evident-long : maxSize < length t → false ≡ evidently
+      evident-long h = rw (eq-eqb n b (e ∙ q), lt-leb (length t) maxSize h)
 
-      pub evident-room : (x : ℕ) → length t ≤ 32768 → x ≡ textStart count → leb (x + length t) room ≡ evidently
-      evident-room x h p = rw (eq-eqb n b (e ∙ q), le-leb (length t) 32768 h, p)
+      pub evident-room : (x : ℕ) → length t ≤ maxSize → x ≡ textStart count → leb (x + length t) room ≡ evidently
+      evident-room x h p = rw (eq-eqb n b (e ∙ q), le-leb (length t) maxSize h, p)
 
   module _ (v : Bool) (p : v ≡ evidently) (y : v ≡ true) where
-    told : (n ≡ b) × T (leb (length t) 32768 && leb (textStart count + length t) room)
+    told : (n ≡ b) × T (leb (length t) maxSize && leb (textStart count + length t) room)
     told = eq-and n b _ .0 (known (sym p ∙ y))
 
     pub evident-base : n ≡ b
     evident-base = told .0
 
-    pub evident-few : length t ≤ 32768
-    evident-few = le-and (length t) 32768 _ .0 (told .1) .0
+    pub evident-few : length t ≤ maxSize
+    evident-few = le-and (length t) maxSize _ .0 (told .1) .0
 
     pub evident-fits : textStart count + length t ≤ room
-    evident-fits = leb→le (textStart count + length t) room (le-and (length t) 32768 _ .0 (told .1) .1)
+    evident-fits = leb→le (textStart count + length t) room (le-and (length t) maxSize _ .0 (told .1) .1)

@@ -26,7 +26,7 @@ use Rattle.edits.proofs.Meaning.{ifZero-elim}
 use Rattle.edits.proofs.Links.{Links, built-links, links-built}
 use Rattle.answers.specs.declared.Written.the-variants.{Bytes}
 use Rattle.answers.specs.InnerGiven.{Gives}
-use Rattle.record.specs.Layout.{kindAt, textStart, kindsStart, countsStart, opCountOf, countAt, baseOf, targetOf}
+use Rattle.record.specs.Layout.{kindAt, textStart, kindsStart, countsStart, opCountOf, countAt, baseOf, targetOf, maxOps, maxSize}
 use Rattle.record.specs.Record.{inBytes, code, inserted, inChars, recordFault, text, ops}
 use Rattle.record.specs.InnerFront.{opsLeft, Place}
 use Rattle.record.proofs.Walks.{left-retain, left-insert, sound-next}
@@ -392,10 +392,10 @@ module _ (n : ℕ) (r t : List ℕ) (s : Inversion) (g : Reached n r t s) (e : n
             keeps = λ o₀ u. rw k (two-more u more-follow inserts b to o₁ o′ (w ∙ ap (λ j. writtenOp n (s .k + 1) 3 j o) as-many) x);
           }
 
--- ---- `straight`
+-- ---- `write_in_place`
 
 module _ (n : ℕ) (r t : List ℕ) (z : recordFault r ≡ 0) (e : n ≡ opCountOf r) (start : ℕ) (ps : start ≡ textStart n) where
-  module _ (l : n ≤ 1024) (w : T (wellFormed t)) (num : ℕ) (c : num ≡ numChars t) (b : num ≡ baseOf r) (o : List ℕ) where
+  module _ (l : n ≤ maxOps) (w : T (wellFormed t)) (num : ℕ) (c : num ≡ numChars t) (b : num ≡ baseOf r) (o : List ℕ) where
     pub undone-start : Undone n r t o (record { k = 0; from = start; at = 0; put = start }) o
     unfolding laid textsOf
     undone-start =
@@ -424,7 +424,7 @@ pub undone-more : (n : ℕ) (r t o : List ℕ) (s : Inversion) (o₁ : List ℕ)
 undone-more n r t o s o₁ g u o₂ w = w .keeps o g
 
 -- all is undone, and the sizes are written
-module _ (n : ℕ) (r t : List ℕ) (z : recordFault r ≡ 0) (e : n ≡ opCountOf r) (w : T (wellFormed t)) (num : ℕ) (c : num ≡ numChars t) (b : num ≡ baseOf r) (l : length t ≤ 32768) (o : List ℕ) (room : textStart n + length t ≤ length o) (start : ℕ) (ps : start ≡ textStart n) (s : Inversion) (o₁ : List ℕ) (g : Undone n r t o s o₁) (h : n ≤ s .k) where
+module _ (n : ℕ) (r t : List ℕ) (z : recordFault r ≡ 0) (e : n ≡ opCountOf r) (w : T (wellFormed t)) (num : ℕ) (c : num ≡ numChars t) (b : num ≡ baseOf r) (l : length t ≤ maxSize) (o : List ℕ) (room : textStart n + length t ≤ length o) (start : ℕ) (ps : start ≡ textStart n) (s : Inversion) (o₁ : List ℕ) (g : Undone n r t o s o₁) (h : n ≤ s .k) where
   is-held : invert (ops r) (chars t) ≡ reverse (g .held)
   unfolding invert build addAll
   is-held = ap reverse (sym (ap (λ q. addAll (g .held) (undoAll q (chars (drop (s .at) t)))) (sym (begins-none r n (s .k) (s .from) e h)) ∙ g .all))

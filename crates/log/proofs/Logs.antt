@@ -10,17 +10,17 @@ use Rattle.buffers.specs.Words.{words}
 use Rattle.buffers.proofs.Tests.{both, equal-T, le-and, eq-and}
 use Rattle.edits.specs.Sequence.{Seq}
 use Rattle.edits.specs.Op.{target}
-use Rattle.record.specs.Layout.{sizeOf, baseOf, targetOf}
+use Rattle.record.specs.Layout.{sizeOf, baseOf, targetOf, maxSize}
 use Rattle.record.specs.Record.{encode, recordFault}
 use Rattle.record.proofs.Sequences.{Good}
 use Rattle.record.proofs.Records.{size-encode, ops-encode, target-encode, base-encode, fault-encode, Bytes, ops-good, ops-base, ops-target, encode-ops, words-at, joined}
-use Rattle.log.specs.Log.{encodeAll, editsIn, sizesIn, lengthIn, recordsIn, readableFrom, logOf, recordsStart, countOf, startOf, readable, placeOf, sizeOfLog, lengthAt, contents, revisions}
+use Rattle.log.specs.Log.{encodeAll, editsIn, sizesIn, lengthIn, recordsIn, readableFrom, logOf, recordsStart, countOf, startOf, readable, placeOf, sizeOfLog, lengthAt, contents, revisions, maxRevisions}
 use Rattle.log.proofs.Rows.{Each, Row, lengthAfter}
 use Rattle.log.proofs.Scanning.{edits-length}
 
 -- a starting length and edits that a log can hold
 pub record Sound (start : ℕ) (edits : List Seq) : Type 0 where
-  pub starts : start ≤ 32768
+  pub starts : start ≤ maxSize
   pub counts : length edits ≤ 256
   pub good : Each Good edits
   pub row : Row start edits
@@ -152,7 +152,7 @@ module _ (n : ℕ) (es : List Seq) (more : List ℕ) where
         omega (arith, length-append (logOf n es) more, log-length n es),
         le-and (countOf l) 256 _ .1 (
           omega (arith, count-log, s .counts),
-          le-and (startOf l) 32768 _ .1
+          le-and (startOf l) maxSize _ .1
               (omega (arith, start-log, s .starts), rw (count-log, start-log, records-log) (readable-all n es more (s .good) (s .row))),
         ),
       )
@@ -196,12 +196,12 @@ edits-encode (suc n) len l b h =
     ∙ sym (take-add k (sizesIn n (drop k l)) l)
 
 module _ (l : List ℕ) (h : T (readable l)) where
-  parts : (4 ≤ length l) × (countOf l ≤ 256) × (startOf l ≤ 32768) × T (readableFrom (countOf l) (startOf l) (drop recordsStart l))
+  parts : (4 ≤ length l) × (countOf l ≤ maxRevisions) × (startOf l ≤ maxSize) × T (readableFrom (countOf l) (startOf l) (drop recordsStart l))
   unfolding readable
   parts =
       let (a, h₁) = le-and 4 (length l) _ .0 h in
       let (b, h₂) = le-and (countOf l) 256 _ .0 h₁ in
-      let (c, d) = le-and (startOf l) 32768 _ .0 h₂ in
+      let (c, d) = le-and (startOf l) maxSize _ .0 h₂ in
       (a, b, c, d)
 
   pub read-sound : Sound (startOf l) (revisions l)

@@ -13,10 +13,11 @@ use Rattle.buffers.proofs.Over.{over-join, over-front}
 use Rattle.answers.specs.Answer.{success, refused, needs}
 use Rattle.answers.proofs.Outputs.{writing-stops, writing-short, writing-goes, untouched}
 use Rattle.log.specs.Open.{openCall}
+use Rattle.record.specs.Layout.{maxSize}
 
 module _ (n : ℕ) (l : List ℕ) where
   abbrev fault : ℕ
-  fault = needs (leb n 32768) 9 0
+  fault = needs (leb n maxSize) 9 0
 
   abbrev header : List ℕ
   header = words (0 ∷ n ∷ [])
@@ -25,19 +26,19 @@ module _ (n : ℕ) (l : List ℕ) where
   unfolding openCall
   open-refused k h = (h, untouched fault header l k h)
 
-  pub open-9 : 32768 < n → refused 9 ≡ openCall n l .answer
+  pub open-9 : maxSize < n → refused 9 ≡ openCall n l .answer
   unfolding openCall
-  open-9 h = writing-stops fault header l 8 (rw (lt-leb n 32768 h))
+  open-9 h = writing-stops fault header l 8 (rw (lt-leb n maxSize h))
 
-  module _ (h : n ≤ 32768) where
+  module _ (h : n ≤ maxSize) where
     pub open-10 : length l < 4 → refused 10 ≡ openCall n l .answer
     unfolding openCall
-    open-10 g = writing-short fault header l (rw (le-leb n 32768 h)) g
+    open-10 g = writing-short fault header l (rw (le-leb n maxSize h)) g
 
     module _ (g : 4 ≤ length l) where
       whole : record { answer = success (4 ∷ []); out = atFront header l } ≡ openCall n l
       unfolding openCall
-      whole = writing-goes fault header l (rw (le-leb n 32768 h)) g
+      whole = writing-goes fault header l (rw (le-leb n maxSize h)) g
 
       pub open-answer : success (4 ∷ []) ≡ openCall n l .answer
       open-answer = ap (λ o. o .answer) whole

@@ -15,13 +15,13 @@ use Rattle.answers.specs.declared.Refusal.{Refusal}
 use Rattle.answers.specs.declared.Fact.{Fact}
 use Rattle.answers.specs.declared.Fact.the-variants as fact
 use Rattle.answers.specs.Answer.{factOf}
-use Rattle.record.specs.Layout.{sizeOf, targetOf, baseOf}
+use Rattle.record.specs.Layout.{sizeOf, targetOf, baseOf, maxSize}
 use Rattle.record.specs.Record.{ops, recordFault}
 use Rattle.record.specs.Calls.{checkCall}
 use Rattle.record.proofs.Faults.{faultless, limits}
 use Rattle.record.proofs.Checked.{passed, stopped as check-stopped}
 use Rattle.operation.proofs.Answers.{no-fault}
-use Rattle.log.specs.Log.{sizesIn, lengthIn, editsIn, readableFrom, countOf, startOf, recordsStart, readable, placeOf, lengthAt, revisions, sizeOfLog}
+use Rattle.log.specs.Log.{sizesIn, lengthIn, editsIn, readableFrom, countOf, startOf, recordsStart, readable, placeOf, lengthAt, revisions, sizeOfLog, maxRevisions}
 use Rattle.log.specs.declared.core.Spot.{Spot}
 use Rattle.log.specs.declared.core.Stepped.the-variants.{Stopped, On}
 use Rattle.log.specs.InnerSteps.{Steps, stop, on, Passing, Past}
@@ -94,8 +94,8 @@ sizes-room (suc n) (suc k) len m h r =
 
 pub record Reads (l : List ℕ) : Type 0 where
   pub header : 4 ≤ length l
-  pub few : countOf l ≤ 256
-  pub short : startOf l ≤ 32768
+  pub few : countOf l ≤ maxRevisions
+  pub short : startOf l ≤ maxSize
   pub records : T (readableFrom (countOf l) (startOf l) (drop recordsStart l))
 
 pub reads : (l : List ℕ) → T (readable l) → Reads l
@@ -103,7 +103,7 @@ unfolding readable
 reads l h =
     let (a, h₁) = le-and 4 (length l) _ .0 h in
     let (b, h₂) = le-and (countOf l) 256 _ .0 h₁ in
-    let (c, h₃) = le-and (startOf l) 32768 _ .0 h₂ in
+    let (c, h₃) = le-and (startOf l) maxSize _ .0 h₂ in
     record { header = a; few = b; short = c; records = h₃ }
 
 pub place-start : (l : List ℕ) → placeOf 0 l ≡ 4
@@ -177,7 +177,7 @@ revision l r k at h e =
       edits = revision-at k l h ∙ ap (λ m. ops m ∷ drop (k + 1) (revisions l)) (sym p);
     }
 
-pub length-small : (l : List ℕ) → T (readable l) → (k : ℕ) → k ≤ countOf l → lengthAt k l ≤ 32768
+pub length-small : (l : List ℕ) → T (readable l) → (k : ℕ) → k ≤ countOf l → lengthAt k l ≤ maxSize
 length-small l r zero h = rw (length-start l) (reads l r .short)
 length-small l r (suc k) h =
     rw (← add-one k) (rw (← target-at k l) (limits (drop (placeOf k l) l) .0 (faultless (drop (placeOf k l) l) .0 (record-at l r k h) .in-limits) .targets))
@@ -244,11 +244,11 @@ module _ (l : List ℕ) (r : ℕ) where
     scan-many g = unreadable l r (rw (le-leb 4 (length l) h, lt-leb (countOf l) 256 (omega arith)))
 
     module _ (g : n ≤ 256) (s : ℕ) (d : s ≡ startOf l) where
-      pub scan-long : 32768 < s → Scans l r Unreadable
+      pub scan-long : maxSize < s → Scans l r Unreadable
       unfolding readable
-      scan-long k = unreadable l r (rw (le-leb 4 (length l) h, le-leb (countOf l) 256 (omega arith), lt-leb (startOf l) 32768 (omega arith)))
+      scan-long k = unreadable l r (rw (le-leb 4 (length l) h, le-leb (countOf l) 256 (omega arith), lt-leb (startOf l) maxSize (omega arith)))
 
-      pub scan-start : s ≤ 32768 → Passing l r 0 (record { at = 4; len = s }) (record { at = 0; len = 0 })
+      pub scan-start : s ≤ maxSize → Passing l r 0 (record { at = 4; len = s }) (record { at = 0; len = 0 })
       unfolding readable placeOf lengthAt
       scan-start k =
           record {
@@ -256,7 +256,7 @@ module _ (l : List ℕ) (r : ℕ) where
             len = d;
             inside = h;
             left =
-                rw (le-leb 4 (length l) h, le-leb (countOf l) 256 (omega arith), le-leb (startOf l) 32768 (omega arith))
+                rw (le-leb 4 (length l) h, le-leb (countOf l) 256 (omega arith), le-leb (startOf l) maxSize (omega arith))
                 (ap₂ (λ i j. readableFrom i j (drop 4 l)) (sym (sub-zero (countOf l))) (sym d));
             mark-at = λ z. absurd (omega arith);
             mark-len = λ z. absurd (omega arith);
@@ -305,7 +305,7 @@ module _ (l : List ℕ) (r n k : ℕ) (here mark : Spot) (e : n ≡ countOf l) (
     scan-next h x q (stop f) z = absurd (let y : _≡_ {A = ℕ} 0 1 = cc z in omega arith)
     scan-next h x q (on {q = y} a) z = let d : y ≡ q = cc z in passes h q (rw d at a)
 
-    pub scan-end : (s : ℕ) → n ≤ k → k ≤ n → n ≤ 256 → s ≡ startOf l → s ≤ 32768
+    pub scan-end : (s : ℕ) → n ≤ k → k ≤ n → n ≤ 256 → s ≡ startOf l → s ≤ maxSize
         → Scans l r (Of (record { count = n; start = s; size = here .at; at = m .at; len = m .len }))
     unfolding readableFrom sizeOfLog
     scan-end s a b c d g =

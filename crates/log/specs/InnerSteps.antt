@@ -23,7 +23,7 @@ pub data Steps (l : List ℕ) (p : Spot) : Stepped → Type 0 where
   stop : ((n : ℕ) → readableFrom (suc n) (p .len) (drop (p .at) l) ≡ false) → Steps l p Stopped
   on : {q : Spot} → Past l p q → Steps l p (On q)
 
--- what holds before operation k: whether the log can be read is told by the records from here on, and revision r is remembered
+-- what holds before record k: whether the log can be read is told by the records from here on, and revision r is remembered
 pub record Passing (l : List ℕ) (r k : ℕ) (here mark : Spot) : Type 0 where
   pub place : here .at ≡ placeOf k l
   pub len : here .len ≡ lengthAt k l

@@ -21,7 +21,7 @@ use Rattle.answers.specs.declared.Refusal.{Refusal}
 use Rattle.answers.specs.declared.Fact.{Fact}
 use Rattle.answers.specs.declared.Fact.the-variants as fact
 use Rattle.answers.specs.declared.Noop.the-variants as noop
-use Rattle.record.specs.Layout.{opCountOf, textBytesOf, baseOf, textStart, targetOf, sizeOf, kindAt, countAt}
+use Rattle.record.specs.Layout.{opCountOf, textBytesOf, baseOf, textStart, targetOf, sizeOf, kindAt, countAt, maxOps, maxRecord, maxSize}
 use Rattle.record.specs.Record.{byteOps, inLimits, sound, wellInserted, givesChars, entries, soundEntry, textOf, insertBytes, adds, recordFault, ByteSeq, inChars, inserted, ops}
 use Rattle.record.specs.Calls.{checkCall, baseCall, targetCall, noEffect, noopCall, textCall, textFrom}
 use Rattle.record.specs.InnerFront.{byteOpsLeft}
@@ -68,8 +68,8 @@ pub record Agreed (r : List ℕ) (n t g : ℕ) : Type 0 where
   pub target-is : g ≡ total givesChars (byteOps r)
   pub ops : n ≡ opCountOf r
   pub text-bytes : t ≡ textBytesOf r
-  pub few : n ≤ 1024
-  pub short : t ≤ 32768
+  pub few : n ≤ maxOps
+  pub short : t ≤ maxSize
   pub small : g < 2 ^ 32
 
 pub links : (r : List ℕ) (e : Entries) → e ≡ entriesOf r → (q : Sums) → e ≡ Of q → q .ordered ≡ chained (byteOps r)
@@ -307,7 +307,7 @@ module _ (r : List ℕ) (k from : ℕ) (z : recordFault r ≡ 0) (h : k < opCoun
   unfolding textFrom
   text-from = omega (arith, g .ends, inserts-all r k (omega arith), no-fault r z .adds-up)
 
-  pub from-small : from ≤ 35848
+  pub from-small : from ≤ maxRecord
   from-small = omega (arith, g .ends, no-fault r z .few, no-fault r z .short)
 
 module _ (r : List ℕ) (k : ℕ) (h : 0 < length (textCall r k)) where
@@ -348,7 +348,7 @@ module _ (r : List ℕ) (k : ℕ) (h : 0 < length (textCall r k)) where
       ap₂ (λ n i. take n (drop i r)) (sym e) (sym (text-from r k from text-passed text-index (reached .reached)))
       ∙ text-is r (fact.Is (sizeOf r)) checked (sizeOf r) refl (opCountOf r) k refl text-index (kindAt r k) refl from (countAt r k) text-kind (reached .reached) refl
 
-  pub text-small : length (textCall r k) ≤ 32768
+  pub text-small : length (textCall r k) ≤ maxSize
   text-small =
       omega
       (arith, ap length there, length-take (countAt r k) (drop (textFrom r k) r), inserts-more r k text-index text-kind, inserts-all r k (omega (arith, text-index)), no-fault r text-passed .adds-up, no-fault r text-passed .short)

@@ -17,7 +17,7 @@ use Rattle.answers.specs.declared.Written.{Written}
 use Rattle.answers.specs.declared.Written.the-variants as written
 use Rattle.answers.specs.declared.WrittenPair.{WrittenPair}
 use Rattle.answers.specs.declared.WrittenPair.the-variants as written-pair
-use Rattle.record.specs.Layout.{opCountOf}
+use Rattle.record.specs.Layout.{opCountOf, maxSize}
 use Rattle.record.specs.Record.{recordFault}
 use Rattle.record.specs.Calls.{textCall, textFrom}
 use Rattle.operation.proofs.Answers.{text-passed, text-index, text-small}
@@ -77,7 +77,7 @@ module _ (r t : List ℕ) (k : ℕ) (e : t ≡ textCall r k) where
     pub part-index : k < opCountOf r
     part-index = text-index r k some
 
-    pub part-small : length t ≤ 32768
+    pub part-small : length t ≤ maxSize
     part-small = rw (ap length e) (text-small r k some)
 
     pub part-is : (from : ℕ) → from ≡ textFrom r k → from + 4294967296 * length t ≡ part (textFrom r k) (length (textCall r k))

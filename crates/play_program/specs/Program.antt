@@ -23,14 +23,18 @@ unfoldable pub textIn : List ℕ → List ℕ
 unfolding sizeOfLog
 textIn input = drop (sizeOfLog input) input
 
+-- the program's room
+abbrev pub maxInput : ℕ
+maxInput = 65536
+
 -- "input over 65,536 bytes is `refused 10`, before all else. Its scratch buffers and output have 65,536 bytes each. A log that
 -- can't be read gives 6 and its text isn't looked at."
 unfoldable pub programFault : List ℕ → ℕ
 unfolding readable textIn playFault played
 programFault input =
-    needs (leb (length input) 65536) 10
+    needs (leb (length input) maxInput) 10
     (needs (readable input) 6
-    (orElse (playFault input (textIn input) 65536 65536) (needs (leb (length (played input (textIn input))) 65536) 10 0)))
+    (orElse (playFault input (textIn input) maxInput maxInput) (needs (leb (length (played input (textIn input))) maxInput) 10 0)))
 
 -- "It writes the played text and no line end", or the complaint
 unfoldable pub program : List ℕ → List ℕ

@@ -8,7 +8,7 @@ ghost use lib.Dec.{T};
 ghost use lib.ListN.{length};
 ghost use Rattle.answers.specs.Answer.{number};
 ghost use Rattle.log.specs.Log.{readable, sizeOfLog};
-ghost use Rattle.play_program.specs.Program.{program, Writes, complaint};
+ghost use Rattle.play_program.specs.Program.{program, Writes, complaint, maxInput};
 
 pub mod core;
 
@@ -30,8 +30,8 @@ pub fn play_input(input: &[u8], out: &mut [u8; MAX_INPUT]) -> usize
 
 // The log, and behind its `size` bytes the text.
 fn answer(input: &[u8], size: usize, out: &mut [u8]) -> usize
-    requires { ⌜ (length (now input) ≤ 65536) × T (readable (now input)) × (size ≡ sizeOfLog (now input)) × (size ≤ length (now input))
-        × (length (now out) ≡ 65536) ⌝ }
+    requires { ⌜ (length (now input) ≤ maxInput) × T (readable (now input)) × (size ≡ sizeOfLog (now input)) × (size ≤ length (now input))
+        × (length (now out) ≡ maxInput) ⌝ }
     ensures { λ n. ⌜ Writes (program (now (input .entry))) (now (out .entry)) n (now (out .exit)) ⌝ }
 {
     let mut a = buffer();
@@ -43,14 +43,14 @@ fn answer(input: &[u8], size: usize, out: &mut [u8]) -> usize
 }
 
 pub(crate) fn buffer() -> [u8; MAX_INPUT]
-    ensures { λ r. ⌜ 65536 ≡ length r ⌝ }
+    ensures { λ r. ⌜ maxInput ≡ length r ⌝ }
 {
     [0; MAX_INPUT]
 }
 
 // `refused `, the number and a line end.
 fn complain(out: &mut [u8], x: Refusal) -> usize
-    requires { ⌜ length (now out) ≡ 65536 ⌝ }
+    requires { ⌜ length (now out) ≡ maxInput ⌝ }
     ensures { λ n. ⌜ Writes (complaint (number x)) (now (out .entry)) n (now (out .exit)) ⌝ }
 {
     let k = answers::number(x);

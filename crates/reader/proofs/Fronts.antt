@@ -19,7 +19,7 @@ use Rattle.characters.proofs.Leads.{inside}
 use Rattle.characters.proofs.Chars.{num-le, well-all}
 use Rattle.characters.proofs.Places.{skips-plain}
 use Rattle.edits.specs.Op.{retain, insert, delete, size, ifZero, Op, cut, rest}
-use Rattle.record.specs.Layout.{opCountOf, textStart, textBytesOf, sizeOf, kindAt, countAt}
+use Rattle.record.specs.Layout.{opCountOf, textStart, textBytesOf, sizeOf, kindAt, countAt, maxOps, maxRecord}
 use Rattle.record.specs.Record.{entries, recordFault, inChars, ops, insertBytes, wellInserted, inBytes, inserted}
 use Rattle.record.specs.InnerFront.{Place, byteOpsLeft, opsLeft, ahead, Loads, frontText, frontOp, Stands, entriesLeft, Cut, Leaves}
 use Rattle.record.specs.declared.core.Front.{Front}
@@ -56,14 +56,14 @@ fault-header r z = limits r .0 (faultless r .0 z .in-limits) .header
 pub fault-kinds : (r : List ℕ) → recordFault r ≡ 0 → textStart (opCountOf r) ≤ length r
 fault-kinds r z = omega (arith, limits r .0 (faultless r .0 z .in-limits) .whole)
 
-pub fault-few : (r : List ℕ) (n : ℕ) → recordFault r ≡ 0 → n ≡ opCountOf r → n ≤ 1024
+pub fault-few : (r : List ℕ) (n : ℕ) → recordFault r ≡ 0 → n ≡ opCountOf r → n ≤ maxOps
 fault-few r n z e = omega (arith, limits r .0 (faultless r .0 z .in-limits) .ops)
 
 module _ (r : List ℕ) {n t z : ℕ} (e : z ≡ textStart n) (p : n ≡ opCountOf r) (q : t ≡ textBytesOf r) where
   pub fault-size : z + t ≡ sizeOf r
   fault-size = cc (e, p, q)
 
-  pub fault-small : recordFault r ≡ 0 → z + t ≤ 35848
+  pub fault-small : recordFault r ≡ 0 → z + t ≤ maxRecord
   fault-small f = let h = limits r .0 (faultless r .0 f .in-limits) in omega (arith, h .ops, h .text-bytes, e, p, q)
 
   pub fault-whole : recordFault r ≡ 0 → z + t ≤ length r

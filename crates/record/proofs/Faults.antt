@@ -12,15 +12,15 @@ use Rattle.buffers.proofs.Tests.{le-and, both, eq-and, equal-T}
 use Rattle.edits.specs.Op.{total, base}
 use Rattle.edits.specs.Built.{chained}
 use Rattle.answers.proofs.Refusals.{needs-out, needs-in}
-use Rattle.record.specs.Layout.{opCountOf, textBytesOf, baseOf, targetOf, sizeOf}
+use Rattle.record.specs.Layout.{opCountOf, textBytesOf, baseOf, targetOf, sizeOf, maxOps, maxSize}
 use Rattle.record.specs.Record.{inLimits, entries, byteOps, soundEntry, insertBytes, sound, wellInserted, givesChars, adds, recordFault}
 
 pub record InLimits (r : List ℕ) : Type 0 where
   pub header : 8 ≤ length r
-  pub ops : opCountOf r ≤ 1024
-  pub text-bytes : textBytesOf r ≤ 32768
-  pub bases : baseOf r ≤ 32768
-  pub targets : targetOf r ≤ 32768
+  pub ops : opCountOf r ≤ maxOps
+  pub text-bytes : textBytesOf r ≤ maxSize
+  pub bases : baseOf r ≤ maxSize
+  pub targets : targetOf r ≤ maxSize
   pub whole : sizeOf r ≤ length r
 
 pub limits : (r : List ℕ) → T (inLimits r) ↔ InLimits r
@@ -28,20 +28,20 @@ unfolding inLimits
 limits r = (
   λ h.
       let (a, h₁) = le-and 8 (length r) _ .0 h in
-      let (b, h₂) = le-and (opCountOf r) 1024 _ .0 h₁ in
-      let (c, h₃) = le-and (textBytesOf r) 32768 _ .0 h₂ in
-      let (d, h₄) = le-and (baseOf r) 32768 _ .0 h₃ in
-      let (e, f) = le-and (targetOf r) 32768 _ .0 h₄ in
+      let (b, h₂) = le-and (opCountOf r) maxOps _ .0 h₁ in
+      let (c, h₃) = le-and (textBytesOf r) maxSize _ .0 h₂ in
+      let (d, h₄) = le-and (baseOf r) maxSize _ .0 h₃ in
+      let (e, f) = le-and (targetOf r) maxSize _ .0 h₄ in
       record { header = a; ops = b; text-bytes = c; bases = d; targets = e; whole = leb→le (sizeOf r) (length r) f },
   λ l.
       le-and 8 (length r) _ .1 (
         l .header,
-        le-and (opCountOf r) 1024 _ .1 (
+        le-and (opCountOf r) maxOps _ .1 (
           l .ops,
-          le-and (textBytesOf r) 32768 _ .1 (
+          le-and (textBytesOf r) maxSize _ .1 (
             l .text-bytes,
-            le-and (baseOf r) 32768 _ .1
-                (l .bases, le-and (targetOf r) 32768 _ .1 (l .targets, le→leb (sizeOf r) (length r) (l .whole))),
+            le-and (baseOf r) maxSize _ .1
+                (l .bases, le-and (targetOf r) maxSize _ .1 (l .targets, le→leb (sizeOf r) (length r) (l .whole))),
           ),
         ),
       ),
@@ -54,10 +54,10 @@ limits-false r h = go (inLimits r) (λ t. h (limits r .0 t))
     go true k = absurd (k tt)
     go false k = refl
 
-pub limits-last : (r : List ℕ) {z : ℕ} → 8 ≤ length r → opCountOf r ≤ 1024 → textBytesOf r ≤ 32768 → baseOf r ≤ 32768 → targetOf r ≤ 32768 → z ≡ sizeOf r → leb z (length r) ≡ inLimits r
+pub limits-last : (r : List ℕ) {z : ℕ} → 8 ≤ length r → opCountOf r ≤ maxOps → textBytesOf r ≤ maxSize → baseOf r ≤ maxSize → targetOf r ≤ maxSize → z ≡ sizeOf r → leb z (length r) ≡ inLimits r
 unfolding inLimits
 limits-last r a b c d e f =
-    rw (f, le-leb 8 (length r) a, le-leb (opCountOf r) 1024 b, le-leb (textBytesOf r) 32768 c, le-leb (baseOf r) 32768 d, le-leb (targetOf r) 32768 e)
+    rw (f, le-leb 8 (length r) a, le-leb (opCountOf r) maxOps b, le-leb (textBytesOf r) maxSize c, le-leb (baseOf r) maxSize d, le-leb (targetOf r) maxSize e)
 
 pub record Faultless (r : List ℕ) : Type 0 where
   pub in-limits : T (inLimits r)

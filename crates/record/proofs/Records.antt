@@ -17,7 +17,7 @@ use Rattle.edits.specs.Sequence.{Seq}
 use Rattle.edits.specs.Built.{full, chained, built}
 use Rattle.edits.proofs.Links.{Links, built-links, positive}
 use Rattle.record.specs.Record.{code, Entry, inBytes, text, encode, fits, ByteSeq, entriesFrom, operations, insertBytes, soundEntry, inChars, entries, textOf, byteOps, ops, givesChars, recordFault, wellInserted}
-use Rattle.record.specs.Layout.{textStart, opCountOf, kindsStart, countsStart, textBytesOf, baseOf, targetOf, sizeOf}
+use Rattle.record.specs.Layout.{textStart, opCountOf, kindsStart, countsStart, textBytesOf, baseOf, targetOf, sizeOf, maxRecord}
 use Rattle.record.proofs.Sequences.{fits-limits, inBytes-size, inChars-inBytes, inBytes-well, inBytes-chained, inBytes-base, inBytes-target, Good, inChars-size, inBytes-inChars}
 use Rattle.record.proofs.Faults.{limits, faultless, InLimits, Faultless}
 
@@ -35,7 +35,7 @@ unfolding encode
 encode-length s = simp (length-append, length-words, length-map) (omega arith)
 
 -- 8 + 3 * 1024 + 32768
-pub encode-small : (s : Seq) → T (fits s) → length (encode s) ≤ 35848
+pub encode-small : (s : Seq) → T (fits s) → length (encode s) ≤ maxRecord
 encode-small s h = let l = fits-limits s .0 h in omega (arith, encode-length s, l .ops, l .text-bytes)
 
 getD-front : (r : List ℕ) (i : ℕ) (x : ℕ) (l : List ℕ) → drop i r ≡ x ∷ l → getD r i 0 ≡ x

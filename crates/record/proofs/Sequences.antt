@@ -16,6 +16,7 @@ use Rattle.edits.specs.Op.{retain, insert, delete, Op, size, base, total, targe
 use Rattle.edits.specs.Sequence.{Seq}
 use Rattle.edits.specs.Built.{kind, chained, follows, Built}
 use Rattle.record.specs.Record.{inBytes, inChars, wellInserted, ByteSeq, givesChars, fits, text}
+use Rattle.record.specs.Layout.{maxOps, maxSize}
 
 pub inChars-inBytes : (s : Seq) → map inChars (map inBytes s) ≡ s
 unfolding inChars inBytes
@@ -90,20 +91,20 @@ pub record Good (s : Seq) : Type 0 where
   pub in-limits : T (fits s)
 
 pub record Limits (s : Seq) : Type 0 where
-  pub ops : length s ≤ 1024
-  pub text-bytes : length (text (map inBytes s)) ≤ 32768
-  pub bases : base s ≤ 32768
-  pub targets : target s ≤ 32768
+  pub ops : length s ≤ maxOps
+  pub text-bytes : length (text (map inBytes s)) ≤ maxSize
+  pub bases : base s ≤ maxSize
+  pub targets : target s ≤ maxSize
 
 pub fits-limits : (s : Seq) → T (fits s) ↔ Limits s
 unfolding fits
 fits-limits s = (
   λ h.
-      let (a, h₁) = le-and (length s) 1024 _ .0 h in
-      let (b, h₂) = le-and (length (text (map inBytes s))) 32768 _ .0 h₁ in
-      let (c, d) = le-and (base s) 32768 _ .0 h₂ in
-      record { ops = a; text-bytes = b; bases = c; targets = leb→le (target s) 32768 d },
+      let (a, h₁) = le-and (length s) maxOps _ .0 h in
+      let (b, h₂) = le-and (length (text (map inBytes s))) maxSize _ .0 h₁ in
+      let (c, d) = le-and (base s) maxSize _ .0 h₂ in
+      record { ops = a; text-bytes = b; bases = c; targets = leb→le (target s) maxSize d },
   λ l.
-      le-and (length s) 1024 _ .1
-      (l .ops, le-and (length (text (map inBytes s))) 32768 _ .1 (l .text-bytes, le-and (base s) 32768 _ .1 (l .bases, le→leb (target s) 32768 (l .targets)))),
+      le-and (length s) maxOps _ .1
+      (l .ops, le-and (length (text (map inBytes s))) maxSize _ .1 (l .text-bytes, le-and (base s) maxSize _ .1 (l .bases, le→leb (target s) maxSize (l .targets)))),
 )

@@ -1,4 +1,4 @@
--- One accept on the log of a history: it is what the history is told.
+-- One accept on the log of a history: it is what the history gives.
 use mathlib.Core.List.{[], _∷_, _++_, List, append-assoc}
 use Prim.Native.Nat.{ℕ, _≤_, _<_, zero, suc, _+_}
 use lib.ListN.{drop, length, take, length-append, take-append-drop}
@@ -19,7 +19,7 @@ use Rattle.record.specs.Record.{ops, encode, recordFault}
 use Rattle.record.specs.Layout.{baseOf}
 use Rattle.record.proofs.Sequences.{Good}
 use Rattle.record.proofs.Records.{ops-base}
-use Rattle.log.specs.Log.{encodeAll, logOf, readable, sizeOfLog, lengthAt}
+use Rattle.log.specs.Log.{encodeAll, logOf, readable, sizeOfLog, lengthAt, maxRevisions}
 use Rattle.log.proofs.Logs.{Sound, log-more, log-more-length, count-log, length-log, revisions-log, size-log, readable-log}
 use Rattle.log.proofs.Rows.{lengthAfter, each-append, Row, row-append, row-right, after-append}
 use Rattle.session.specs.History.{History, Outcome, logIn, historyAccept}
@@ -54,7 +54,7 @@ through h m = record { answer = sizes m; counterparts = m .counterparts; history
 -- 9 and 10
 abbrev rest : History → Moved → ℕ → ℕ → ℕ
 rest h m room space =
-    needs (ltb (length (h .edits)) 256 && m .kept) 9
+    needs (ltb (length (h .edits)) maxRevisions && m .kept) 9
     (needs (leb (length (logIn (joined h (m .edit)))) room && leb (length (encodeAll (m .counterparts))) space) 10 0)
 
 module _ (h : History) (edit : List ℕ) (r : ℕ) where
@@ -80,7 +80,7 @@ module _ (h : History) (edit : List ℕ) (r : ℕ) where
 pub record Passed (h : History) (e : Seq) (r : ℕ) : Type 0 where
   pub rev : r ≤ length (h .edits)
   pub meets : base e ≡ lengthAfter (h .start) (take r (h .edits))
-  pub counts : length (h .edits) < 256
+  pub counts : length (h .edits) < maxRevisions
   pub kept : T (rebase e (drop r (h .edits)) .kept)
 
 pub passed : (h : History) (edit : List ℕ) (r room space : ℕ) → fault h edit r room space ≡ 0 → (recordFault edit ≡ 0) × Passed h (ops edit) r
@@ -90,9 +90,9 @@ passed h edit r room space z =
     let (a, z₁) = first-zero (recordFault edit) _ z in
     let (b, z₂) = needs-out (leb r n) 6 _ z₁ in
     let (c, z₃) = needs-out (eqb (base (ops edit)) (lengthAfter (h .start) (take r (h .edits)))) 7 _ z₂ in
-    let (d, z₄) = needs-out (ltb n 256 && m .kept) 8 _ z₃ in
-    let k = both (ltb n 256) (m .kept) .0 d in
-    (a, record { rev = leb→le r n b; meets = eqb→eq (base (ops edit)) _ c; counts = ltb→lt n 256 (k .0); kept = k .1 })
+    let (d, z₄) = needs-out (ltb n maxRevisions && m .kept) 8 _ z₃ in
+    let k = both (ltb n maxRevisions) (m .kept) .0 d in
+    (a, record { rev = leb→le r n b; meets = eqb→eq (base (ops edit)) _ c; counts = ltb→lt n maxRevisions (k .0); kept = k .1 })
 
 -- what comes out joins the row
 module _ (h : History) (s : SoundIn h) (e : Seq) (r : ℕ) (p : Passed h e r) where
@@ -166,7 +166,7 @@ module _ (h : History) (behind : List ℕ) where
         (needs (holds (readable buffer) (readable-log (h .start) (h .edits) behind s) i) 6
         (needs (leb r (n i)) 7
         (needs (eqb (baseOf edit) (lengthAt r buffer)) 8
-        (needs (ltb (n i) 256 && m .kept) 9
+        (needs (ltb (n i) maxRevisions && m .kept) 9
         (needs (leb (size-more (m .edit) i) (length buffer) && leb (length (encodeAll (m .counterparts))) (length out)) 10 0))))))
         ∙ first-same (recordFault edit) _ _ (λ z.
         needs-same (leb r (length (h .edits))) 7 _ _ (λ l.

@@ -23,6 +23,7 @@ use Rattle.session.proofs.Running.{Went, fed-rule, fed-sound, fed-start
 use Rattle.session.proofs.Meeting.{movedBy}
 use Rattle.session.proofs.Carrying.{rebase-types, rebase-stays, carryAll-append, within-carryAll, LeaveAll, leave-more, newest-kept, leave-plays, newest-length, newest-typed}
 use Rattle.session.proofs.Rows.{playAll-append, playAll-length}
+use Rattle.record.specs.Layout.{maxSize}
 
 -- ---- one accept
 
@@ -119,7 +120,7 @@ stands h s c later succeeds spared t l =
 
 -- ---- every list of calls on a fresh session
 
-module _ (n : ℕ) (small : n ≤ 32768) (before : List Call) where
+module _ (n : ℕ) (small : n ≤ maxSize) (before : List Call) where
   pub nothing-lost : (later : List Call) → NothingLost (after (fresh n) before) later
   nothing-lost = lost-nothing (after (fresh n) before) (after-sound (fresh n) (fresh-sound n small) before)
 

@@ -16,7 +16,7 @@ use Rattle.record.specs.Layout.{sizeOf, baseOf}
 use Rattle.record.specs.Record.{recordFault, encode, ops}
 use Rattle.record.proofs.Faults.{limits, faultless}
 use Rattle.record.proofs.Records.{Bytes, encode-ops}
-use Rattle.log.specs.Log.{countOf, readable, sizeOfLog, lengthAt, encodeAll, revisions}
+use Rattle.log.specs.Log.{countOf, readable, sizeOfLog, lengthAt, encodeAll, revisions, maxRevisions}
 use Rattle.log.proofs.Scanning.{revisions-length}
 use Rattle.session.specs.Rows.{Moved, rebase}
 use Rattle.session.specs.Session.{movedIn, acceptFault, append, acceptCall}
@@ -29,7 +29,7 @@ newestFault edit log =
     orElse (recordFault edit)
     (needs (readable log) 6
     (needs (eqb (baseOf edit) (lengthAt (countOf log) log)) 8
-    (needs (ltb (countOf log) 256) 9 (needs (leb (sizeOfLog log + sizeOf edit) (length log)) 10 0))))
+    (needs (ltb (countOf log) maxRevisions) 9 (needs (leb (sizeOfLog log + sizeOf edit) (length log)) 10 0))))
 
 settle-same : {A : Type 0} (f : ℕ) (stop : ℕ → A) (x y : A) → (f ≡ 0 → x ≡ y) → unlessRefused f stop x ≡ unlessRefused f stop y
 settle-same zero stop x y e = e refl
@@ -59,18 +59,18 @@ module _ (edit log out : List ℕ) (b : Bytes edit) where
       (needs (readable log) 6
       (needs (holds (leb r r) (le→leb r r (omega arith)) i) 7
       (needs (eqb (baseOf edit) (lengthAt r log)) 8
-      (needs (ltb r 256 && m .kept) 9
+      (needs (ltb r maxRevisions && m .kept) 9
       (needs (leb (sizeOfLog log + length (encode (m .edit))) (length log) && leb (length (encodeAll (m .counterparts))) (length out)) 10 0))))))
       ∙ (λ i.
       let room = leb (sizeOfLog log + n) (length log) in
       orElse (recordFault edit)
       (needs (readable log) 6
       (needs (eqb (baseOf edit) (lengthAt r log)) 8
-      (needs (and-true (ltb r 256) i) 9 (needs ((ap (λ x. room && x) (leb·zero (length out)) ∙ and-true room) i) 10 0)))))
+      (needs (and-true (ltb r maxRevisions) i) 9 (needs ((ap (λ x. room && x) (leb·zero (length out)) ∙ and-true room) i) 10 0)))))
       ∙ first-same (recordFault edit) _ _ (λ z.
       ap (λ n.
       needs (readable log) 6
-      (needs (eqb (baseOf edit) (lengthAt r log)) 8 (needs (ltb r 256) 9 (needs (leb (sizeOfLog log + n) (length log)) 10 0))))
+      (needs (eqb (baseOf edit) (lengthAt r log)) 8 (needs (ltb r maxRevisions) 9 (needs (leb (sizeOfLog log + n) (length log)) 10 0))))
       (size-newest z))
 
   abbrev stop : ℕ → Outs

@@ -1,4 +1,4 @@
--- Lists of accept calls on the log of a history, and its summary: they are what the history foretells.
+-- Lists of accept calls on the log of a history, and its summary: they are what the history gives.
 use mathlib.Core.Path.{_≡_, refl, ap, _∙_, ap₂, sym}
 use Prim.Native.Nat.{ℕ, zero, suc, _≤_}
 use mathlib.Core.List.{_++_, List, [], _∷_}
@@ -23,6 +23,7 @@ use Rattle.session.specs.Rows.{retainAll, composesWithin}
 use Rattle.session.specs.Session.{summaryFault, summaryCall}
 use Rattle.session.proofs.Accepting.{moved, through, Passed, SoundIn, joined, fault, back, history-told, passed, joined-sound, accept-log}
 use Rattle.session.proofs.Rows.{partials-final, partials-fit, summary}
+use Rattle.record.specs.Layout.{maxSize}
 
 -- ---- one call
 
@@ -101,15 +102,15 @@ after-log h s (c ∷ cs) = ap (λ l. logAfter l cs) (left-log h c s) ∙ after-l
 
 -- ---- opening
 
-pub fresh-sound : (n : ℕ) → n ≤ 32768 → SoundIn (fresh n)
+pub fresh-sound : (n : ℕ) → n ≤ maxSize → SoundIn (fresh n)
 fresh-sound n l = record { starts = l; counts = omega arith; good = tt; row = tt }
 
 pub fresh-log : (n : ℕ) (log : List ℕ) → Fresh n log → (log ≡ logIn (fresh n)) × SoundIn (fresh n)
 unfolding openCall atFront logOf encodeAll
 fresh-log n log f =
-    let w = wrote (needs (leb n 32768) 9 0) (words (0 ∷ n ∷ [])) (f .buffer) (rw (f .opens) tt) in (
+    let w = wrote (needs (leb n maxSize) 9 0) (words (0 ∷ n ∷ [])) (f .buffer) (rw (f .opens) tt) in (
       sym (f .leaves) ∙ ap (λ o. contents (o .out)) (w .is) ∙ contents-log n [] (drop 4 (f .buffer)),
-      fresh-sound n (leb→le n 32768 (needs-out (leb n 32768) 8 0 (w .no-fault) .0)),
+      fresh-sound n (leb→le n maxSize (needs-out (leb n maxSize) 8 0 (w .no-fault) .0)),
     )
 
 -- ---- summaries

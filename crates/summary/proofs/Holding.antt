@@ -26,7 +26,7 @@ use Rattle.answers.specs.declared.Written.the-variants.{Bytes, Refused}
 use Rattle.answers.specs.InnerGiven.{Gives}
 use Rattle.answers.proofs.Outputs.{atFront-take, writing-goes}
 use Rattle.record.specs.Record.{encode, fits, ops, recordFault, inBytes, text}
-use Rattle.record.specs.Layout.{baseOf, targetOf}
+use Rattle.record.specs.Layout.{baseOf, targetOf, maxRecord, maxSize}
 use Rattle.record.proofs.Records.{ops-encode, fault-encode, encode-small}
 use Rattle.record.proofs.Sequences.{Limits, fits-limits}
 use Rattle.operational_transform.specs.Calls.{deliver, composeCall}
@@ -67,7 +67,7 @@ module _ (s : Seq) (k : ℕ) (b : List ℕ) (h : Holds s k b) where
 -- ---- composed with a revision
 
 module _ (a b o : List ℕ) (v : Written) (o′ : List ℕ) (g : Gives (composeCall a b o) v o′)
-    (za : recordFault a ≡ 0) (zb : recordFault b ≡ 0) (e : targetOf a ≡ baseOf b) (r : 35848 ≤ length o) where
+    (za : recordFault a ≡ 0) (zb : recordFault b ≡ 0) (e : targetOf a ≡ baseOf b) (r : maxRecord ≤ length o) where
   abbrev s : Seq
   s = compose (ops a) (ops b)
 
@@ -109,7 +109,7 @@ module _ (a b o : List ℕ) (v : Written) (o′ : List ℕ) (g : Gives (composeC
     pub step-room : k ≤ length o′
     step-room = omega (arith, stood .size, ap length (stood .is), front-length (encode s) o)
 
-    pub step-written : (c c′ : List ℕ) → c′ ≡ over 0 (take (k - 0) (drop 0 o′)) c → 35848 ≤ length c → Makes s (Bytes k) c′
+    pub step-written : (c c′ : List ℕ) → c′ ≡ over 0 (take (k - 0) (drop 0 o′)) c → maxRecord ≤ length c → Makes s (Bytes k) c′
     step-written c c′ w h =
         let t = known (stood .fit) in
         let i : take (k - 0) o′ ≡ encode s = ap₂ take (sub-zero k ∙ stood .size) (stood .is) ∙ atFront-take (encode s) o in
@@ -136,7 +136,7 @@ one-small : (n : ℕ) → one n ≤ 1
 one-small zero = omega arith
 one-small (suc n) = omega arith
 
-still-limits : (n : ℕ) → n ≤ 32768 → Limits (retainAll n)
+still-limits : (n : ℕ) → n ≤ maxSize → Limits (retainAll n)
 still-limits n h =
     record {
       ops = omega (arith, still-few n, one-small n);
@@ -164,7 +164,7 @@ module _ (n : ℕ) (e f : Emitter) (p : e ≡ nothing) (a : Retains n e f) where
     pub still-small : Under (2 ^ 40) g
     still-small = still-done .small
 
-    pub still-holds : m ≡ one n → n ≤ 32768 → 35848 ≤ length o → (o₂ : List ℕ) → o₂ ≡ headed g o₁ → (k : ℕ) → k ≡ sizeIn g → Holds (retainAll n) k o₂
+    pub still-holds : m ≡ one n → n ≤ maxSize → maxRecord ≤ length o → (o₂ : List ℕ) → o₂ ≡ headed g o₁ → (k : ℕ) → k ≡ sizeIn g → Holds (retainAll n) k o₂
     still-holds q h r o₂ w k z =
         let l = still-limits n h in
         let t = fits-limits (retainAll n) .1 l in

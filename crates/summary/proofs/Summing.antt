@@ -23,7 +23,7 @@ use Rattle.answers.specs.Answer.{success, refused}
 use Rattle.answers.specs.Output.{writing}
 use Rattle.answers.specs.InnerGiven.{Gives}
 use Rattle.answers.proofs.Outputs.{writing-goes, writing-short, untouched}
-use Rattle.record.specs.Layout.{sizeOf, baseOf, targetOf}
+use Rattle.record.specs.Layout.{sizeOf, baseOf, targetOf, maxSize}
 use Rattle.record.specs.Record.{fits, ops, recordFault, encode}
 use Rattle.record.proofs.Records.{ops-base, ops-target}
 use Rattle.emitter.proofs.Delivering.{writing-refused}
@@ -191,5 +191,5 @@ module _ (l o : List ℕ) (x : Scanned) (s : Scans l 0 x) where
     pub found-start : f .start ≡ startOf l
     found-start = found .start
 
-    pub found-small : f .start ≤ 32768
+    pub found-small : f .start ≤ maxSize
     found-small = found .small

@@ -5,6 +5,7 @@ use native.Mathlib.Omega.{arith}
 use Rattle.packing.proofs.Packing.{part-none, part-passed, part-index, part-small, part-is}
 use Rattle.c_api.proofs.ot_insert_text.Statement.{statement}
 use Rattle.c_api.proofs.ot_insert_text.Tie as tie
+use Rattle.record.specs.Layout.{maxSize}
 
 insert-text-requires : tie.Need-insert-text-requires
 insert-text-requires c κs = search needs
@@ -19,10 +20,10 @@ text-from-requires : tie.Need-text-from-requires
 text-from-requires c κs = (search part-passed, search needs, search part-index)
 
 mul-result : tie.Need-mul-result
-mul-result c = let h : length (c .before .before .before .insert-text .result .now) ≤ 32768 = search part-small in omega arith
+mul-result c = let h : length (c .before .before .before .insert-text .result .now) ≤ maxSize = search part-small in omega arith
 
 add-result : tie.Need-add-result
-add-result c = let h : length (c .before .before .before .insert-text .result .now) ≤ 32768 = search part-small in omega arith
+add-result c = let h : length (c .before .before .before .insert-text .result .now) ≤ maxSize = search part-small in omega arith
 
 returns-2 : tie.Need-returns-2
 returns-2 c = search part-is
