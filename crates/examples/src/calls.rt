@@ -1,6 +1,6 @@
 // The calls by their names.
-use listing::core::line::State;
-use listing::core::show;
+use harness::core::line::State;
+use harness::core::show;
 ghost use mathlib.Core.Path.{_≡_};
 ghost use lib.ListN.{length};
 
@@ -12,21 +12,16 @@ fn untouched() -> [u8; 40000]
 }
 
 pub(crate) fn answer(word: &[u8], a: &[u8], b: &[u8], s: State) {
+    let room = s.room as usize;
+    let rooms = s.rooms as usize;
     if check::same(word, b"transform") {
-        both_in(a, b, s.room as usize, s.rooms as usize);
+        transform_in(a, b, room, rooms);
         return;
     }
     if asked(word, a, s.number as usize) {
         return;
     }
-    let mut out = untouched();
-    let room = s.rooms as usize;
-    if room <= 40000 {
-        if built(word, a, b, s.number, &mut out[..room]) {
-            return;
-        }
-    }
-    show::text(b"no such call");
+    write_in(verb(word), a, b, s.number, rooms);
 }
 
 // Calls that ask.
@@ -80,52 +75,89 @@ fn walk(rec: &[u8]) {
     }
 }
 
-// Calls that write.
-fn built(word: &[u8], a: &[u8], b: &[u8], n: u64, out: &mut [u8]) -> bool {
+// Calls that write, by numbers.
+fn verb(word: &[u8]) -> u8 {
     if check::same(word, b"retain") {
-        let w = builders::retain(a, n, out);
-        show::written(w, out);
-        return true;
+        return 1;
     }
     if check::same(word, b"delete") {
-        let w = builders::delete(a, n, out);
-        show::written(w, out);
-        return true;
+        return 2;
     }
     if check::same(word, b"insert") {
-        let w = builders::insert(a, b, out);
-        show::written(w, out);
-        return true;
+        return 3;
     }
     if check::same(word, b"apply") {
-        let w = apply::apply(a, b, out);
-        show::written(w, out);
-        return true;
+        return 4;
     }
     if check::same(word, b"invert") {
-        let w = invert::invert(a, b, out);
-        show::written(w, out);
-        return true;
+        return 5;
     }
     if check::same(word, b"compose") {
-        let w = compose::compose(a, b, out);
-        show::written(w, out);
-        return true;
+        return 6;
     }
-    false
+    0
 }
 
-fn both(a: &[u8], b: &[u8], out_a: &mut [u8], out_b: &mut [u8]) {
-    let w = transform::transform(a, b, out_a, out_b);
-    show::pair(w, out_a, out_b);
+fn write_in(name: u8, a: &[u8], b: &[u8], n: u64, room: usize) {
+    let mut out = untouched();
+    if room <= 40000 {
+        write(name, a, b, n, &mut out[0..room]);
+    }
 }
 
-fn both_in(a: &[u8], b: &[u8], x: usize, y: usize) {
+fn write(name: u8, a: &[u8], b: &[u8], n: u64, out: &mut [u8]) {
+    match name {
+        1 => retain(a, n, out),
+        2 => delete(a, n, out),
+        3 => insert(a, b, out),
+        4 => apply(a, b, out),
+        5 => invert(a, b, out),
+        6 => compose(a, b, out),
+        _ => show::text(b"no such call"),
+    }
+}
+
+fn retain(rec: &[u8], n: u64, out: &mut [u8]) {
+    let w = builders::retain(rec, n, out);
+    show::written(w, out);
+}
+
+fn delete(rec: &[u8], n: u64, out: &mut [u8]) {
+    let w = builders::delete(rec, n, out);
+    show::written(w, out);
+}
+
+fn insert(rec: &[u8], text: &[u8], out: &mut [u8]) {
+    let w = builders::insert(rec, text, out);
+    show::written(w, out);
+}
+
+fn apply(rec: &[u8], text: &[u8], out: &mut [u8]) {
+    let w = apply::apply(rec, text, out);
+    show::written(w, out);
+}
+
+fn invert(rec: &[u8], text: &[u8], out: &mut [u8]) {
+    let w = invert::invert(rec, text, out);
+    show::written(w, out);
+}
+
+fn compose(a: &[u8], b: &[u8], out: &mut [u8]) {
+    let w = compose::compose(a, b, out);
+    show::written(w, out);
+}
+
+fn transform_in(a: &[u8], b: &[u8], x: usize, y: usize) {
     let mut out_a = untouched();
     let mut out_b = untouched();
     if x <= 40000 {
         if y <= 40000 {
-            both(a, b, &mut out_a[..x], &mut out_b[..y]);
+            transform(a, b, &mut out_a[0..x], &mut out_b[0..y]);
         }
     }
+}
+
+fn transform(a: &[u8], b: &[u8], out_a: &mut [u8], out_b: &mut [u8]) {
+    let w = transform::transform(a, b, out_a, out_b);
+    show::pair(w, out_a, out_b);
 }

@@ -1,8 +1,20 @@
-// Runs the calls that standard input lists, a line each, and prints every line with its answer. README, "Examples",
-// says how a line is written.
-use listing::core::line;
-use listing::core::line::State;
-use listing::core::show;
+// Runs the calls that standard input lists, one on a line, and prints every line with its answer and the whole output.
+//
+// A line is a call's name and then its operands:
+//
+//     61           two hexadecimal digits are a byte
+//     =5           the number 5 in two bytes, low byte first
+//     "ä"          text
+//     [61]*300     what stands in brackets, 300 times
+//     ,            parts the first operand from the second
+//     #7           the call's number: a count, or the number of an operation
+//     >20          an output of 20 bytes, filled with EE before the call; of transform's two the first stands first
+//
+// A line that begins with `;` is a remark. No output has more than 40,000 bytes. Of more than 64 bytes their number and a sum are
+// printed.
+use harness::core::line;
+use harness::core::line::State;
+use harness::core::show;
 
 mod calls;
 

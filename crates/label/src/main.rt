@@ -3,10 +3,10 @@
 // for this edit, and the server's revisions from there on.
 use answers::Written;
 use answers::WrittenPair;
-use listing::core::show;
+use harness::core::show;
+use harness::core::tell;
+use harness::core::words;
 use log::core::Scanned;
-use wording::core::tell;
-use wording::core::words;
 
 // Characters that are kept, those that are deleted behind them, what is typed there, and how many are kept behind that.
 fn edit(kept: u64, deleted: u64, typed: &[u8], behind: u64, out: &mut [u8]) {
@@ -22,7 +22,7 @@ fn edit(kept: u64, deleted: u64, typed: &[u8], behind: u64, out: &mut [u8]) {
 // A copy with its translator's edit. The label has 48 characters.
 fn types(edit: &[u8], copy: &mut [u8]) {
     log::open(48, copy);
-    calling::core::accepts(edit, copy);
+    harness_calls::core::accepts(edit, copy);
 }
 
 // An edit that was written against the label as it was at the start reaches the server, and its author's copy takes in the counterparts.
@@ -39,7 +39,7 @@ fn arrives(edit: &[u8], server: &mut [u8], copy: &mut [u8]) {
 fn take(from: &[u8], at: usize, end: usize, copy: &mut [u8]) {
     if at <= end {
         if end <= from.len() {
-            calling::core::pass_on(&from[at..end], copy);
+            harness_calls::core::pass_on(&from[at..end], copy);
         }
     }
 }
@@ -102,10 +102,14 @@ fn order(name: &[u8], label: &[u8], x: &[u8], y: &[u8], z: &[u8]) {
     arrives(y, &mut server, &mut b);
     arrives(z, &mut server, &mut c);
     told(name, &server, label);
-    if meets(&server, &mut a, label)
-        && meets(&server, &mut b, label)
-        && meets(&server, &mut c, label)
-    {
+    let in_a = meets(&server, &mut a, label);
+    let in_b = meets(&server, &mut b, label);
+    let in_c = meets(&server, &mut c, label);
+    copies(in_a && in_b && in_c);
+}
+
+fn copies(all: bool) {
+    if all {
         show::text(b" - and so in all copies\n");
     } else {
         show::text(b" - BUT NOT IN ALL COPIES\n");

@@ -15,47 +15,54 @@
 //
 // No buffer has more than 40,000 bytes. R, I and D stand for retain, insert and delete; of several records the first and the
 // last are printed, and of a record its first eight operations.
-use listing::core::line;
-use listing::core::line::State;
-use listing::core::show;
+use harness::core::line;
+use harness::core::line::State;
+use harness::core::show;
+ghost use Prim.Native.Nat.{_≤_};
+
+// A session's log has this many bytes, and that of `b` stands behind that of `a`.
+const LOG: usize = 40000;
+
+// Where the log stands that a line is about: the line begins with the session's letter. The `ensures` is what taking it out needs.
+fn log_of(buf: &[u8]) -> usize
+    ensures { λ r. ⌜ r ≤ 40000 ⌝ }
+{
+    if harness_calls::core::is_b(buf) {
+        LOG
+    } else {
+        0
+    }
+}
 
 // A line's answer is printed behind it.
-fn run(s: State, buf: &[u8], a: &mut [u8], b: &mut [u8], kept: &mut [u8]) {
+fn run(s: State, buf: &[u8], logs: &mut [u8], kept: &mut [u8]) {
     if s.mode == 6 {
         return;
     }
     show::text(b" -> ");
-    if calling::core::is_b(buf) {
-        calling::core::answer(s, buf, b, kept);
-    } else {
-        calling::core::answer(s, buf, a, kept);
+    let from = log_of(buf);
+    if from + LOG <= logs.len() {
+        harness_calls::core::answer(s, buf, &mut logs[from..from + LOG], kept);
     }
 }
 
 // The line that begins at `from`; where the next one begins.
-fn one(
-    input: &[u8],
-    from: usize,
-    buf: &mut [u8],
-    a: &mut [u8],
-    b: &mut [u8],
-    kept: &mut [u8],
-) -> usize {
+fn one(input: &[u8], from: usize, buf: &mut [u8], logs: &mut [u8], kept: &mut [u8]) -> usize {
     let s = line::read(input, from, buf);
     show::line(input, s);
-    run(s, buf, a, b, kept);
+    run(s, buf, logs, kept);
     show::text(b"\n");
     s.next
 }
 
 // There are no more lines than bytes.
-fn lines(input: &[u8], buf: &mut [u8], a: &mut [u8], b: &mut [u8], kept: &mut [u8]) {
+fn lines(input: &[u8], buf: &mut [u8], logs: &mut [u8], kept: &mut [u8]) {
     let mut at = 0;
     for _ in 0..input.len() {
         if input.len() <= at {
             return;
         }
-        at = one(input, at, buf, a, b, kept);
+        at = one(input, at, buf, logs, kept);
     }
 }
 
@@ -63,8 +70,7 @@ fn main() {
     let mut input = io::large_buffer();
     let n = io::read_full(0, &mut input);
     let mut buf = [0u8; 131072];
-    let mut a = calling::core::untouched();
-    let mut b = calling::core::untouched();
+    let mut logs = [0xEEu8; 80000];
     let mut kept = [0u8; 40002];
-    lines(&input[..n], &mut buf, &mut a, &mut b, &mut kept);
+    lines(&input[..n], &mut buf, &mut logs, &mut kept);
 }

@@ -6,10 +6,10 @@ use Rattle.sessions.proofs.lines.Statement.{statement}
 use Rattle.sessions.proofs.lines.Tie as tie
 
 abbrev Inv-loop : tie.InvT-loop
-Inv-loop input buf₀ a₀ b₀ kept₀ at₀ counter₀ end buf a b kept at counter = (counter ≤ end) × (length buf ≡ length buf₀) × (length a ≡ length a₀) × (length b ≡ length b₀) × (length kept ≡ length kept₀)
+Inv-loop input buf₀ logs₀ kept₀ at₀ counter₀ end buf logs kept at counter = (counter ≤ end) × (length buf ≡ length buf₀) × (length logs ≡ length logs₀) × (length kept ≡ length kept₀)
 
 abbrev μ-loop : tie.MeasureT-loop
-μ-loop input buf₀ a₀ b₀ kept₀ at₀ counter₀ end buf a b kept at counter = end - counter
+μ-loop input buf₀ logs₀ kept₀ at₀ counter₀ end buf logs kept at counter = end - counter
 
 loop-holds : tie.Need-loop-holds Inv-loop μ-loop
 loop-holds c = search needs
@@ -22,9 +22,6 @@ same-length-2 c = search needs
 
 same-length-3 : tie.Need-same-length-3 Inv-loop μ-loop
 same-length-3 c = search needs
-
-same-length-4 : tie.Need-same-length-4 Inv-loop μ-loop
-same-length-4 c = search needs
 
 returns : tie.Need-returns Inv-loop μ-loop
 returns c = search needs
@@ -41,17 +38,14 @@ loop-less c = search needs
 loop-again : tie.Need-loop-again Inv-loop μ-loop
 loop-again c = search needs
 
+same-length-4 : tie.Need-same-length-4 Inv-loop μ-loop
+same-length-4 c = search needs
+
 same-length-5 : tie.Need-same-length-5 Inv-loop μ-loop
 same-length-5 c = search needs
 
 same-length-6 : tie.Need-same-length-6 Inv-loop μ-loop
 same-length-6 c = search needs
-
-same-length-7 : tie.Need-same-length-7 Inv-loop μ-loop
-same-length-7 c = search needs
-
-same-length-8 : tie.Need-same-length-8 Inv-loop μ-loop
-same-length-8 c = search needs
 
 returns-2 : tie.Need-returns-2 Inv-loop μ-loop
 returns-2 c = search needs
@@ -66,14 +60,12 @@ lines-spec =
     same-length
     same-length-2
     same-length-3
-    same-length-4
     returns
     one-requires
     add-counter
     loop-less
     loop-again
+    same-length-4
     same-length-5
     same-length-6
-    same-length-7
-    same-length-8
     returns-2)

@@ -1,3 +1,0 @@
-// What the program `sessions` does with a line.
-
-pub mod core;

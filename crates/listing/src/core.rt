@@ -1,4 +1,0 @@
-// Reading and printing, which no contract states.
-
-pub mod line;
-pub mod show;

@@ -1,4 +1,0 @@
-// Printing, which no contract states.
-
-pub mod tell;
-pub mod words;

@@ -1,3 +1,0 @@
-// A session's log and records in words.
-
-pub mod core;
