@@ -1,4 +1,5 @@
 -- answers
 pub mod Answer
 pub mod Output
+pub mod Given
 pub mod InnerGiven

@@ -6,6 +6,9 @@ pub mod Chars
 pub mod Counted
 pub mod Cuts
 pub mod Texts
+pub mod Codes
+pub mod Scalars
+pub mod Examples
 pub mod Places
 pub mod Bits
 pub mod Bytes

@@ -2,6 +2,7 @@
 pub mod Form
 pub mod Chars
 pub mod Text
+pub mod Scalar
 pub mod Order
 pub mod InnerPlaces
 pub mod InnerAscii

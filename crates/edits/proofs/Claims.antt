@@ -1,12 +1,14 @@
 -- The claims, for characters of any type. All but the last two hold for every sequence, built or not.
+use Prim.Native.Nat.{_+_, _≤_}
 use native.Mathlib.Omega.{arith}
-use mathlib.Core.Path.{_≡_, ap, _∙_, sym}
+use mathlib.Core.Path.{_≡_, refl, ap, ap₂, _∙_, sym}
 use mathlib.Core.List.{List, [], _∷_, _++_, reverse, reverse-cons, reverse-reverse}
-use lib.ListN.{length}
+use lib.ListN.{length, drop, length-drop}
+use lib.Seq.{length-take-le}
 use mathlib.Core.Logic.{_≢_}
 use Rattle.characters.specs.declared.Ordering.{Ordering}
 use Rattle.characters.specs.declared.Ordering.the-variants.{Equal}
-use Rattle.edits.specs.Op.{Op, insert, base, target}
+use Rattle.edits.specs.Op.{Op, retain, insert, delete, base, target}
 use Rattle.edits.specs.Built.{Built}
 use Rattle.edits.specs.Build.{extend, build}
 use Rattle.edits.specs.Apply.{apply}
@@ -61,6 +63,27 @@ module _ {C : Type 0} where
   pub invert-built : (s : List (Op C)) (t : List C) → Built (invert s t)
   unfolding invert
   invert-built s t = build-built (undoAll s t)
+
+  -- of the inverse, base and target change places
+  undo-base : (s : List (Op C)) (t : List C) → base (undoAll s t) ≡ target s
+  undo-base [] t = refl
+  undo-base (retain n ∷ s) t = ap (λ k. n + k) (undo-base s (drop n t))
+  undo-base (insert x ∷ s) t = ap (λ k. length x + k) (undo-base s t)
+  undo-base (delete n ∷ s) t = ap (λ k. 0 + k) (undo-base s (drop n t))
+
+  undo-target : (s : List (Op C)) (t : List C) → base s ≤ length t → target (undoAll s t) ≡ base s
+  undo-target [] t l = refl
+  undo-target (retain n ∷ s) t l = ap (λ k. n + k) (undo-target s (drop n t) (simp length-drop (omega arith)))
+  undo-target (insert x ∷ s) t l = ap (λ k. 0 + k) (undo-target s t (omega arith))
+  undo-target (delete n ∷ s) t l = ap₂ _+_ (length-take-le n t (omega arith)) (undo-target s (drop n t) (simp length-drop (omega arith)))
+
+  pub invert-base : (s : List (Op C)) (t : List C) → base (invert s t) ≡ target s
+  unfolding invert
+  invert-base s t = build-base (undoAll s t) ∙ undo-base s t
+
+  pub invert-target : (s : List (Op C)) (t : List C) → base s ≤ length t → target (invert s t) ≡ base s
+  unfolding invert
+  invert-target s t l = build-target (undoAll s t) ∙ undo-target s t l
 
   module _ (order : List C → List C → Ordering) (order-equal : (s t : List C) → order s t ≡ Equal → s ≡ t)
       (a b : List (Op C)) (e : base a ≡ base b) where

@@ -14,3 +14,4 @@ pub mod Claims
 pub mod Together
 pub mod Symmetry
 pub mod Theorems
+pub mod Standing

@@ -8,4 +8,5 @@ pub mod Align
 pub mod Compose
 pub mod Transform
 pub mod Trace
+pub mod Origins
 pub mod Invert

@@ -1,11 +1,10 @@
--- The inverse on a text of base characters: no more text than the text has, and base and target change places. (As many operations
--- as there were: `undone-length` in Placing.)
+-- The inverse on a text of base characters: no more text than the text has. (Base and target change places: `invert-base` and
+-- `invert-target` in `edits`. As many operations as there were: `undone-length` in Placing.)
 use Prim.Native.Nat.{_+_, _≤_, ℕ, _<_}
 use native.Mathlib.Omega.{arith}
-use mathlib.Core.Path.{_≡_, refl, ap, ap₂, _∙_, sym}
+use mathlib.Core.Path.{_≡_, refl, ap, _∙_, sym}
 use mathlib.Core.List.{List, [], _∷_, map}
-use lib.ListN.{length, drop, length-drop, take, length-append, take-append-drop}
-use lib.Seq.{length-take-le}
+use lib.ListN.{length, drop, take, length-append, take-append-drop}
 use mathlib.Core.Bool.{true, Bool, false, _&&_}
 use lib.Dec.{T, leb, eqb, leb→le}
 use borrow.Author.Tests.{le-leb, lt-leb, eq-eqb, ne-eqb}
@@ -14,12 +13,13 @@ use Rattle.characters.specs.Text.{Char, bytes, chars}
 use Rattle.characters.specs.Form.{wellFormed}
 use Rattle.characters.specs.Chars.{numChars}
 use Rattle.characters.proofs.Texts.{bytes-append, bytes-chars, chars-length}
-use Rattle.edits.specs.Op.{Op, retain, insert, delete, base, target}
+use Rattle.edits.specs.Op.{retain, insert, delete, base}
 use Rattle.edits.specs.Invert.{undoAll, invert}
 use Rattle.edits.specs.Sequence.{Seq}
 use Rattle.edits.specs.Trace.{typed}
 use Rattle.edits.specs.Build.{build}
-use Rattle.edits.proofs.Building.{build-mean, build-same}
+use Rattle.edits.proofs.Building.{build-same}
+use Rattle.edits.proofs.Claims.{invert-base, invert-target}
 use Rattle.edits.proofs.Kept.{typed-lasts}
 use Rattle.answers.specs.declared.Written.the-variants.{Bytes}
 use Rattle.answers.specs.InnerGiven.{Gives}
@@ -32,29 +32,6 @@ use Rattle.emitter.specs.InnerEmit.{Writes}
 use Rattle.emitter.proofs.Counting.{text-typed}
 use Rattle.emitter.proofs.Delivering.{judge-bytes, sized-fits}
 use Rattle.emitter.proofs.Giving.{gives-written}
-
--- ---- base and target change places
-
-module _ {C : Type 0} where
-  undo-base : (s : List (Op C)) (t : List C) → base (undoAll s t) ≡ target s
-  undo-base [] t = refl
-  undo-base (retain n ∷ s) t = ap (λ k. n + k) (undo-base s (drop n t))
-  undo-base (insert x ∷ s) t = ap (λ k. length x + k) (undo-base s t)
-  undo-base (delete n ∷ s) t = ap (λ k. 0 + k) (undo-base s (drop n t))
-
-  undo-target : (s : List (Op C)) (t : List C) → base s ≤ length t → target (undoAll s t) ≡ base s
-  undo-target [] t l = refl
-  undo-target (retain n ∷ s) t l = ap (λ k. n + k) (undo-target s (drop n t) (simp length-drop (omega arith)))
-  undo-target (insert x ∷ s) t l = ap (λ k. 0 + k) (undo-target s t (omega arith))
-  undo-target (delete n ∷ s) t l = ap₂ _+_ (length-take-le n t (omega arith)) (undo-target s (drop n t) (simp length-drop (omega arith)))
-
-  pub invert-base : (s : List (Op C)) (t : List C) → base (invert s t) ≡ target s
-  unfolding invert
-  invert-base s t = ap (λ m. m .before) (build-mean (undoAll s t)) ∙ undo-base s t
-
-  pub invert-target : (s : List (Op C)) (t : List C) → base s ≤ length t → target (invert s t) ≡ base s
-  unfolding invert
-  invert-target s t l = ap (λ m. m .after) (build-mean (undoAll s t)) ∙ undo-target s t l
 
 -- ---- no more text than the text has
 

@@ -41,7 +41,8 @@ use Rattle.emitter.proofs.Delivering.{text-ahead}
 use Rattle.invert_in_place.specs.InnerInverting.{Restores, deleteBehind, apart, Reached, Undone, restored, Undoes}
 use Rattle.invert_in_place.specs.declared.core.Inversion.{Inversion}
 use Rattle.invert_in_place.proofs.Passing.{part-wide}
-use Rattle.invert_in_place.proofs.Inverses.{invert-base, invert-target, enough as enough-chars, inverse-text, straight-gives}
+use Rattle.edits.proofs.Claims.{invert-base, invert-target}
+use Rattle.invert_in_place.proofs.Inverses.{enough as enough-chars, inverse-text, straight-gives}
 
 -- ---- `restore`, `delete_follows`
 

@@ -2,3 +2,5 @@
 pub mod Exchange
 pub mod Examples
 pub mod Results
+pub mod Laws
+pub mod Unread

@@ -5,3 +5,4 @@ pub mod Records
 pub mod Walks
 pub mod Checked
 pub mod Theorems
+pub mod Unread

@@ -14,7 +14,7 @@ use Rattle.answers.specs.Answer.{succeeds}
 use Rattle.record.specs.Record.{encode, ops}
 use Rattle.record.proofs.Records.{ops-encode}
 use Rattle.record.proofs.Faults.{limits, faultless}
-use Rattle.record.proofs.Theorems.{ops-behind}
+use Rattle.record.proofs.Unread.{behind-alike, same-seq}
 use Rattle.log.proofs.Rows.{Row}
 use Rattle.session.specs.Session.{summaryCall}
 use Rattle.session.specs.History.{fresh, logIn, History, historyPlay}
@@ -99,7 +99,7 @@ module _ (h k : History) (sh : SoundIn h) (sk : SoundIn k) (starts : k .start �
   s₁ = fed-sound k (again c mine) sk
 
   edited : k₁ ≡ joined k (ops (c .edit))
-  edited = newest k (again c mine) (ops (c .edit)) w′ (ops-behind (c .edit) (mine .behindEdit) (limits (c .edit) .0 (faultless (c .edit) .0 (w .faultless) .in-limits))) (newest-there h sh c w k same)
+  edited = newest k (again c mine) (ops (c .edit)) w′ (same-seq (behind-alike (c .edit) (mine .behindEdit) (limits (c .edit) .0 (faultless (c .edit) .0 (w .faultless) .in-limits) .whole))) (newest-there h sh c w k same)
 
   -- and after the counterparts
   abbrev relay : List Call

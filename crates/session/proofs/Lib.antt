@@ -9,3 +9,6 @@ pub mod Demands
 pub mod Carrying
 pub mod Keeping
 pub mod Examples
+pub mod Unread
+pub mod Playing
+pub mod Standing

@@ -1,5 +1,6 @@
 -- Lists of accept calls on the log of a history, and its summary: they are what the history gives.
 use mathlib.Core.Path.{_≡_, refl, ap, _∙_, ap₂, sym}
+use mathlib.Core.Bool.{Bool, true, false}
 use Prim.Native.Nat.{ℕ, zero, suc, _≤_}
 use mathlib.Core.List.{_++_, List, [], _∷_}
 use lib.Dec.{T, leb, leb→le}
@@ -8,8 +9,8 @@ use native.Mathlib.Omega.{arith}
 use Rattle.buffers.specs.Buffers.{atFront}
 use Rattle.buffers.specs.Words.{words}
 use Rattle.buffers.proofs.Tests.{holds}
-use Rattle.answers.specs.Answer.{succeeds, unlessRefused, needs, success}
-use Rattle.answers.specs.Output.{writing}
+use Rattle.answers.specs.Answer.{succeeds, unlessRefused, needs, orElse, success, refused}
+use Rattle.answers.specs.Output.{Out, writing}
 use Rattle.answers.proofs.Refusals.{needs-out}
 use Rattle.answers.proofs.Outputs.{wrote, atFront-take}
 use Rattle.record.specs.Record.{ops, recordFault, encode}
@@ -17,9 +18,9 @@ use Rattle.record.proofs.Records.{ops-good}
 use Rattle.log.specs.Log.{contents, encodeAll, logOf, readable}
 use Rattle.log.specs.Open.{openCall}
 use Rattle.log.proofs.Logs.{contents-log, start-log, revisions-log, readable-log}
-use Rattle.session.specs.History.{History, logIn, Outcome, fresh, historySummary}
-use Rattle.session.specs.Demand.{Call, fedCall, accept, ran, expected, after, logAfter, Fresh, Given}
-use Rattle.session.specs.Rows.{retainAll, composesWithin}
+use Rattle.session.specs.History.{History, logIn, Outcome, fresh, Summed, historySummary}
+use Rattle.session.specs.Demand.{Call, fedCall, accept, ran, expected, after, logAfter, expectedSummary, Fresh, Given}
+use Rattle.session.specs.Rows.{retainAll, composeAll, composesWithin}
 use Rattle.session.specs.Session.{summaryFault, summaryCall}
 use Rattle.session.proofs.Accepting.{moved, through, Passed, SoundIn, joined, fault, back, history-told, passed, joined-sound, accept-log}
 use Rattle.session.proofs.Rows.{partials-final, partials-fit, summary}
@@ -118,13 +119,27 @@ fresh-log n log f =
 abbrev tooLarge : History → ℕ
 tooLarge h = needs (composesWithin (retainAll (h .start)) (h .edits)) 9 0
 
-summary-told : (h : History) (out : List ℕ) → historySummary h out ≡ writing (tooLarge h) (encode (summary (h .start) (h .edits))) out
-unfolding historySummary summary
+summary-told : (h : History) (out : List ℕ) → expectedSummary h out ≡ writing (tooLarge h) (encode (summary (h .start) (h .edits))) out
+unfolding historySummary summary writing atFront
 summary-told h out =
     let s = retainAll (h .start) in
-    λ i. writing (needs (partials-fit s (h .edits) i) 9 0) (encode (partials-final s s (h .edits) i)) out
+    (λ i. front (fed (partials-fit s (h .edits) i) (encode (partials-final s s (h .edits) i))))
+    ∙ same (composesWithin s (h .edits)) (leb (length (encode (composeAll s (h .edits)))) (length out)) (encode (composeAll s (h .edits)))
+  where
+    fed : Bool → List ℕ → Summed
+    fed t r = unlessRefused (needs t 9 (needs (leb (length r) (length out)) 10 0)) (λ n. record { answer = refused n; summary = [] }) (record { answer = success (length r ∷ []); summary = r })
 
-pub summary-log : (h : History) → SoundIn h → (behind out : List ℕ) → summaryCall (logIn h ++ behind) out ≡ historySummary h out
+    front : Summed → Out
+    front x = record { answer = x .answer; out = atFront (x .summary) out }
+
+    same : (t u : Bool) (r : List ℕ)
+        → front (unlessRefused (needs t 9 (needs u 10 0)) (λ n. record { answer = refused n; summary = [] }) (record { answer = success (length r ∷ []); summary = r }))
+        ≡ unlessRefused (orElse (needs t 9 0) (needs u 10 0)) (λ n. record { answer = refused n; out = out }) (record { answer = success (length r ∷ []); out = atFront r out })
+    same true true r = refl
+    same true false r = refl
+    same false u r = refl
+
+pub summary-log : (h : History) → SoundIn h → (behind out : List ℕ) → summaryCall (logIn h ++ behind) out ≡ expectedSummary h out
 unfolding summaryCall summaryFault summary
 summary-log h s behind out =
     let n = start-log (h .start) (h .edits) behind in

@@ -10,7 +10,7 @@ use Rattle.buffers.specs.Lists.{allOf}
 use Rattle.characters.specs.Form.{wellFormed}
 use Rattle.characters.specs.Chars.{numChars}
 use Rattle.answers.specs.Answer.{success, succeeds}
-use Rattle.answers.specs.Output.{Outs}
+use Rattle.answers.specs.Output.{Out, Outs}
 use Rattle.record.specs.Layout.{sizeOf}
 use Rattle.log.specs.Log.{contents, encodeAll, countOf, recordsIn, revisions}
 use Rattle.log.specs.Open.{openCall}
@@ -65,6 +65,10 @@ abbrev pub expected : History → List Call → List Outs
 expected h [] = []
 expected h (c ∷ cs) = expectedCall h c ∷ expected (fedCall h c .history) cs
 
+-- and of a summary: the answer, and the record at the front of its output
+abbrev pub expectedSummary : History → List ℕ → Out
+expectedSummary h out = let x = historySummary h (length out) in record { answer = x .answer; out = atFront (x .summary) out }
+
 -- ---- summaries that are given
 
 -- some call of summary on this log gives the bytes `s`
@@ -108,7 +112,7 @@ again c b = record { edit = take (sizeOf (c .edit)) (c .edit) ++ b .behindEdit; 
 -- any point"
 pub record AsExpected (n : ℕ) (log : List ℕ) (cs : List Call) : Type 0 where
   pub calls : ran log cs ≡ expected (fresh n) cs
-  pub summaries : (behind out : List ℕ) → summaryCall (logAfter log cs ++ behind) out ≡ historySummary (after (fresh n) cs) out
+  pub summaries : (behind out : List ℕ) → summaryCall (logAfter log cs ++ behind) out ≡ expectedSummary (after (fresh n) cs) out
 
 -- "the summaries after them, where both are given, agree byte for byte exactly when on every text of that length playing one
 -- history and playing the other give the same text"

@@ -12,7 +12,6 @@ use Rattle.edits.specs.Op.{target, base}
 use Rattle.edits.specs.Transform.{Sides}
 use Rattle.edits.specs.Compose.{compose}
 use Rattle.answers.specs.Answer.{Answer, orElse, success, needs, refused, unlessRefused}
-use Rattle.answers.specs.Output.{Out, writing}
 use Rattle.record.specs.Record.{encode, fits, ops, recordFault}
 use Rattle.log.specs.Log.{logOf, encodeAll, maxRevisions}
 use Rattle.session.specs.Rows.{rule, retainAll, playAll}
@@ -82,12 +81,19 @@ abbrev pub final : Seq → List Seq → Seq
 final s [] = s
 final s (p ∷ ps) = final p ps
 
--- "9 as there, then 10 if the output is too short"
-unfoldable pub historySummary : History → List ℕ → Out
-unfolding retainAll fits writing encode
-historySummary h out =
+-- the history's summary: its answer, and the record, no bytes where it is refused
+pub record Summed : Type 0 where
+  pub answer : Answer
+  pub summary : List ℕ
+
+-- It "is fed the size of its output": "9 as there, then 10 if the output is too short".
+unfoldable pub historySummary : History → ℕ → Summed
+unfolding retainAll fits encode
+historySummary h space =
     let ps = partials (retainAll (h .start)) (h .edits) in
-    writing (needs (allOf fits ps) 9 0) (encode (final (retainAll (h .start)) ps)) out
+    let summary = encode (final (retainAll (h .start)) ps) in
+    unlessRefused (needs (allOf fits ps) 9 (needs (leb (length summary) space) 10 0)) (λ n. record { answer = refused n; summary = [] })
+    (record { answer = success (length summary ∷ []); summary = summary })
 
 -- "Playing a history on a text applies its edits, oldest first, with no limit on room."
 unfoldable pub historyPlay : History → List ℕ → List ℕ
