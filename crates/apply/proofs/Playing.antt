@@ -2,8 +2,8 @@
 use Prim.Native.Nat.{ℕ, _+_, _-_, _≤_, _<_, zero-le}
 use native.Mathlib.Omega.{arith}
 use mathlib.Core.Path.{_≡_, refl, sym, ap, ap₂, _∙_}
-use mathlib.Core.List.{List, _++_, [], _∷_, map}
-use lib.ListN.{length, take, drop, length-append, length-drop, take-append-drop}
+use mathlib.Core.List.{List, _++_, []}
+use lib.ListN.{length, take, drop, length-append, length-drop}
 use lib.Seq.{drop-drop, take-append-seam, drop-append-seam, length-take-le}
 use native.Mathlib.Nat.{add-zero}
 use mathlib.Core.Bool.{Bool, true, false}
@@ -20,13 +20,12 @@ use Rattle.characters.proofs.Places.{stays-there}
 use Rattle.characters.proofs.Widths.{bytes-most}
 use Rattle.edits.specs.Op.{Op, takes, base, retain, insert, delete}
 use Rattle.edits.specs.Apply.{writes, apply}
-use Rattle.edits.specs.Sequence.{Seq}
 use Rattle.edits.proofs.Theorems.{apply-length}
 use Rattle.record.specs.InnerFront.{opsLeft}
 use Rattle.record.specs.Layout.{opCountOf, kindAt, countAt, textBytesOf, baseOf, textStart}
-use Rattle.record.specs.Record.{inBytes, inserted, text, ops, recordFault}
+use Rattle.record.specs.Record.{ops, recordFault}
 use Rattle.record.proofs.Records.{ops-text, ops-base, ops-good}
-use Rattle.record.proofs.Sequences.{fits-limits}
+use Rattle.record.proofs.Sequences.{fits-limits, apply-most}
 use Rattle.reader.proofs.Fronts.{Begins, begins-none, begins-retain, begins-delete, load-room, begins-well, begins-insert, place-start, ops-start}
 use Rattle.apply.specs.declared.core.Progress.{Progress}
 use Rattle.apply.specs.InnerSteps.{played, Stage, Steps, TakesRest}
@@ -122,28 +121,7 @@ module _ (r t : List ℕ) (n : ℕ) (s : Progress) (kind count : ℕ) (g : Stage
 
 -- ---- how long the text after an edit is
 
--- one operation more, where the others give x from what it leaves
-module _ (t x : List Char) (m : ℕ) where
-  gives-most : (n : ℕ) → length (bytes x) ≤ length (bytes (drop n t)) + m → length (bytes (take n t)) + length (bytes x) ≤ length (bytes t) + m
-  gives-most n h =
-      omega (
-        arith,
-        ap (λ l. length (bytes l)) (take-append-drop n t),
-        ap length (bytes-append (take n t) (drop n t)),
-        length-append (bytes (take n t)) (bytes (drop n t)),
-      )
-
-  writes-most : (o : Op Char) → length (bytes x) ≤ length (bytes (drop (takes o) t)) + m → length (bytes (writes o t ++ x)) ≤ length (bytes t) + (length (inserted (inBytes o)) + m)
-  unfolding inBytes
-  writes-most (retain n) h = omega (arith, gives-most n h, ap length (bytes-append (take n t) x), length-append (bytes (take n t)) (bytes x))
-  writes-most (insert y) h = omega (arith, ap length (bytes-append y x), length-append (bytes y) (bytes x))
-  writes-most (delete n) h = omega (arith, gives-most n h)
-
 -- no longer than the text before and what is inserted
-apply-most : (s : Seq) (t : List Char) → length (bytes (apply s t)) ≤ length (bytes t) + length (text (map inBytes s))
-apply-most [] t = unfold bytes in zero-le
-apply-most (o ∷ s) t = rw length-append (writes-most t (apply s (drop (takes o) t)) (length (text (map inBytes s))) o (apply-most s (drop (takes o) t)))
-
 pub played-most : (r t : List ℕ) → recordFault r ≡ 0 → T (wellFormed t) → length (played r t) ≤ length t + textBytesOf r
 unfolding played
 played-most r t z w = omega (arith, apply-most (ops r) (chars t), ap length (bytes-chars t w), ops-text r z)

@@ -1,2 +1,3 @@
 -- play_program
 pub mod Programs
+pub mod Ships

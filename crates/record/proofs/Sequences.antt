@@ -1,21 +1,22 @@
 -- Sequences in characters and in bytes, and which of them a record can hold.
 use mathlib.Core.Path.{_≡_, refl, ap, ap₂, sym, _∙_}
-use mathlib.Core.List.{[], _∷_, map, List}
+use mathlib.Core.List.{[], _∷_, _++_, map, List}
 use lib.Dec.{T, leb→le, le→leb}
 use mathlib.Core.Bool.{_&&_}
-use Prim.Native.Nat.{_<_, ℕ, _+_, _≤_}
+use Prim.Native.Nat.{_<_, ℕ, _+_, _≤_, zero-le}
 use native.Mathlib.Omega.{arith}
-use lib.ListN.{length}
+use lib.ListN.{length, take, drop, length-append, take-append-drop}
 use mathlib.Core.Logic.{_↔_}
 use Rattle.buffers.specs.Lists.{allOf}
 use Rattle.buffers.proofs.Tests.{both, le-and}
 use Rattle.characters.specs.Form.{wellFormed}
 use Rattle.characters.specs.Text.{bytes, Char, chars}
-use Rattle.characters.proofs.Texts.{chars-bytes, bytes-well, bytes-chars, bytes-length, chars-length}
-use Rattle.edits.specs.Op.{retain, insert, delete, Op, size, base, total, target}
+use Rattle.characters.proofs.Texts.{chars-bytes, bytes-well, bytes-chars, bytes-append, bytes-length, chars-length}
+use Rattle.edits.specs.Op.{retain, insert, delete, Op, size, takes, base, total, target}
+use Rattle.edits.specs.Apply.{writes, apply}
 use Rattle.edits.specs.Sequence.{Seq}
 use Rattle.edits.specs.Built.{kind, chained, follows, Built}
-use Rattle.record.specs.Record.{inBytes, inChars, wellInserted, ByteSeq, givesChars, fits, text}
+use Rattle.record.specs.Record.{inBytes, inChars, wellInserted, ByteSeq, givesChars, fits, inserted, text}
 use Rattle.record.specs.Layout.{maxOps, maxSize}
 
 pub inChars-inBytes : (s : Seq) → map inChars (map inBytes s) ≡ s
@@ -108,3 +109,26 @@ fits-limits s = (
       le-and (length s) maxOps _ .1
       (l .ops, le-and (length (text (map inBytes s))) maxSize _ .1 (l .text-bytes, le-and (base s) maxSize _ .1 (l .bases, le→leb (target s) maxSize (l .targets)))),
 )
+
+-- ---- an edit gives no more bytes than the text before it has and it inserts
+
+-- one operation more, where the others give x from what it leaves
+module _ (t x : List Char) (m : ℕ) where
+  gives-most : (n : ℕ) → length (bytes x) ≤ length (bytes (drop n t)) + m → length (bytes (take n t)) + length (bytes x) ≤ length (bytes t) + m
+  gives-most n h =
+      omega (
+        arith,
+        ap (λ l. length (bytes l)) (take-append-drop n t),
+        ap length (bytes-append (take n t) (drop n t)),
+        length-append (bytes (take n t)) (bytes (drop n t)),
+      )
+
+  writes-most : (o : Op Char) → length (bytes x) ≤ length (bytes (drop (takes o) t)) + m → length (bytes (writes o t ++ x)) ≤ length (bytes t) + (length (inserted (inBytes o)) + m)
+  unfolding inBytes
+  writes-most (retain n) h = omega (arith, gives-most n h, ap length (bytes-append (take n t) x), length-append (bytes (take n t)) (bytes x))
+  writes-most (insert y) h = omega (arith, ap length (bytes-append y x), length-append (bytes y) (bytes x))
+  writes-most (delete n) h = omega (arith, gives-most n h)
+
+pub apply-most : (s : Seq) (t : List Char) → length (bytes (apply s t)) ≤ length (bytes t) + length (text (map inBytes s))
+apply-most [] t = unfold bytes in zero-le
+apply-most (o ∷ s) t = rw length-append (writes-most t (apply s (drop (takes o) t)) (length (text (map inBytes s))) o (apply-most s (drop (takes o) t)))

@@ -27,10 +27,10 @@ use Rattle.session.proofs.Meeting.{newest, relayed, movedBy, newest-the
 
 -- a session's log is that of its history, which a log can hold
 module _ (n : ℕ) (log : List ℕ) (f : Fresh n log) (cs : List Call) where
-  session-log : logAfter log cs ≡ logIn (after (fresh n) cs)
+  pub session-log : logAfter log cs ≡ logIn (after (fresh n) cs)
   session-log = let (e, s) = fresh-log n log f in ap (λ l. logAfter l cs) e ∙ after-log (fresh n) s cs
 
-  session-sound : SoundIn (after (fresh n) cs)
+  pub session-sound : SoundIn (after (fresh n) cs)
   session-sound = after-sound (fresh n) (fresh-log n log f .1) cs
 
   session-given : (s : List ℕ) → Given (logAfter log cs) s → Given (logIn (after (fresh n) cs)) s

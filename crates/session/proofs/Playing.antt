@@ -1,6 +1,7 @@
 -- Playing a session's log is playing its history; and nothing typed is lost in the texts that are played from logs.
 use Prim.Native.Nat.{ℕ, _≤_}
 use mathlib.Core.Path.{_≡_, sym, ap, _∙_, subst, subst₂}
+use mathlib.Core.Logic.{_↔_}
 use mathlib.Core.Bool.{Bool, false, _&&_}
 use mathlib.Core.List.{List, [], _∷_, _++_}
 use lib.Dec.{T, eqb, leb}
@@ -25,12 +26,13 @@ use Rattle.log.proofs.Logs.{start-log, revisions-log, readable-log, read-sound}
 use Rattle.session.specs.Rows.{playAll, longest, retainAll, composeAll, composesWithin}
 use Rattle.session.specs.Session.{summaryFault, summaryCall, played, playFault, playCall}
 use Rattle.session.specs.History.{History, fresh, logIn, historyPlay}
-use Rattle.session.specs.Demand.{Fresh, Call, accept, logAfter, fedCall, after}
+use Rattle.session.specs.Demand.{Fresh, Given, Call, accept, logAfter, fedCall, after}
 use Rattle.session.specs.Keeping.{carryAll, newest, Spared}
 use Rattle.session.proofs.Rows.{summary, summary-built, summary-base, summary-plays}
 use Rattle.session.proofs.Accepting.{SoundIn}
 use Rattle.session.proofs.Running.{fed-start, fed-sound, left-log, after-sound, after-start, after-log, fresh-log}
 use Rattle.session.proofs.Meeting.{revisions-in, goes-fed}
+use Rattle.session.proofs.Demands.{session-log, session-sound, demand3}
 use Rattle.session.proofs.Keeping.{nothing-lost, typed-stands}
 use Rattle.answers.specs.Given.{given}
 use Rattle.operational_transform.proofs.Laws.{wrote-given, apply-encoded}
@@ -85,14 +87,8 @@ module _ (log t x p : List ℕ) where
 -- ---- lists of calls on a fresh session
 
 module _ (n : ℕ) (log : List ℕ) (f : Fresh n log) where
-  session-log : (cs : List Call) → logAfter log cs ≡ logIn (after (fresh n) cs)
-  session-log cs = let (e, s) = fresh-log n log f in ap (λ l. logAfter l cs) e ∙ after-log (fresh n) s cs
-
-  session-sound : (cs : List Call) → SoundIn (after (fresh n) cs)
-  session-sound cs = after-sound (fresh n) (fresh-log n log f .1) cs
-
   pub play-session : (cs : List Call) (behind t : List ℕ) → played (logAfter log cs ++ behind) t ≡ historyPlay (after (fresh n) cs) t
-  play-session cs behind t = ap (λ l. played (l ++ behind) t) (session-log cs) ∙ play-log (after (fresh n) cs) behind t
+  play-session cs behind t = ap (λ l. played (l ++ behind) t) (session-log n log f cs) ∙ play-log (after (fresh n) cs) behind t
 
   -- the characters that the log's play gives
   plays : (l : List ℕ) (h : History) → l ≡ logIn h → (behind t : List ℕ) → chars (played (l ++ behind) t) ≡ playAll (h .edits) (chars t)
@@ -123,15 +119,15 @@ module _ (n : ℕ) (log : List ℕ) (f : Fresh n log) where
     nothing-lost-played later behind behind′ ms new spared =
         let es = h .edits in
         let there = logAfter here later in
-        let R : revisions here ≡ es = ap revisions (session-log before) ∙ revisions-in h in
-        let L : there ≡ logIn (after h later) = ap (λ l. logAfter l later) (session-log before) ∙ after-log h (session-sound before) later in
+        let R : revisions here ≡ es = ap revisions (session-log n log f before) ∙ revisions-in h in
+        let L : there ≡ logIn (after h later) = ap (λ l. logAfter l later) (session-log n log f before) ∙ after-log h (session-sound n log f before) later in
         let Q : revisions there ≡ after h later .edits = ap revisions L ∙ revisions-in (after h later) in
         let new′ : Within ms (newest (h .start) es) =
         subst₂ (λ (k : ℕ) (vs : List Seq). Within ms (newest k vs)) (sym (after-start (fresh n) before)) R new in
         let spared′ : Spared (length es) ms h later = rw R at spared in
         (λ i. marked (carryAll false (drop (length (R i)) (Q i)) ms) (plays there (after h later) L behind t i))
         ∙ nothing-lost n small before later ms new′ spared′ (chars t) as-long
-        ∙ ap (marked ms) (sym (plays here h (session-log before) behind′ t))
+        ∙ ap (marked ms) (sym (plays here h (session-log n log f before) behind′ t))
 
     -- the text that the later log plays has what an accepted edit types, word for word
     pub typed-stands-played : (c : Call) (later : List Call) (behind : List ℕ) →
@@ -142,12 +138,12 @@ module _ (n : ℕ) (log : List ℕ) (f : Fresh n log) where
         T (succeeds (accept here c .answer)) → Spared k ms (fedCall h c .history) later
         → marked (carryAll false (drop k (revisions there)) ms) (chars (played (there ++ behind) t)) ≡ typed (ops (c .edit))
     typed-stands-played c later behind goes-through spared =
-        let s = session-sound before in
+        let s = session-sound n log f before in
         let g = fedCall h c .history in
         let next = logAfter here (c ∷ []) in
         let there = logAfter next later in
-        let w = goes-fed h s c (subst (λ (l : List ℕ). T (succeeds (accept l c .answer))) (session-log before) goes-through) in
-        let N : next ≡ logIn g = ap (λ l. contents (accept l c .outA)) (session-log before) ∙ left-log h c s in
+        let w = goes-fed h s c (subst (λ (l : List ℕ). T (succeeds (accept l c .answer))) (session-log n log f before) goes-through) in
+        let N : next ≡ logIn g = ap (λ l. contents (accept l c .outA)) (session-log n log f before) ∙ left-log h c s in
         let R : revisions next ≡ g .edits = ap revisions N ∙ revisions-in g in
         let L : there ≡ logIn (after g later) = ap (λ l. logAfter l later) N ∙ after-log g (fed-sound h c s) later in
         let Q : revisions there ≡ after g later .edits = ap revisions L ∙ revisions-in (after g later) in
@@ -156,3 +152,15 @@ module _ (n : ℕ) (log : List ℕ) (f : Fresh n log) where
         subst₂ (λ (k : ℕ) (vs : List Seq). Spared (length vs) (newest k vs) g later) start R spared in
         (λ i. marked (carryAll false (drop (length (R i)) (Q i)) (newest (start i) (R i))) (plays there (after g later) L behind t i))
         ∙ typed-stands n small before c later (rw (w .told) tt) spared′ (chars t) as-long
+
+-- two summaries that are given are equal exactly where the two logs play alike on every text of the starting length
+pub summaries-tell-played : (n : ℕ) (log log′ : List ℕ) → Fresh n log → Fresh n log′ → (cs ds : List Call) (behind behind′ s t : List ℕ)
+    → Given (logAfter log cs) s → Given (logAfter log′ ds) t
+    → (s ≡ t) ↔ ((text : List ℕ) → T (wellFormed text) → numChars text ≡ n → played (logAfter log cs ++ behind) text ≡ played (logAfter log′ ds ++ behind′) text)
+summaries-tell-played n log log′ f f′ cs ds behind behind′ s t g g′ =
+    let (to, from) = demand3 .summaries-tell n log log′ f f′ cs ds s t g g′ in
+    let here = play-session n log f cs behind in
+    let there = play-session n log′ f′ ds behind′ in (
+      λ e text w l. here text ∙ to e text w l ∙ sym (there text),
+      λ same. from (λ text w l. sym (here text) ∙ same text w l ∙ there text),
+    )
