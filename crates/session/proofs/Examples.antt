@@ -70,6 +70,8 @@ pub record Sample : Type 0 where
   pub here-given : Given (logAfter here (late ∷ [])) sum
   pub there-given : Given (logAfter opened (again late lent ∷ then)) sum
 
+-- Without such a sample nothing would say that the hypotheses of demand 3's clause "the copies meet" can be met: the clause could be
+-- true for want of any case.
 pub sample : Sample
 unfolding openCall acceptCall summaryCall contents compose isCont leadOf
 sample = record {
@@ -107,6 +109,7 @@ pub record Stands : Type 0 where
   pub all-in : length (after typing (retypes ∷ knows ∷ []) .edits) ≡ 3
   pub spared : Spared 1 (newest 2 (typing .edits)) typing (retypes ∷ knows ∷ [])
 
+-- And this keeps "nothing typed is lost" from being vacuous: there are calls that its hypotheses allow.
 pub stands : Stands
 unfolding historyAccept isCont leadOf
 stands = record {
