@@ -91,16 +91,16 @@ fn call(
         3 => relay(kept, rooms, log),
         4 => open(number, rooms, log),
         5 => put(x, number as usize, log),
-        _ => ask(name, x, room, rooms, log),
+        _ => ask(name, x, number, room, rooms, log),
     }
 }
 
 // Calls that leave the log alone.
-fn ask(name: u8, x: &[u8], room: usize, rooms: usize, log: &[u8]) {
+fn ask(name: u8, x: &[u8], number: u64, room: usize, rooms: usize, log: &[u8]) {
     match name {
         6 => tell::log(log),
         7 => summary(log, rooms),
-        8 => play(log, x, room, rooms),
+        8 => play(log, x, room, second(number, room), rooms),
         _ => show::text(b"no such call"),
     }
 }
@@ -256,19 +256,26 @@ fn summary_in(log: &[u8], out: &mut [u8]) {
     tell::summed(w, out);
 }
 
-fn play(log: &[u8], text: &[u8], room: usize, rooms: usize) {
+// How many bytes the second scratch buffer has: as many as the first, unless the line has a number for it.
+fn second(number: u64, room: usize) -> usize {
+    if number == 0 { room } else { number as usize }
+}
+
+fn play(log: &[u8], text: &[u8], room: usize, other: usize, rooms: usize) {
     let mut out = untouched();
     let mut x = untouched();
     let mut y = untouched();
     if rooms <= 40000 {
         if room <= 40000 {
-            play_in(
-                log,
-                text,
-                &mut x[0..room],
-                &mut y[0..room],
-                &mut out[0..rooms],
-            );
+            if other <= 40000 {
+                play_in(
+                    log,
+                    text,
+                    &mut x[0..room],
+                    &mut y[0..other],
+                    &mut out[0..rooms],
+                );
+            }
         }
     }
 }

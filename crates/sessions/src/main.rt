@@ -10,6 +10,7 @@
 //                                  revision, up to the first that is refused
 //     a.summary >50                the summary, with an output of 50 bytes
 //     a.play "guest" >80 >60       plays the log, with scratch buffers of 80 bytes and an output of 60
+//     a.play "guest" #70 >80 >60   the same, with 70 bytes in the second scratch buffer
 //     a.put 07 #4                  writes the byte 07 at place 4 of the log, past all calls
 //     a.show                       the log: its contents, and the whole buffer of 40,000 bytes
 //
