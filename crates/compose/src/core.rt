@@ -7,8 +7,9 @@ ghost use mathlib.Core.Path.{_≡_};
 ghost use Prim.Native.Nat.{_^_, _≤_};
 ghost use Rattle.edits.specs.Compose.{compose as composeOf};
 ghost use Rattle.answers.specs.InnerGiven.{Gives};
-ghost use Rattle.record.specs.Layout.{opCountOf, baseOf, targetOf, maxOps};
+ghost use Rattle.record.specs.Layout.{baseOf, targetOf};
 ghost use Rattle.record.specs.Record.{ops, recordFault};
+ghost use Rattle.steps.specs.InnerSteps.{Operands};
 ghost use Rattle.operational_transform.specs.Calls.{composeCall};
 ghost use Rattle.emitter.specs.InnerEmit.{Done, Writes, Under, Staged};
 ghost use Rattle.compose.specs.InnerSized.{between};
@@ -31,8 +32,7 @@ pub struct Sizes {
 
 // All of compose, for a result of n records.
 fn compose_into(a: &[u8], na: usize, b: &[u8], nb: usize, out: &mut [u8], n: usize) -> Sizes
-    requires { ⌜ (na ≡ opCountOf (now a)) × (na ≤ maxOps) × (nb ≡ opCountOf (now b)) × (nb ≤ maxOps) × (n ≤ 2 ^ 40)
-        × (recordFault (now a) ≡ 0) × (recordFault (now b) ≡ 0) × (targetOf (now a) ≡ baseOf (now b)) ⌝ }
+    requires { ⌜ Operands na nb (now a) (now b) × (n ≤ 2 ^ 40) × (targetOf (now a) ≡ baseOf (now b)) ⌝ }
     ensures { λ r. ⌜ Done n (composeOf (ops (now (a .entry))) (ops (now (b .entry)))) (now (out .entry))
         (between (now (a .entry)) (now (b .entry)) r) (now (out .exit)) ⌝ }
 {
@@ -66,8 +66,7 @@ fn sized(a: &[u8], b: &[u8], z: Sizes) -> Emitter
 
 // The record of a result of n records.
 fn write(a: &[u8], na: usize, b: &[u8], nb: usize, out: &mut [u8], n: usize)
-    requires { ⌜ (na ≡ opCountOf (now a)) × (na ≤ maxOps) × (nb ≡ opCountOf (now b)) × (nb ≤ maxOps) × (n ≤ 2 ^ 40)
-        × (recordFault (now a) ≡ 0) × (recordFault (now b) ≡ 0) × (targetOf (now a) ≡ baseOf (now b)) ⌝ }
+    requires { ⌜ Operands na nb (now a) (now b) × (n ≤ 2 ^ 40) × (targetOf (now a) ≡ baseOf (now b)) ⌝ }
     ensures { λ _. ⌜ Writes n (composeOf (ops (now (a .entry))) (ops (now (b .entry)))) (now (out .entry)) (now (out .exit)) ⌝ }
 {
     let z = compose_into(a, na, b, nb, out, n);
@@ -86,8 +85,7 @@ fn place(
     e: Emitter,
     out: &mut [u8],
 )
-    requires { ⌜ (na ≡ opCountOf (now a)) × (na ≤ maxOps) × (nb ≡ opCountOf (now b)) × (nb ≤ maxOps) × (recordFault (now a) ≡ 0)
-        × (recordFault (now b) ≡ 0) × (slots ≤ 2048) × (targetOf (now a) ≡ baseOf (now b)) × Under (2 ^ 40) e
+    requires { ⌜ Operands na nb (now a) (now b) × (slots ≤ 2048) × (targetOf (now a) ≡ baseOf (now b)) × Under (2 ^ 40) e
         × Staged slots (composeOf (ops (now a)) (ops (now b))) e (now stage) ⌝ }
     ensures { λ _. ⌜ Writes (e .ops) (composeOf (ops (now (a .entry))) (ops (now (b .entry)))) (now (out .entry)) (now (out .exit)) ⌝ }
 {
@@ -109,8 +107,7 @@ fn staged(
     slots: usize,
     out: &mut [u8],
 ) -> Written
-    requires { ⌜ (na ≡ opCountOf (now a)) × (na ≤ maxOps) × (nb ≡ opCountOf (now b)) × (nb ≤ maxOps) × (recordFault (now a) ≡ 0)
-        × (recordFault (now b) ≡ 0) × (slots ≤ 2048) × (targetOf (now a) ≡ baseOf (now b)) ⌝ }
+    requires { ⌜ Operands na nb (now a) (now b) × (slots ≤ 2048) × (targetOf (now a) ≡ baseOf (now b)) ⌝ }
     ensures { λ r. ⌜ Gives (composeCall (now (a .entry)) (now (b .entry)) (now (out .entry))) r (now (out .exit)) ⌝ }
 {
     // made anew, since a slice that is handed on as it came is copied, and the copy waits for its bytes
@@ -128,8 +125,7 @@ fn staged(
 // With stages of several lengths: what is cleared is paid for. (The answer is taken apart because one that is handed on whole is
 // copied, and the copy waits for the bytes.)
 fn in_small_stage(a: &[u8], na: usize, b: &[u8], nb: usize, out: &mut [u8]) -> Written
-    requires { ⌜ (na ≡ opCountOf (now a)) × (na ≤ maxOps) × (nb ≡ opCountOf (now b)) × (nb ≤ maxOps) × (recordFault (now a) ≡ 0)
-        × (recordFault (now b) ≡ 0) × (targetOf (now a) ≡ baseOf (now b)) ⌝ }
+    requires { ⌜ Operands na nb (now a) (now b) × (targetOf (now a) ≡ baseOf (now b)) ⌝ }
     ensures { λ r. ⌜ Gives (composeCall (now (a .entry)) (now (b .entry)) (now (out .entry))) r (now (out .exit)) ⌝ }
 {
     let mut stage = [0u8; SMALL_STAGE];
@@ -140,8 +136,7 @@ fn in_small_stage(a: &[u8], na: usize, b: &[u8], nb: usize, out: &mut [u8]) -> W
 }
 
 fn in_medium_stage(a: &[u8], na: usize, b: &[u8], nb: usize, out: &mut [u8]) -> Written
-    requires { ⌜ (na ≡ opCountOf (now a)) × (na ≤ maxOps) × (nb ≡ opCountOf (now b)) × (nb ≤ maxOps) × (recordFault (now a) ≡ 0)
-        × (recordFault (now b) ≡ 0) × (targetOf (now a) ≡ baseOf (now b)) ⌝ }
+    requires { ⌜ Operands na nb (now a) (now b) × (targetOf (now a) ≡ baseOf (now b)) ⌝ }
     ensures { λ r. ⌜ Gives (composeCall (now (a .entry)) (now (b .entry)) (now (out .entry))) r (now (out .exit)) ⌝ }
 {
     let mut stage = [0u8; MEDIUM_STAGE];
@@ -152,8 +147,7 @@ fn in_medium_stage(a: &[u8], na: usize, b: &[u8], nb: usize, out: &mut [u8]) -> 
 }
 
 fn in_large_stage(a: &[u8], na: usize, b: &[u8], nb: usize, slots: usize, out: &mut [u8]) -> Written
-    requires { ⌜ (na ≡ opCountOf (now a)) × (na ≤ maxOps) × (nb ≡ opCountOf (now b)) × (nb ≤ maxOps) × (recordFault (now a) ≡ 0)
-        × (recordFault (now b) ≡ 0) × (slots ≤ 2048) × (targetOf (now a) ≡ baseOf (now b)) ⌝ }
+    requires { ⌜ Operands na nb (now a) (now b) × (slots ≤ 2048) × (targetOf (now a) ≡ baseOf (now b)) ⌝ }
     ensures { λ r. ⌜ Gives (composeCall (now (a .entry)) (now (b .entry)) (now (out .entry))) r (now (out .exit)) ⌝ }
 {
     let mut stage = [0u8; LARGE_STAGE];

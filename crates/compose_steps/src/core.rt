@@ -16,12 +16,11 @@ ghost use Rattle.record.specs.Layout.{opCountOf, deleteKind, insertKind, retain
 ghost use Rattle.record.specs.InnerFront.{Stands, frontOp, Cut};
 ghost use Rattle.emitter.specs.InnerEmit.{Under, Adds};
 ghost use Rattle.steps.specs.declared.core.Turn.the-variants.{First, Second, Together};
-ghost use Rattle.steps.specs.InnerSteps.{Chooses, Went, liveIs};
+ghost use Rattle.steps.specs.InnerSteps.{Operands, Ready, Chooses, Went, liveIs};
 
 // A delete of the first goes before all else.
 fn delete_first(a: &[u8], na: usize, b: &[u8], out: &mut [u8], n: usize, s: State) -> State
-    requires { ⌜ (na ≡ opCountOf (now a)) × (n ≤ 2 ^ 40) × Under (2 ^ 38) (s .e) × Stands (now a) (s .x) × Stands (now b) (s .y)
-        × Chooses composeTurn (now a) (now b) (s .x) (s .y) First ⌝ }
+    requires { ⌜ (na ≡ opCountOf (now a)) × Ready n (now a) (now b) s × Chooses composeTurn (now a) (now b) (s .x) (s .y) First ⌝ }
     ensures { λ r. ⌜ Went composeTurn made n (now (a .entry)) (now (b .entry)) s (now (out .entry)) r (now (out .exit)) ⌝ }
 {
     let x = s.x;
@@ -75,8 +74,8 @@ fn text_of_first(
 
 // An insert of the second.
 fn insert_second(a: &[u8], b: &[u8], nb: usize, out: &mut [u8], n: usize, s: State) -> State
-    requires { ⌜ (nb ≡ opCountOf (now b)) × (n ≤ 2 ^ 40) × Under (2 ^ 38) (s .e) × Stands (now a) (s .x) × Stands (now b) (s .y)
-        × Chooses composeTurn (now a) (now b) (s .x) (s .y) Second × (s .y .kind ≡ insertKind) ⌝ }
+    requires { ⌜ (nb ≡ opCountOf (now b)) × Ready n (now a) (now b) s × Chooses composeTurn (now a) (now b) (s .x) (s .y) Second
+        × (s .y .kind ≡ insertKind) ⌝ }
     ensures { λ r. ⌜ Went composeTurn made n (now (a .entry)) (now (b .entry)) s (now (out .entry)) r (now (out .exit)) ⌝ }
 {
     let x = s.x;
@@ -91,8 +90,7 @@ fn insert_second(a: &[u8], b: &[u8], nb: usize, out: &mut [u8], n: usize, s: Sta
 
 // What is left of the second, where the first has ended.
 fn only_second(a: &[u8], b: &[u8], nb: usize, out: &mut [u8], n: usize, s: State) -> State
-    requires { ⌜ (nb ≡ opCountOf (now b)) × (n ≤ 2 ^ 40) × Under (2 ^ 38) (s .e) × Stands (now a) (s .x) × Stands (now b) (s .y)
-        × Chooses composeTurn (now a) (now b) (s .x) (s .y) Second ⌝ }
+    requires { ⌜ (nb ≡ opCountOf (now b)) × Ready n (now a) (now b) s × Chooses composeTurn (now a) (now b) (s .x) (s .y) Second ⌝ }
     ensures { λ r. ⌜ Went composeTurn made n (now (a .entry)) (now (b .entry)) s (now (out .entry)) r (now (out .exit)) ⌝ }
 {
     let x = s.x;
@@ -107,8 +105,7 @@ fn only_second(a: &[u8], b: &[u8], nb: usize, out: &mut [u8], n: usize, s: State
 
 // What is left of the first, where the second has ended.
 fn only_first(a: &[u8], na: usize, b: &[u8], out: &mut [u8], n: usize, s: State) -> State
-    requires { ⌜ (na ≡ opCountOf (now a)) × (n ≤ 2 ^ 40) × Under (2 ^ 38) (s .e) × Stands (now a) (s .x) × Stands (now b) (s .y)
-        × Chooses composeTurn (now a) (now b) (s .x) (s .y) First ⌝ }
+    requires { ⌜ (na ≡ opCountOf (now a)) × Ready n (now a) (now b) s × Chooses composeTurn (now a) (now b) (s .x) (s .y) First ⌝ }
     ensures { λ r. ⌜ Went composeTurn made n (now (a .entry)) (now (b .entry)) s (now (out .entry)) r (now (out .exit)) ⌝ }
 {
     let x = s.x;
@@ -123,8 +120,8 @@ fn only_first(a: &[u8], na: usize, b: &[u8], out: &mut [u8], n: usize, s: State)
 
 // As many characters of both: what the first retains, the second retains or deletes.
 fn retained(a: &[u8], na: usize, b: &[u8], nb: usize, out: &mut [u8], n: usize, s: State) -> State
-    requires { ⌜ (na ≡ opCountOf (now a)) × (nb ≡ opCountOf (now b)) × (n ≤ 2 ^ 40) × Under (2 ^ 38) (s .e) × Stands (now a) (s .x)
-        × Stands (now b) (s .y) × Chooses composeTurn (now a) (now b) (s .x) (s .y) Together × (s .x .kind ≡ retainKind) ⌝ }
+    requires { ⌜ Operands na nb (now a) (now b) × Ready n (now a) (now b) s
+        × Chooses composeTurn (now a) (now b) (s .x) (s .y) Together × (s .x .kind ≡ retainKind) ⌝ }
     ensures { λ r. ⌜ Went composeTurn made n (now (a .entry)) (now (b .entry)) s (now (out .entry)) r (now (out .exit)) ⌝ }
 {
     let x = s.x;
@@ -149,8 +146,8 @@ fn insert_retain(
     n: usize,
     s: State,
 ) -> State
-    requires { ⌜ (na ≡ opCountOf (now a)) × (nb ≡ opCountOf (now b)) × (n ≤ 2 ^ 40) × Under (2 ^ 38) (s .e) × Stands (now a) (s .x)
-        × Stands (now b) (s .y) × Chooses composeTurn (now a) (now b) (s .x) (s .y) Together × (s .x .kind ≡ insertKind) × (s .y .kind ≡ retainKind) ⌝ }
+    requires { ⌜ Operands na nb (now a) (now b) × Ready n (now a) (now b) s
+        × Chooses composeTurn (now a) (now b) (s .x) (s .y) Together × (s .x .kind ≡ insertKind) × (s .y .kind ≡ retainKind) ⌝ }
     ensures { λ r. ⌜ Went composeTurn made n (now (a .entry)) (now (b .entry)) s (now (out .entry)) r (now (out .exit)) ⌝ }
 {
     let x = s.x;
@@ -174,8 +171,8 @@ fn insert_delete(
     n: usize,
     s: State,
 ) -> State
-    requires { ⌜ (na ≡ opCountOf (now a)) × (nb ≡ opCountOf (now b)) × (n ≤ 2 ^ 40) × Under (2 ^ 38) (s .e) × Stands (now a) (s .x)
-        × Stands (now b) (s .y) × Chooses composeTurn (now a) (now b) (s .x) (s .y) Together × (s .x .kind ≡ insertKind) × (s .y .kind ≡ deleteKind) ⌝ }
+    requires { ⌜ Operands na nb (now a) (now b) × Ready n (now a) (now b) s
+        × Chooses composeTurn (now a) (now b) (s .x) (s .y) Together × (s .x .kind ≡ insertKind) × (s .y .kind ≡ deleteKind) ⌝ }
     ensures { λ r. ⌜ Went composeTurn made n (now (a .entry)) (now (b .entry)) s (now (out .entry)) r (now (out .exit)) ⌝ }
 {
     let x = s.x;
@@ -190,8 +187,7 @@ fn insert_delete(
 }
 
 fn step_both(a: &[u8], na: usize, b: &[u8], nb: usize, out: &mut [u8], n: usize, s: State) -> State
-    requires { ⌜ (na ≡ opCountOf (now a)) × (nb ≡ opCountOf (now b)) × (n ≤ 2 ^ 40) × Under (2 ^ 38) (s .e) × Stands (now a) (s .x)
-        × Stands (now b) (s .y) × Chooses composeTurn (now a) (now b) (s .x) (s .y) Together ⌝ }
+    requires { ⌜ Operands na nb (now a) (now b) × Ready n (now a) (now b) s × Chooses composeTurn (now a) (now b) (s .x) (s .y) Together ⌝ }
     ensures { λ r. ⌜ Went composeTurn made n (now (a .entry)) (now (b .entry)) s (now (out .entry)) r (now (out .exit)) ⌝ }
 {
     let x = s.x;
@@ -207,8 +203,7 @@ fn step_both(a: &[u8], na: usize, b: &[u8], nb: usize, out: &mut [u8], n: usize,
 
 // One step. A delete of the first goes before an insert of the second.
 pub fn step(a: &[u8], na: usize, b: &[u8], nb: usize, out: &mut [u8], n: usize, s: State) -> State
-    requires { ⌜ (na ≡ opCountOf (now a)) × (nb ≡ opCountOf (now b)) × (n ≤ 2 ^ 40) × Under (2 ^ 38) (s .e) × Stands (now a) (s .x)
-        × Stands (now b) (s .y) × (liveIs (s .x) (s .y) ≡ true) ⌝ }
+    requires { ⌜ Operands na nb (now a) (now b) × Ready n (now a) (now b) s × (liveIs (s .x) (s .y) ≡ true) ⌝ }
     ensures { λ r. ⌜ Went composeTurn made n (now (a .entry)) (now (b .entry)) s (now (out .entry)) r (now (out .exit)) ⌝ }
 {
     let x = s.x;

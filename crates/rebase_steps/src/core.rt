@@ -11,17 +11,14 @@ ghost use lib.ListN.{length};
 ghost use mathlib.Core.Bool.{true};
 ghost use Rattle.characters.specs.Order.{order};
 ghost use Rattle.edits.specs.Transform.{transformTurn};
-ghost use Rattle.record.specs.Layout.{opCountOf, maxOps, textStart};
-ghost use Rattle.record.specs.Record.{recordFault};
-ghost use Rattle.record.specs.InnerFront.{Stands, Cut};
+ghost use Rattle.record.specs.InnerFront.{Cut};
 ghost use Rattle.emitter.specs.InnerEmit.{Under};
-ghost use Rattle.steps.specs.InnerBoth.{BegunBoth, FirstBoth, SecondBoth, Meets, TogetherBoth, WentBoth, Ends};
-ghost use Rattle.steps.specs.InnerSteps.{liveIs, Chooses};
+ghost use Rattle.steps.specs.InnerBoth.{Fed, ReadyBoth, BegunBoth, FirstBoth, SecondBoth, Meets, TogetherBoth, WentBoth, Ends};
+ghost use Rattle.steps.specs.InnerSteps.{Operands, liveIs, Chooses};
 
 // Before the first step past a revision: of the edit's side and of the counterpart nothing was emitted.
 pub fn begin(cur: &[u8], na: usize, rec: &[u8], nb: usize) -> Both
-    requires { ⌜ (na ≡ opCountOf (now cur)) × (na ≤ maxOps) × (nb ≡ opCountOf (now rec)) × (nb ≤ maxOps) × (recordFault (now cur) ≡ 0)
-        × (recordFault (now rec) ≡ 0) ⌝ }
+    requires { ⌜ Operands na nb (now cur) (now rec) ⌝ }
     ensures { λ r. ⌜ BegunBoth (now (cur .entry)) (now (rec .entry)) r ⌝ }
 {
     let s = steps::core::begin(cur, na, rec, nb);
@@ -42,8 +39,7 @@ pub fn goes_on(b: Both) -> bool
 
 // The edit's operation goes by itself: the counterpart retains what it gives.
 fn step_edit(cur: &[u8], na: usize, next: &mut [u8], slots: usize, b: Both) -> Both
-    requires { ⌜ (na ≡ opCountOf (now cur)) × (slots ≤ 2 ^ 40) × Under (2 ^ 38) (b .e) × Under (2 ^ 38) (b .f) × Stands (now cur) (b .x)
-        × (0 < b .x .kind) × (length (now next) ≤ textStart slots) ⌝ }
+    requires { ⌜ Fed na slots (now cur) (b .x) b (now next) ⌝ }
     ensures { λ r. ⌜ FirstBoth slots (now (cur .entry)) b (now (next .entry)) r (now (next .exit)) ⌝ }
 {
     let x = b.x;
@@ -60,8 +56,7 @@ fn step_edit(cur: &[u8], na: usize, next: &mut [u8], slots: usize, b: Both) -> B
 
 // The revision's.
 fn step_revision(rec: &[u8], nb: usize, side: &mut [u8], slots: usize, b: Both) -> Both
-    requires { ⌜ (nb ≡ opCountOf (now rec)) × (slots ≤ 2 ^ 40) × Under (2 ^ 38) (b .e) × Under (2 ^ 38) (b .f) × Stands (now rec) (b .y)
-        × (0 < b .y .kind) × (length (now side) ≤ textStart slots) ⌝ }
+    requires { ⌜ Fed nb slots (now rec) (b .y) b (now side) ⌝ }
     ensures { λ r. ⌜ SecondBoth slots (now (rec .entry)) b (now (side .entry)) r (now (side .exit)) ⌝ }
 {
     let x = b.x;
@@ -86,10 +81,9 @@ fn emit_both(
     b: Both,
     k: usize,
 ) -> Pair
-    requires { ⌜ (slots ≤ 2 ^ 40) × Under (2 ^ 38) (b .e) × Under (2 ^ 38) (b .f) × Stands (now cur) (b .x) × Stands (now rec) (b .y)
-        × (0 < k) × (k ≤ b .x .left) × (k ≤ b .y .left) × Cut (now cur) (b .x) k (b .x .to) × Cut (now rec) (b .y) k (b .y .to)
-        × Chooses (transformTurn order) (now cur) (now rec) (b .x) (b .y) Turn.Together × (length (now next) ≤ textStart slots)
-        × (length (now side) ≤ textStart slots) ⌝ }
+    requires { ⌜ ReadyBoth slots slots (now cur) (now rec) b (now next) (now side) × (0 < k) × (k ≤ b .x .left) × (k ≤ b .y .left)
+        × Cut (now cur) (b .x) k (b .x .to) × Cut (now rec) (b .y) k (b .y .to)
+        × Chooses (transformTurn order) (now cur) (now rec) (b .x) (b .y) Turn.Together ⌝ }
     ensures { λ r. ⌜ Meets slots slots (now (cur .entry)) (now (rec .entry)) b k (now (next .entry)) (now (side .entry)) r
         (now (next .exit)) (now (side .exit)) ⌝ }
 {
@@ -132,9 +126,8 @@ fn step_both(
     slots: usize,
     b: Both,
 ) -> Both
-    requires { ⌜ (na ≡ opCountOf (now cur)) × (nb ≡ opCountOf (now rec)) × (slots ≤ 2 ^ 40) × Under (2 ^ 38) (b .e) × Under (2 ^ 38) (b .f)
-        × Stands (now cur) (b .x) × Stands (now rec) (b .y) × Chooses (transformTurn order) (now cur) (now rec) (b .x) (b .y) Turn.Together
-        × (length (now next) ≤ textStart slots) × (length (now side) ≤ textStart slots) ⌝ }
+    requires { ⌜ Operands na nb (now cur) (now rec) × ReadyBoth slots slots (now cur) (now rec) b (now next) (now side)
+        × Chooses (transformTurn order) (now cur) (now rec) (b .x) (b .y) Turn.Together ⌝ }
     ensures { λ r. ⌜ TogetherBoth slots slots (now (cur .entry)) (now (rec .entry)) b (now (next .entry)) (now (side .entry)) r
         (now (next .exit)) (now (side .exit)) ⌝ }
 {
@@ -160,9 +153,8 @@ pub fn step(
     slots: usize,
     b: Both,
 ) -> Both
-    requires { ⌜ (na ≡ opCountOf (now cur)) × (nb ≡ opCountOf (now rec)) × (slots ≤ 2 ^ 40) × Under (2 ^ 38) (b .e) × Under (2 ^ 38) (b .f)
-        × Stands (now cur) (b .x) × Stands (now rec) (b .y) × (liveIs (b .x) (b .y) ≡ true) × (length (now next) ≤ textStart slots)
-        × (length (now side) ≤ textStart slots) ⌝ }
+    requires { ⌜ Operands na nb (now cur) (now rec) × ReadyBoth slots slots (now cur) (now rec) b (now next) (now side)
+        × (liveIs (b .x) (b .y) ≡ true) ⌝ }
     ensures { λ r. ⌜ WentBoth slots slots (now (cur .entry)) (now (rec .entry)) b (now (next .entry)) (now (side .entry)) r
         (now (next .exit)) (now (side .exit)) ⌝ }
 {

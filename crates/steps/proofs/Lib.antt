@@ -5,3 +5,4 @@ pub mod Looping
 pub mod Marking
 pub mod Turning
 pub mod Going
+pub mod Feeding

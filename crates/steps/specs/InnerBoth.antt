@@ -1,6 +1,6 @@
 -- What the functions below `transform` and `rebase` promise each other of both sides, which one run writes: one with places for m
 -- operations, the other for n. No entry's contract cites this.
-use Prim.Native.Nat.{ℕ, _^_, _≤_}
+use Prim.Native.Nat.{ℕ, _^_, _≤_, _<_}
 use mathlib.Core.Path.{_≡_}
 use mathlib.Core.List.{List}
 use lib.ListN.{length}
@@ -8,7 +8,9 @@ use Rattle.characters.specs.Order.{order}
 use Rattle.characters.specs.Text.{Char}
 use Rattle.edits.specs.Op.{target, cut}
 use Rattle.edits.specs.Transform.{past, keepBoth, transformTurn, lefts, Sides}
-use Rattle.record.specs.InnerFront.{frontOp}
+use Rattle.record.specs.declared.core.Front.{Front}
+use Rattle.record.specs.Layout.{opCountOf, textStart}
+use Rattle.record.specs.InnerFront.{frontOp, Stands}
 use Rattle.emitter.specs.declared.core.Emitter.{Emitter}
 use Rattle.emitter.specs.InnerEmit.{Finishes, Adds, Done, Writes, Marked, Under, Sizes}
 use Rattle.steps.specs.declared.core.Both.{Both}
@@ -17,6 +19,30 @@ use Rattle.steps.specs.declared.core.State.{State}
 use Rattle.steps.specs.InnerSteps.{Begun, Went}
 use Rattle.steps.specs.InnerSides.{FirstWent, SecondWent, BothWent}
 use Rattle.steps.specs.declared.core.Pair.{Pair}
+
+-- ---- what a step may take for granted
+
+-- of one record, whose front goes by itself: its number of operations, places for m operations in the output, sizes that can grow, and
+-- a front that stands in the record and isn't its end
+pub record Fed (na m : ℕ) (a : List ℕ) (x : Front) (s : Both) (o : List ℕ) : Type 0 where
+  pub count : na ≡ opCountOf a
+  pub slots-few : m ≤ 2 ^ 40
+  pub under-e : Under (2 ^ 38) (s .e)
+  pub under-f : Under (2 ^ 38) (s .f)
+  pub stands : Stands a x
+  pub live : 0 < x .kind
+  pub room : length o ≤ textStart m
+
+-- of both records
+pub record ReadyBoth (m n : ℕ) (a b : List ℕ) (s : Both) (o w : List ℕ) : Type 0 where
+  pub slots-left : m ≤ 2 ^ 40
+  pub slots-right : n ≤ 2 ^ 40
+  pub under-e : Under (2 ^ 38) (s .e)
+  pub under-f : Under (2 ^ 38) (s .f)
+  pub stands-x : Stands a (s .x)
+  pub stands-y : Stands b (s .y)
+  pub room-left : length o ≤ textStart m
+  pub room-right : length w ≤ textStart n
 
 -- ---- past one revision
 

@@ -1,7 +1,7 @@
 -- Steps over the fronts of two records. Only contracts of `core` and of the crates above cite this.
 use mathlib.Core.Bool.{Bool, not, _&&_}
 use lib.Dec.{eqb}
-use Prim.Native.Nat.{ℕ, _<_, _+_, _≤_}
+use Prim.Native.Nat.{ℕ, _<_, _+_, _^_, _≤_}
 use mathlib.Core.List.{List}
 use mathlib.Core.Path.{_≡_}
 use mathlib.Core.Logic.{_⊎_}
@@ -14,8 +14,9 @@ use Rattle.edits.specs.Sequence.{Seq}
 use Rattle.edits.specs.Build.{addAll}
 use Rattle.record.specs.declared.core.Front.{Front}
 use Rattle.record.specs.InnerFront.{frontOp, ahead, Stands}
-use Rattle.record.specs.Record.{ops}
-use Rattle.emitter.specs.InnerEmit.{nothing, Adds}
+use Rattle.record.specs.Layout.{opCountOf, maxOps}
+use Rattle.record.specs.Record.{ops, recordFault}
+use Rattle.emitter.specs.InnerEmit.{nothing, Adds, Under}
 use Rattle.steps.specs.declared.core.Turn.{Turn}
 use Rattle.steps.specs.declared.core.Turn.the-variants.{First, Second, Together}
 use Rattle.steps.specs.declared.core.State.{State}
@@ -37,6 +38,26 @@ Chosen turn a b x y Together = (0 < x .kind) × ((0 < y .kind) × (turn (frontOp
 
 pub record Chooses (turn : Op Char → Op Char → align.Turn) (a b : List ℕ) (x y : Front) (t : Turn) : Type 0 where
   pub chosen : Chosen turn a b x y t
+
+-- ---- what a step may take for granted
+
+-- two records that passed the check, and their numbers of operations
+pub record Operands (na nb : ℕ) (a b : List ℕ) : Type 0 where
+  pub count-a : na ≡ opCountOf a
+  pub few-a : na ≤ maxOps
+  pub count-b : nb ≡ opCountOf b
+  pub few-b : nb ≤ maxOps
+  pub passed-a : recordFault a ≡ 0
+  pub passed-b : recordFault b ≡ 0
+
+-- a result with places for n operations whose sizes can grow, and two fronts that stand in their records
+pub record Ready (n : ℕ) (a b : List ℕ) (s : State) : Type 0 where
+  pub slots-few : n ≤ 2 ^ 40
+  pub under : Under (2 ^ 38) (s .e)
+  pub stands-x : Stands a (s .x)
+  pub stands-y : Stands b (s .y)
+
+-- ---- the steps
 
 -- before the first step
 pub record Begun (a b : List ℕ) (s : State) : Type 0 where

@@ -13,10 +13,10 @@ ghost use Rattle.buffers.specs.InnerOver.{over};
 ghost use Rattle.characters.specs.Order.{byteOrder, order};
 ghost use Rattle.edits.specs.Transform.{transformTurn, transform as transformOf};
 ghost use Rattle.record.specs.InnerFront.{frontText, Stands};
-ghost use Rattle.record.specs.Layout.{baseOf, textStart, opCountOf, maxOps};
+ghost use Rattle.record.specs.Layout.{baseOf, textStart};
 ghost use Rattle.record.specs.Record.{ops, recordFault};
 ghost use Rattle.emitter.specs.InnerEmit.{Under, headed, relocatedOps};
-ghost use Rattle.steps.specs.InnerSteps.{liveIs, Chooses, Begun};
+ghost use Rattle.steps.specs.InnerSteps.{Operands, liveIs, Chooses, Begun};
 ghost use Rattle.steps.specs.InnerSides.{givesOf};
 ghost use Rattle.steps.specs.InnerBoth.{Counted, SizedBoth};
 
@@ -154,8 +154,7 @@ pub struct State {
 
 // The fronts of two whole records; nothing was emitted.
 pub fn begin(a: &[u8], na: usize, b: &[u8], nb: usize) -> State
-    requires { ⌜ (na ≡ opCountOf (now a)) × (na ≤ maxOps) × (nb ≡ opCountOf (now b)) × (nb ≤ maxOps) × (recordFault (now a) ≡ 0)
-        × (recordFault (now b) ≡ 0) ⌝ }
+    requires { ⌜ Operands na nb (now a) (now b) ⌝ }
     ensures { λ s. ⌜ Begun (now (a .entry)) (now (b .entry)) s ⌝ }
 {
     let x = reader::core::first_front(a, na);

@@ -12,16 +12,15 @@ ghost use Prim.Native.Nat.{_≤_, _^_, _+_, min};
 ghost use lib.ListN.{length};
 ghost use Rattle.characters.specs.Order.{order};
 ghost use Rattle.edits.specs.Transform.{transform as transformOf};
-ghost use Rattle.record.specs.Layout.{opCountOf, maxOps, textStart, baseOf};
+ghost use Rattle.record.specs.Layout.{maxOps, textStart, baseOf};
 ghost use Rattle.record.specs.Record.{recordFault, ops};
 ghost use Rattle.emitter.specs.InnerEmit.{Under, limitsThenRoomBoth};
 ghost use Rattle.steps.specs.InnerBoth.{BegunBoth, MarkedBoth};
-ghost use Rattle.steps.specs.InnerSteps.{liveIs};
+ghost use Rattle.steps.specs.InnerSteps.{Operands, liveIs};
 ghost use Rattle.transform.specs.InnerPairs.{Transforms};
 
 fn begin(a: &[u8], na: usize, b: &[u8], nb: usize) -> Both
-    requires { ⌜ (na ≡ opCountOf (now a)) × (na ≤ maxOps) × (nb ≡ opCountOf (now b)) × (nb ≤ maxOps) × (recordFault (now a) ≡ 0)
-        × (recordFault (now b) ≡ 0) ⌝ }
+    requires { ⌜ Operands na nb (now a) (now b) ⌝ }
     ensures { λ r. ⌜ BegunBoth (now (a .entry)) (now (b .entry)) r ⌝ }
 {
     let s = steps::core::begin(a, na, b, nb);
@@ -50,8 +49,7 @@ fn transform_into(
     stage_b: &mut [u8],
     slots: usize,
 ) -> Counts
-    requires { ⌜ (na ≡ opCountOf (now a)) × (na ≤ maxOps) × (nb ≡ opCountOf (now b)) × (nb ≤ maxOps) × (recordFault (now a) ≡ 0)
-        × (recordFault (now b) ≡ 0) × (slots ≤ 2 ^ 40) × (length (now «stage_a») ≤ textStart slots)
+    requires { ⌜ Operands na nb (now a) (now b) × (slots ≤ 2 ^ 40) × (length (now «stage_a») ≤ textStart slots)
         × (length (now «stage_b») ≤ textStart slots) ⌝ }
     ensures { λ r. ⌜ MarkedBoth slots (transformOf order (ops (now (a .entry))) (ops (now (b .entry)))) r (now («stage_a» .exit))
         (now («stage_b» .exit)) ⌝ }
@@ -106,9 +104,8 @@ fn staged(
     out_a: &mut [u8],
     out_b: &mut [u8],
 ) -> WrittenPair
-    requires { ⌜ (na ≡ opCountOf (now a)) × (na ≤ maxOps) × (nb ≡ opCountOf (now b)) × (nb ≤ maxOps) × (recordFault (now a) ≡ 0)
-        × (recordFault (now b) ≡ 0) × (slots ≤ maxOps) × (min (na + nb) maxOps ≤ slots) × (length (now «stage_a») ≡ textStart slots)
-        × (length (now «stage_b») ≡ textStart slots) × (baseOf (now a) ≡ baseOf (now b)) ⌝ }
+    requires { ⌜ Operands na nb (now a) (now b) × (slots ≤ maxOps) × (min (na + nb) maxOps ≤ slots)
+        × (length (now «stage_a») ≡ textStart slots) × (length (now «stage_b») ≡ textStart slots) × (baseOf (now a) ≡ baseOf (now b)) ⌝ }
     ensures { λ r. ⌜ Transforms (now (a .entry)) (now (b .entry)) (now («out_a» .entry)) (now («out_b» .entry)) r (now («out_a» .exit))
         (now («out_b» .exit)) ⌝ }
 {
@@ -147,14 +144,13 @@ fn in_small_stages(
     out_a: &mut [u8],
     out_b: &mut [u8],
 ) -> WrittenPair
-    requires { ⌜ (na ≡ opCountOf (now a)) × (na ≤ maxOps) × (nb ≡ opCountOf (now b)) × (nb ≤ maxOps) × (recordFault (now a) ≡ 0)
-        × (recordFault (now b) ≡ 0) × (na + nb ≤ 40) × (baseOf (now a) ≡ baseOf (now b)) ⌝ }
+    requires { ⌜ Operands na nb (now a) (now b) × (na + nb ≤ 40) × (baseOf (now a) ≡ baseOf (now b)) ⌝ }
     ensures { λ r. ⌜ Transforms (now (a .entry)) (now (b .entry)) (now («out_a» .entry)) (now («out_b» .entry)) r (now («out_a» .exit))
         (now («out_b» .exit)) ⌝ }
 {
     let mut stage_a = [0u8; SMALL_STAGE];
     let mut stage_b = [0u8; SMALL_STAGE];
-    match staged(
+    staged(
         a,
         na,
         b,
@@ -164,10 +160,7 @@ fn in_small_stages(
         SMALL_OPS,
         out_a,
         out_b,
-    ) {
-        WrittenPair::Bytes(k, l) => WrittenPair::Bytes(k, l),
-        WrittenPair::Refused(x) => WrittenPair::Refused(x),
-    }
+    )
 }
 
 fn in_medium_stages(
@@ -178,14 +171,13 @@ fn in_medium_stages(
     out_a: &mut [u8],
     out_b: &mut [u8],
 ) -> WrittenPair
-    requires { ⌜ (na ≡ opCountOf (now a)) × (na ≤ maxOps) × (nb ≡ opCountOf (now b)) × (nb ≤ maxOps) × (recordFault (now a) ≡ 0)
-        × (recordFault (now b) ≡ 0) × (na + nb ≤ 338) × (baseOf (now a) ≡ baseOf (now b)) ⌝ }
+    requires { ⌜ Operands na nb (now a) (now b) × (na + nb ≤ 338) × (baseOf (now a) ≡ baseOf (now b)) ⌝ }
     ensures { λ r. ⌜ Transforms (now (a .entry)) (now (b .entry)) (now («out_a» .entry)) (now («out_b» .entry)) r (now («out_a» .exit))
         (now («out_b» .exit)) ⌝ }
 {
     let mut stage_a = [0u8; MEDIUM_STAGE];
     let mut stage_b = [0u8; MEDIUM_STAGE];
-    match staged(
+    staged(
         a,
         na,
         b,
@@ -195,10 +187,7 @@ fn in_medium_stages(
         MEDIUM_OPS,
         out_a,
         out_b,
-    ) {
-        WrittenPair::Bytes(k, l) => WrittenPair::Bytes(k, l),
-        WrittenPair::Refused(x) => WrittenPair::Refused(x),
-    }
+    )
 }
 
 fn in_large_stages(
@@ -209,14 +198,13 @@ fn in_large_stages(
     out_a: &mut [u8],
     out_b: &mut [u8],
 ) -> WrittenPair
-    requires { ⌜ (na ≡ opCountOf (now a)) × (na ≤ maxOps) × (nb ≡ opCountOf (now b)) × (nb ≤ maxOps) × (recordFault (now a) ≡ 0)
-        × (recordFault (now b) ≡ 0) × (baseOf (now a) ≡ baseOf (now b)) ⌝ }
+    requires { ⌜ Operands na nb (now a) (now b) × (baseOf (now a) ≡ baseOf (now b)) ⌝ }
     ensures { λ r. ⌜ Transforms (now (a .entry)) (now (b .entry)) (now («out_a» .entry)) (now («out_b» .entry)) r (now («out_a» .exit))
         (now («out_b» .exit)) ⌝ }
 {
     let mut stage_a = [0u8; LARGE_STAGE];
     let mut stage_b = [0u8; LARGE_STAGE];
-    match staged(
+    staged(
         a,
         na,
         b,
@@ -226,10 +214,7 @@ fn in_large_stages(
         MAX_OPS,
         out_a,
         out_b,
-    ) {
-        WrittenPair::Bytes(k, l) => WrittenPair::Bytes(k, l),
-        WrittenPair::Refused(x) => WrittenPair::Refused(x),
-    }
+    )
 }
 
 // Of two records that were checked.

@@ -7,22 +7,19 @@ use steps::core::Both;
 use steps::core::Pair;
 use steps::core::Turn;
 ghost use mathlib.Core.Path.{_≡_};
-ghost use Prim.Native.Nat.{_^_, _≤_, _<_};
-ghost use lib.ListN.{length};
+ghost use Prim.Native.Nat.{_≤_, _<_};
 ghost use mathlib.Core.Bool.{false, true};
 ghost use lib.Dec.{eqb};
 ghost use Rattle.characters.specs.Order.{order};
 ghost use Rattle.edits.specs.Transform.{transformTurn};
-ghost use Rattle.record.specs.Layout.{opCountOf, textStart, insertKind};
-ghost use Rattle.record.specs.InnerFront.{Stands, Cut};
-ghost use Rattle.emitter.specs.InnerEmit.{Under};
-ghost use Rattle.steps.specs.InnerBoth.{FirstBoth, SecondBoth, Meets, TogetherBoth, WentBoth};
-ghost use Rattle.steps.specs.InnerSteps.{Chooses, liveIs};
+ghost use Rattle.record.specs.Layout.{insertKind};
+ghost use Rattle.record.specs.InnerFront.{Cut};
+ghost use Rattle.steps.specs.InnerBoth.{Fed, ReadyBoth, FirstBoth, SecondBoth, Meets, TogetherBoth, WentBoth};
+ghost use Rattle.steps.specs.InnerSteps.{Operands, Chooses, liveIs};
 
 // The first's operation goes by itself: the other side retains what it gives.
 fn step_first(a: &[u8], na: usize, out: &mut [u8], m: usize, s: Both) -> Both
-    requires { ⌜ (na ≡ opCountOf (now a)) × (m ≤ 2 ^ 40) × Under (2 ^ 38) (s .e) × Under (2 ^ 38) (s .f) × Stands (now a) (s .x)
-        × (0 < s .x .kind) × (length (now out) ≤ textStart m) ⌝ }
+    requires { ⌜ Fed na m (now a) (s .x) s (now out) ⌝ }
     ensures { λ r. ⌜ FirstBoth m (now (a .entry)) s (now (out .entry)) r (now (out .exit)) ⌝ }
 {
     let x = s.x;
@@ -39,8 +36,7 @@ fn step_first(a: &[u8], na: usize, out: &mut [u8], m: usize, s: Both) -> Both
 
 // The second's.
 fn step_second(b: &[u8], nb: usize, out: &mut [u8], n: usize, s: Both) -> Both
-    requires { ⌜ (nb ≡ opCountOf (now b)) × (n ≤ 2 ^ 40) × Under (2 ^ 38) (s .e) × Under (2 ^ 38) (s .f) × Stands (now b) (s .y)
-        × (0 < s .y .kind) × (length (now out) ≤ textStart n) ⌝ }
+    requires { ⌜ Fed nb n (now b) (s .y) s (now out) ⌝ }
     ensures { λ r. ⌜ SecondBoth n (now (b .entry)) s (now (out .entry)) r (now (out .exit)) ⌝ }
 {
     let x = s.x;
@@ -58,8 +54,7 @@ fn step_second(b: &[u8], nb: usize, out: &mut [u8], n: usize, s: Both) -> Both
 // The same for an insert where the other has none, and for the lesser of two inserts. Each is a copy of its own: a function with one
 // caller is taken into the loop, where the kind is known and the state stays in registers.
 fn insert_first(a: &[u8], na: usize, out: &mut [u8], m: usize, s: Both) -> Both
-    requires { ⌜ (na ≡ opCountOf (now a)) × (m ≤ 2 ^ 40) × Under (2 ^ 38) (s .e) × Under (2 ^ 38) (s .f) × Stands (now a) (s .x)
-        × (0 < s .x .kind) × (length (now out) ≤ textStart m) ⌝ }
+    requires { ⌜ Fed na m (now a) (s .x) s (now out) ⌝ }
     ensures { λ r. ⌜ FirstBoth m (now (a .entry)) s (now (out .entry)) r (now (out .exit)) ⌝ }
 {
     let x = s.x;
@@ -75,8 +70,7 @@ fn insert_first(a: &[u8], na: usize, out: &mut [u8], m: usize, s: Both) -> Both
 }
 
 fn lesser_first(a: &[u8], na: usize, out: &mut [u8], m: usize, s: Both) -> Both
-    requires { ⌜ (na ≡ opCountOf (now a)) × (m ≤ 2 ^ 40) × Under (2 ^ 38) (s .e) × Under (2 ^ 38) (s .f) × Stands (now a) (s .x)
-        × (0 < s .x .kind) × (length (now out) ≤ textStart m) ⌝ }
+    requires { ⌜ Fed na m (now a) (s .x) s (now out) ⌝ }
     ensures { λ r. ⌜ FirstBoth m (now (a .entry)) s (now (out .entry)) r (now (out .exit)) ⌝ }
 {
     let x = s.x;
@@ -92,8 +86,7 @@ fn lesser_first(a: &[u8], na: usize, out: &mut [u8], m: usize, s: Both) -> Both
 }
 
 fn insert_second(b: &[u8], nb: usize, out: &mut [u8], n: usize, s: Both) -> Both
-    requires { ⌜ (nb ≡ opCountOf (now b)) × (n ≤ 2 ^ 40) × Under (2 ^ 38) (s .e) × Under (2 ^ 38) (s .f) × Stands (now b) (s .y)
-        × (0 < s .y .kind) × (length (now out) ≤ textStart n) ⌝ }
+    requires { ⌜ Fed nb n (now b) (s .y) s (now out) ⌝ }
     ensures { λ r. ⌜ SecondBoth n (now (b .entry)) s (now (out .entry)) r (now (out .exit)) ⌝ }
 {
     let x = s.x;
@@ -109,8 +102,7 @@ fn insert_second(b: &[u8], nb: usize, out: &mut [u8], n: usize, s: Both) -> Both
 }
 
 fn lesser_second(b: &[u8], nb: usize, out: &mut [u8], n: usize, s: Both) -> Both
-    requires { ⌜ (nb ≡ opCountOf (now b)) × (n ≤ 2 ^ 40) × Under (2 ^ 38) (s .e) × Under (2 ^ 38) (s .f) × Stands (now b) (s .y)
-        × (0 < s .y .kind) × (length (now out) ≤ textStart n) ⌝ }
+    requires { ⌜ Fed nb n (now b) (s .y) s (now out) ⌝ }
     ensures { λ r. ⌜ SecondBoth n (now (b .entry)) s (now (out .entry)) r (now (out .exit)) ⌝ }
 {
     let x = s.x;
@@ -136,10 +128,9 @@ fn emit_both(
     s: Both,
     k: usize,
 ) -> Pair
-    requires { ⌜ (m ≤ 2 ^ 40) × (n ≤ 2 ^ 40) × Under (2 ^ 38) (s .e) × Under (2 ^ 38) (s .f) × Stands (now a) (s .x)
-        × Stands (now b) (s .y) × (0 < k) × (k ≤ s .x .left) × (k ≤ s .y .left) × Cut (now a) (s .x) k (s .x .to)
-        × Cut (now b) (s .y) k (s .y .to) × Chooses (transformTurn order) (now a) (now b) (s .x) (s .y) Turn.Together
-        × (eqb (s .y .kind) insertKind ≡ false) × (length (now «out_a») ≤ textStart m) × (length (now «out_b») ≤ textStart n) ⌝ }
+    requires { ⌜ ReadyBoth m n (now a) (now b) s (now «out_a») (now «out_b») × (0 < k) × (k ≤ s .x .left) × (k ≤ s .y .left)
+        × Cut (now a) (s .x) k (s .x .to) × Cut (now b) (s .y) k (s .y .to)
+        × Chooses (transformTurn order) (now a) (now b) (s .x) (s .y) Turn.Together × (eqb (s .y .kind) insertKind ≡ false) ⌝ }
     ensures { λ r. ⌜ Meets m n (now (a .entry)) (now (b .entry)) s k (now («out_a» .entry)) (now («out_b» .entry)) r (now («out_a» .exit))
         (now («out_b» .exit)) ⌝ }
 {
@@ -176,10 +167,8 @@ fn step_both(
     n: usize,
     s: Both,
 ) -> Both
-    requires { ⌜ (na ≡ opCountOf (now a)) × (nb ≡ opCountOf (now b)) × (m ≤ 2 ^ 40) × (n ≤ 2 ^ 40) × Under (2 ^ 38) (s .e)
-        × Under (2 ^ 38) (s .f) × Stands (now a) (s .x) × Stands (now b) (s .y)
-        × Chooses (transformTurn order) (now a) (now b) (s .x) (s .y) Turn.Together × (eqb (s .y .kind) insertKind ≡ false)
-        × (length (now «out_a») ≤ textStart m) × (length (now «out_b») ≤ textStart n) ⌝ }
+    requires { ⌜ Operands na nb (now a) (now b) × ReadyBoth m n (now a) (now b) s (now «out_a») (now «out_b»)
+        × Chooses (transformTurn order) (now a) (now b) (s .x) (s .y) Turn.Together × (eqb (s .y .kind) insertKind ≡ false) ⌝ }
     ensures { λ r. ⌜ TogetherBoth m n (now (a .entry)) (now (b .entry)) s (now («out_a» .entry)) (now («out_b» .entry)) r
         (now («out_a» .exit)) (now («out_b» .exit)) ⌝ }
 {
@@ -205,10 +194,9 @@ fn emit_equal(
     s: Both,
     k: usize,
 ) -> Pair
-    requires { ⌜ (m ≤ 2 ^ 40) × (n ≤ 2 ^ 40) × Under (2 ^ 38) (s .e) × Under (2 ^ 38) (s .f) × Stands (now a) (s .x)
-        × Stands (now b) (s .y) × (0 < k) × (k ≤ s .x .left) × (k ≤ s .y .left) × Cut (now a) (s .x) k (s .x .to)
-        × Cut (now b) (s .y) k (s .y .to) × Chooses (transformTurn order) (now a) (now b) (s .x) (s .y) Turn.Together × (s .y .kind ≡ insertKind)
-        × (length (now «out_a») ≤ textStart m) × (length (now «out_b») ≤ textStart n) ⌝ }
+    requires { ⌜ ReadyBoth m n (now a) (now b) s (now «out_a») (now «out_b») × (0 < k) × (k ≤ s .x .left) × (k ≤ s .y .left)
+        × Cut (now a) (s .x) k (s .x .to) × Cut (now b) (s .y) k (s .y .to)
+        × Chooses (transformTurn order) (now a) (now b) (s .x) (s .y) Turn.Together × (s .y .kind ≡ insertKind) ⌝ }
     ensures { λ r. ⌜ Meets m n (now (a .entry)) (now (b .entry)) s k (now («out_a» .entry)) (now («out_b» .entry)) r (now («out_a» .exit))
         (now («out_b» .exit)) ⌝ }
 {
@@ -236,10 +224,9 @@ fn equal_inserts(
     n: usize,
     s: Both,
 ) -> Both
-    requires { ⌜ (na ≡ opCountOf (now a)) × (nb ≡ opCountOf (now b)) × (m ≤ 2 ^ 40) × (n ≤ 2 ^ 40) × Under (2 ^ 38) (s .e)
-        × Under (2 ^ 38) (s .f) × Stands (now a) (s .x) × Stands (now b) (s .y)
-        × Chooses (transformTurn order) (now a) (now b) (s .x) (s .y) Turn.Together × (s .x .kind ≡ insertKind) × (s .y .kind ≡ insertKind)
-        × (length (now «out_a») ≤ textStart m) × (length (now «out_b») ≤ textStart n) ⌝ }
+    requires { ⌜ Operands na nb (now a) (now b) × ReadyBoth m n (now a) (now b) s (now «out_a») (now «out_b»)
+        × Chooses (transformTurn order) (now a) (now b) (s .x) (s .y) Turn.Together × (s .x .kind ≡ insertKind)
+        × (s .y .kind ≡ insertKind) ⌝ }
     ensures { λ r. ⌜ TogetherBoth m n (now (a .entry)) (now (b .entry)) s (now («out_a» .entry)) (now («out_b» .entry)) r
         (now («out_a» .exit)) (now («out_b» .exit)) ⌝ }
 {
@@ -266,9 +253,8 @@ fn inserts(
     n: usize,
     s: Both,
 ) -> Both
-    requires { ⌜ (na ≡ opCountOf (now a)) × (nb ≡ opCountOf (now b)) × (m ≤ 2 ^ 40) × (n ≤ 2 ^ 40) × Under (2 ^ 38) (s .e)
-        × Under (2 ^ 38) (s .f) × Stands (now a) (s .x) × Stands (now b) (s .y) × (s .x .kind ≡ insertKind) × (s .y .kind ≡ insertKind)
-        × (length (now «out_a») ≤ textStart m) × (length (now «out_b») ≤ textStart n) ⌝ }
+    requires { ⌜ Operands na nb (now a) (now b) × ReadyBoth m n (now a) (now b) s (now «out_a») (now «out_b»)
+        × (s .x .kind ≡ insertKind) × (s .y .kind ≡ insertKind) ⌝ }
     ensures { λ r. ⌜ WentBoth m n (now (a .entry)) (now (b .entry)) s (now («out_a» .entry)) (now («out_b» .entry)) r (now («out_a» .exit))
         (now («out_b» .exit)) ⌝ }
 {
@@ -293,9 +279,8 @@ pub fn step(
     n: usize,
     s: Both,
 ) -> Both
-    requires { ⌜ (na ≡ opCountOf (now a)) × (nb ≡ opCountOf (now b)) × (m ≤ 2 ^ 40) × (n ≤ 2 ^ 40) × Under (2 ^ 38) (s .e)
-        × Under (2 ^ 38) (s .f) × Stands (now a) (s .x) × Stands (now b) (s .y) × (liveIs (s .x) (s .y) ≡ true)
-        × (length (now «out_a») ≤ textStart m) × (length (now «out_b») ≤ textStart n) ⌝ }
+    requires { ⌜ Operands na nb (now a) (now b) × ReadyBoth m n (now a) (now b) s (now «out_a») (now «out_b»)
+        × (liveIs (s .x) (s .y) ≡ true) ⌝ }
     ensures { λ r. ⌜ WentBoth m n (now (a .entry)) (now (b .entry)) s (now («out_a» .entry)) (now («out_b» .entry)) r (now («out_a» .exit))
         (now («out_b» .exit)) ⌝ }
 {

@@ -15,13 +15,15 @@ text-of-first-requires : tie.Need-text-of-first-requires
 text-of-first-requires c κs =
     let start = c .before .before .before .before .before .before .before .before .before in
     let k = c .before .before .lesser .ensures in
-    (start .pre .2, start .pre .4, start .pre .7, both-some _ _ _ _ _ (start .pre .6) (start .pre .4) (start .pre .5) k, omega (arith, k), c .before .cut .ensures, under-more _ _ _ (omega arith) (start .pre .3))
+    (start .pre .1 .slots-few, start .pre .1 .stands-x, start .pre .3, both-some _ _ _ _ _ (start .pre .2) (start .pre .1 .stands-x) (start .pre .1 .stands-y) k, omega (arith, k), c .before .cut .ensures, under-more _ _ _ (omega arith) (start .pre .1 .under))
 
 rest-requires : tie.Need-rest-requires
 rest-requires c κs = search (Cuts, needs)
 
 rest-requires-2 : tie.Need-rest-requires-2
-rest-requires-2 c κs = search (Cuts, needs)
+rest-requires-2 c κs =
+    let start = c .before .before .before .before .before .before .before .before .before .before .before .before .before in
+    search (Cuts, start .pre .0, start .pre .1, needs)
 
 same-length : tie.Need-same-length
 same-length c = search needs
@@ -29,7 +31,7 @@ same-length c = search needs
 returns : tie.Need-returns
 returns c =
     let start = c .before .before .before .before .before .before .before .before .before .before .before .before .before .before in
-    went-inserted _ _ _ (start .args .s) _ _ _ (start .pre .4) (start .pre .5) _ _ (start .pre .6) _ (c .before .before .before .before .before .before .before .lesser .ensures) (start .pre .7) (start .pre .8) (c .before .before .before .before .text-of-first .ensures) (c .before .rest .ensures) (c .rest2 .ensures)
+    went-inserted _ _ _ (start .args .s) _ _ _ (start .pre .1 .stands-x) (start .pre .1 .stands-y) _ _ (start .pre .2) _ (c .before .before .before .before .before .before .before .lesser .ensures) (start .pre .3) (start .pre .4) (c .before .before .before .before .text-of-first .ensures) (c .before .rest .ensures) (c .rest2 .ensures)
 
 pub insert-retain-spec : {M : Type 1} → statement M
 insert-retain-spec =

@@ -12,7 +12,7 @@ push-requires : tie.Need-push-requires
 push-requires c κs =
     let start = c .before .before .before .before .before .before .before .before in
     let k = c .before .lesser .ensures in
-    (start .pre .2, start .pre .5, both-some _ _ _ _ _ (start .pre .6) (start .pre .4) (start .pre .5) k, omega (arith, k), second-cut _ _ _ _ _ (start .pre .6) (start .pre .5), under-more _ _ _ (omega arith) (start .pre .3))
+    (start .pre .1 .slots-few, start .pre .1 .stands-y, both-some _ _ _ _ _ (start .pre .2) (start .pre .1 .stands-x) (start .pre .1 .stands-y) k, omega (arith, k), second-cut _ _ _ _ _ (start .pre .2) (start .pre .1 .stands-y), under-more _ _ _ (omega arith) (start .pre .1 .under))
 
 rest-requires : tie.Need-rest-requires
 rest-requires c κs = search (Cuts, needs)
@@ -26,7 +26,7 @@ same-length c = search needs
 returns : tie.Need-returns
 returns c =
     let start = c .before .before .before .before .before .before .before .before .before .before .before .before .before in
-    went-retained _ _ _ (start .args .s) _ _ _ (start .pre .4) (start .pre .5) _ _ (start .pre .6) _ (c .before .before .before .before .before .before .lesser .ensures) (start .pre .7) (c .before .before .before .before .push .ensures) (c .before .rest .ensures) (c .rest2 .ensures)
+    went-retained _ _ _ (start .args .s) _ _ _ (start .pre .1 .stands-x) (start .pre .1 .stands-y) _ _ (start .pre .2) _ (c .before .before .before .before .before .before .lesser .ensures) (start .pre .3) (c .before .before .before .before .push .ensures) (c .before .rest .ensures) (c .rest2 .ensures)
 
 pub retained-spec : {M : Type 1} → statement M
 retained-spec =

@@ -56,7 +56,14 @@ begin-requires c κs =
     let at-records2 = at-records3 .before in
     let at-if1 = at-records2 .before .before .before in
     let at-run = at-if1 .before in
-    (at-records2 .op-count2 .ensures .0, at-records2 .op-count2 .ensures .1, at-records3 .op-count3 .ensures .0, at-records3 .op-count3 .ensures .1, at-run .run .inv .0 .holds .fault, moving-record _ _ _ _ _ _ _ _ _ (at-run .run .inv .0) (at-if1 .if1 .left))
+    record {
+      count-a = at-records2 .op-count2 .ensures .0;
+      few-a = at-records2 .op-count2 .ensures .1;
+      count-b = at-records3 .op-count3 .ensures .0;
+      few-b = at-records3 .op-count3 .ensures .1;
+      passed-a = at-run .run .inv .0 .holds .fault;
+      passed-b = moving-record _ _ _ _ _ _ _ _ _ (at-run .run .inv .0) (at-if1 .if1 .left);
+    }
 
 loop-holds : tie.Need-loop-holds Inv-loop μ-loop Inv-run μ-run
 loop-holds c =
@@ -101,18 +108,28 @@ step-requires c κs =
     let at-loop = at-goes-on .before in
     let at-records3 = at-loop .before .before .before in
     let at-records2 = at-records3 .before in
-    let at-run = at-records2 .before .before .before .before in
+    let at-if1 = at-records2 .before .before .before in
+    let at-run = at-if1 .before in
     let start = at-run .before .before .before .before .before .before .before .before in (
-      at-records2 .op-count2 .ensures .0,
-      at-records3 .op-count3 .ensures .0,
-      start .pre .7,
-      left-under _ _ _ _ _ _ (at-loop .loop .b) _ _ (at-loop .loop .inv .0),
-      right-under _ _ _ _ _ _ (at-loop .loop .b) _ _ (at-loop .loop .inv .0),
-      at-loop .loop .inv .0 .left .stands-x,
-      at-loop .loop .inv .0 .left .stands-y,
+      record {
+        count-a = at-records2 .op-count2 .ensures .0;
+        few-a = at-records2 .op-count2 .ensures .1;
+        count-b = at-records3 .op-count3 .ensures .0;
+        few-b = at-records3 .op-count3 .ensures .1;
+        passed-a = at-run .run .inv .0 .holds .fault;
+        passed-b = moving-record _ _ _ _ _ _ _ _ _ (at-run .run .inv .0) (at-if1 .if1 .left);
+      },
+      record {
+        slots-left = start .pre .7;
+        slots-right = start .pre .7;
+        under-e = left-under _ _ _ _ _ _ (at-loop .loop .b) _ _ (at-loop .loop .inv .0);
+        under-f = right-under _ _ _ _ _ _ (at-loop .loop .b) _ _ (at-loop .loop .inv .0);
+        stands-x = at-loop .loop .inv .0 .left .stands-x;
+        stands-y = at-loop .loop .inv .0 .left .stands-y;
+        room-left = omega (arith, at-loop .loop .inv .1, at-run .run .inv .2, start .pre .5);
+        room-right = omega (arith, at-loop .loop .inv .2, at-run .run .inv .3, start .pre .6);
+      },
       passed _ _ (at-goes-on .goes-on .ensures) (at-if2 .if2 .left),
-      omega (arith, at-loop .loop .inv .1, at-run .run .inv .2, start .pre .5),
-      omega (arith, at-loop .loop .inv .2, at-run .run .inv .3, start .pre .6),
     )
 
 loop-less : tie.Need-loop-less Inv-loop μ-loop Inv-run μ-run

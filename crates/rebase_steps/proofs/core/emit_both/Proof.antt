@@ -12,7 +12,7 @@ push-without-text-requires c κs = search needs
 push-without-text-requires-2 : tie.Need-push-without-text-requires-2
 push-without-text-requires-2 c κs =
     let start = c .before .before .before .before .before .before .before .before .before .before .before .before .before .before .before in
-    (start .pre .0, start .pre .12, start .pre .3, start .pre .5, start .pre .6, start .pre .8, under-more _ _ _ (omega arith) (start .pre .2))
+    (start .pre .0 .slots-left, start .pre .0 .room-right, start .pre .0 .stands-x, start .pre .1, start .pre .2, start .pre .4, under-more _ _ _ (omega arith) (start .pre .0 .under-f))
 
 retain-requires : tie.Need-retain-requires
 retain-requires c κs =
@@ -39,7 +39,7 @@ returns c =
     let at-mark = at-mark2 .before .before .before .before in
     let at-if1 = at-mark .before .before in
     let start = at-if1 .before .before .before .before .before .before .before .before .before .before in
-    meets-insert _ _ _ _ _ _ _ _ (start .pre .3) (start .pre .4) (start .pre .10) (at-if1 .if1 .taken) (start .pre .6) (start .pre .7) _ _ _ (at-mark .push-without-text .ensures) (at-retain .retain .ensures) _ _ _ (at-mark2 .push-without-text2 .ensures) (c .retain2 .ensures)
+    meets-insert _ _ _ _ _ _ _ _ (start .pre .0 .stands-x) (start .pre .0 .stands-y) (start .pre .6) (at-if1 .if1 .taken) (start .pre .2) (start .pre .3) _ _ _ (at-mark .push-without-text .ensures) (at-retain .retain .ensures) _ _ _ (at-mark2 .push-without-text2 .ensures) (c .retain2 .ensures)
 
 push-without-text-requires-3 : tie.Need-push-without-text-requires-3
 push-without-text-requires-3 c κs = search needs
@@ -47,7 +47,7 @@ push-without-text-requires-3 c κs = search needs
 push-without-text-requires-4 : tie.Need-push-without-text-requires-4
 push-without-text-requires-4 c κs =
     let start = c .before .before .before .before .before .before .before .before .before .before .before .before .before .before .before .before .before .before .before in
-    (start .pre .0, start .pre .12, start .pre .4, start .pre .5, start .pre .7, start .pre .9, under-more _ _ _ (omega arith) (start .pre .2))
+    (start .pre .0 .slots-left, start .pre .0 .room-right, start .pre .0 .stands-y, start .pre .1, start .pre .3, start .pre .5, under-more _ _ _ (omega arith) (start .pre .0 .under-f))
 
 same-length-3 : tie.Need-same-length-3
 same-length-3 c = search needs
@@ -62,7 +62,7 @@ returns-2 c =
     let at-mark3 = at-if3 .before .before .before .before in
     let at-if2 = at-mark3 .before .before in
     let start = at-if2 .before .before .before .before .before .before .before .before .before .before .before .before in
-    meets-retain _ _ _ _ _ _ _ _ (start .pre .3) (start .pre .4) (start .pre .10) (at-if2 .if2 .taken) (at-if3 .if3 .taken) _ _ (at-mark3 .push-without-text3 .ensures) _ _ (at-mark4 .push-without-text4 .ensures)
+    meets-retain _ _ _ _ _ _ _ _ (start .pre .0 .stands-x) (start .pre .0 .stands-y) (start .pre .6) (at-if2 .if2 .taken) (at-if3 .if3 .taken) _ _ (at-mark3 .push-without-text3 .ensures) _ _ (at-mark4 .push-without-text4 .ensures)
 
 same-length-5 : tie.Need-same-length-5
 same-length-5 c = search needs
@@ -73,7 +73,7 @@ returns-3 c = search meets-first
 push-without-text-requires-5 : tie.Need-push-without-text-requires-5
 push-without-text-requires-5 c κs =
     let start = c .before .before .before .before .before .before .before .before .before .before .before .before .before .before .before in
-    (start .pre .0, start .pre .12, start .pre .4, start .pre .5, start .pre .7, start .pre .9, under-more _ _ _ (omega arith) (start .pre .2))
+    (start .pre .0 .slots-left, start .pre .0 .room-right, start .pre .0 .stands-y, start .pre .1, start .pre .3, start .pre .5, under-more _ _ _ (omega arith) (start .pre .0 .under-f))
 
 same-length-6 : tie.Need-same-length-6
 same-length-6 c = search needs

@@ -34,7 +34,7 @@ returns c =
     let at-enum-told = at-first .before .before in
     let at-whose = at-enum-told .before .before in
     let start = at-whose .before .before .before .before .before .before .before in
-    turned-first _ _ _ _ _ _ _ _ (at-whose .whose .ensures) (start .pre .5) (start .pre .6) _ (at-enum-told .enum-told .given .1) _ (at-first .step-edit .ensures)
+    turned-first _ _ _ _ _ _ _ _ (at-whose .whose .ensures) (start .pre .1 .stands-x) (start .pre .1 .stands-y) _ (at-enum-told .enum-told .given .1) _ (at-first .step-edit .ensures)
 
 same-length-2 : tie.Need-same-length-2
 same-length-2 c = search needs
@@ -45,7 +45,7 @@ returns-2 c =
     let at-enum-told2 = at-second .before .before in
     let at-whose = at-enum-told2 .before .before in
     let start = at-whose .before .before .before .before .before .before .before in
-    turned-second _ _ _ _ _ _ _ _ (at-whose .whose .ensures) (start .pre .5) (start .pre .6) _ (at-enum-told2 .enum-told2 .given .1) _ (at-second .step-revision .ensures)
+    turned-second _ _ _ _ _ _ _ _ (at-whose .whose .ensures) (start .pre .1 .stands-x) (start .pre .1 .stands-y) _ (at-enum-told2 .enum-told2 .given .1) _ (at-second .step-revision .ensures)
 
 same-length-3 : tie.Need-same-length-3
 same-length-3 c = search needs
@@ -59,7 +59,7 @@ returns-3 c =
     let at-enum-told3 = at-together .before .before .before in
     let at-whose = at-enum-told3 .before .before in
     let start = at-whose .before .before .before .before .before .before .before in
-    turned-together _ _ _ _ _ _ _ _ (at-whose .whose .ensures) (start .pre .5) (start .pre .6) _ (at-enum-told3 .enum-told3 .given .1) _ _ (at-together .step-both .ensures)
+    turned-together _ _ _ _ _ _ _ _ (at-whose .whose .ensures) (start .pre .1 .stands-x) (start .pre .1 .stands-y) _ (at-enum-told3 .enum-told3 .given .1) _ _ (at-together .step-both .ensures)
 
 pub step-spec : {M : Type 1} → statement M
 step-spec =

@@ -8,7 +8,7 @@ lesser-requires : tie.Need-lesser-requires
 lesser-requires c κs = search needs
 
 emit-both-requires : tie.Need-emit-both-requires
-emit-both-requires c κs = (search needs, search needs, search needs, search needs, search needs, search both-some, search needs, search needs, search uncut-x, search uncut-y, search needs, search needs, search needs)
+emit-both-requires c κs = (search needs, search both-some, search needs, search needs, search uncut-x, search uncut-y, search needs)
 
 rest-requires : tie.Need-rest-requires
 rest-requires c κs = search (uncut-x, needs)

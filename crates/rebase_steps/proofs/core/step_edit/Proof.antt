@@ -25,7 +25,7 @@ returns c =
     let at-gives = at-retain .before in
     let at-mark = at-gives .before .before .before in
     let start = at-mark .before .before .before .before .before .before .before .before in
-    first-both _ _ _ _ _ _ _ _ _ (start .pre .4) (c .rest .ensures) (at-mark .push-without-text .ensures) (at-gives .gives .ensures .0) (at-retain .retain .ensures)
+    first-both _ _ _ _ _ _ _ _ _ (start .pre .stands) (c .rest .ensures) (at-mark .push-without-text .ensures) (at-gives .gives .ensures .0) (at-retain .retain .ensures)
 
 pub step-edit-spec : {M : Type 1} → statement M
 step-edit-spec =

@@ -15,7 +15,7 @@ retain-requires c κs = search needs
 push-without-text-requires : tie.Need-push-without-text-requires
 push-without-text-requires c κs =
     let start = c .before .before .before .before .before .before .before .before .before in
-    (start .pre .1, start .pre .6, start .pre .4, left-live _ _ (start .pre .4) (start .pre .5), search needs, whole-cut _ _ (start .pre .4), under-more _ _ _ (omega arith) (start .pre .3))
+    (start .pre .slots-few, start .pre .room, start .pre .stands, left-live _ _ (start .pre .stands) (start .pre .live), search needs, whole-cut _ _ (start .pre .stands), under-more _ _ _ (omega arith) (start .pre .under-f))
 
 rest-requires : tie.Need-rest-requires
 rest-requires c κs = search (whole-cut, needs)
@@ -29,7 +29,7 @@ returns c =
     let at-retain = at-mark .before .before in
     let at-gives = at-retain .before in
     let start = at-gives .before .before .before .before .before .before .before in
-    second-both _ _ _ _ _ _ _ _ _ (start .pre .4) (c .rest .ensures) (at-mark .push-without-text .ensures) (at-gives .gives .ensures .0) (at-retain .retain .ensures)
+    second-both _ _ _ _ _ _ _ _ _ (start .pre .stands) (c .rest .ensures) (at-mark .push-without-text .ensures) (at-gives .gives .ensures .0) (at-retain .retain .ensures)
 
 pub step-revision-spec : {M : Type 1} → statement M
 step-revision-spec =

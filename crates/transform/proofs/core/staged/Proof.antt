@@ -8,13 +8,13 @@ use Rattle.transform.proofs.core.staged.Tie as tie
 transform-into-requires : tie.Need-transform-into-requires
 transform-into-requires c κs =
     let start = c .before .before .before .before .before .before .before .before in
-    (start .pre .0, start .pre .1, start .pre .2, start .pre .3, start .pre .4, start .pre .5, omega (arith, start .pre .6), omega (arith, start .pre .8), omega (arith, start .pre .9))
+    (start .pre .0, omega (arith, start .pre .1), omega (arith, start .pre .3), omega (arith, start .pre .4))
 
 sizes-requires : tie.Need-sizes-requires
 sizes-requires c κs =
     let at-run = c .before .before .before .before in
     let start = at-run .before .before .before .before .before .before .before .before .before in
-    (start .pre .4, start .pre .5, start .pre .10, at-run .transform-into .ensures .counted)
+    (start .pre .0 .passed-a, start .pre .0 .passed-b, start .pre .5, at-run .transform-into .ensures .counted)
 
 limits-then-room-requires : tie.Need-limits-then-room-requires
 limits-then-room-requires c κs =
@@ -35,7 +35,7 @@ place-with-text-requires c κs =
     let start = at-sizes .before .before .before .before .before .before .before .before .before .before .before .before .before .before in
     let p = at-sizes .sizes .result in
     let z = at-sizes .sizes .ensures in
-    (omega (arith, start .pre .6), omega (arith, start .pre .1), few-places-left _ _ (start .pre .4) (start .pre .5) _ _ (start .pre .0) (start .pre .2) p z _ (start .pre .7) _ _ _ (at-judge .limits-then-room .ensures) _ _ (at-k .k .given .1), omega (arith, start .pre .8), text-room-left _ _ (start .pre .4) (start .pre .5) _ _ (start .pre .0) (start .pre .2) p z, z .left-small)
+    (omega (arith, start .pre .1), omega (arith, start .pre .0 .few-a), few-places-left _ _ (start .pre .0 .passed-a) (start .pre .0 .passed-b) _ _ (start .pre .0 .count-a) (start .pre .0 .count-b) p z _ (start .pre .2) _ _ _ (at-judge .limits-then-room .ensures) _ _ (at-k .k .given .1), omega (arith, start .pre .3), text-room-left _ _ (start .pre .0 .passed-a) (start .pre .0 .passed-b) _ _ (start .pre .0 .count-a) (start .pre .0 .count-b) p z, z .left-small)
 
 place-with-text-requires-2 : tie.Need-place-with-text-requires-2
 place-with-text-requires-2 c κs =
@@ -45,7 +45,7 @@ place-with-text-requires-2 c κs =
     let start = at-sizes .before .before .before .before .before .before .before .before .before .before .before .before .before .before in
     let p = at-sizes .sizes .result in
     let z = at-sizes .sizes .ensures in
-    (omega (arith, start .pre .6), omega (arith, start .pre .3), few-places-right _ _ (start .pre .4) (start .pre .5) _ _ (start .pre .0) (start .pre .2) p z _ (start .pre .7) _ _ _ (at-judge .limits-then-room .ensures) _ _ (at-k .k .given .1), omega (arith, start .pre .9), text-room-right _ _ (start .pre .4) (start .pre .5) _ _ (start .pre .0) (start .pre .2) p z, z .right-small)
+    (omega (arith, start .pre .1), omega (arith, start .pre .0 .few-b), few-places-right _ _ (start .pre .0 .passed-a) (start .pre .0 .passed-b) _ _ (start .pre .0 .count-a) (start .pre .0 .count-b) p z _ (start .pre .2) _ _ _ (at-judge .limits-then-room .ensures) _ _ (at-k .k .given .1), omega (arith, start .pre .4), text-room-right _ _ (start .pre .0 .passed-a) (start .pre .0 .passed-b) _ _ (start .pre .0 .count-a) (start .pre .0 .count-b) p z, z .right-small)
 
 same-length : tie.Need-same-length
 same-length c = search needs
@@ -58,7 +58,7 @@ returns c =
     let at-judge = c .before .before .before in
     let at-sizes = at-judge .before .before .before in
     let start = at-sizes .before .before .before .before .before .before .before .before .before .before .before .before .before .before in
-    transforms-refused _ _ _ _ (start .pre .4) (start .pre .5) (start .pre .10) (at-sizes .sizes .result) (at-sizes .sizes .ensures) _ (at-judge .limits-then-room .ensures) _ (c .before .x .given .1)
+    transforms-refused _ _ _ _ (start .pre .0 .passed-a) (start .pre .0 .passed-b) (start .pre .5) (at-sizes .sizes .result) (at-sizes .sizes .ensures) _ (at-judge .limits-then-room .ensures) _ (c .before .x .given .1)
 
 same-length-3 : tie.Need-same-length-3
 same-length-3 c = search needs
@@ -82,10 +82,10 @@ returns-2 c =
     let start = at-run .before .before .before .before .before .before .before .before .before in
     let p = at-sizes .sizes .result in
     let z = at-sizes .sizes .ensures in
-    let fl = few-places-left _ _ (start .pre .4) (start .pre .5) _ _ (start .pre .0) (start .pre .2) p z _ (start .pre .7) _ _ _ (at-judge .limits-then-room .ensures) _ _ (at-k .k .given .1) in
-    let fr = few-places-right _ _ (start .pre .4) (start .pre .5) _ _ (start .pre .0) (start .pre .2) p z _ (start .pre .7) _ _ _ (at-judge .limits-then-room .ensures) _ _ (at-k .k .given .1) in
-    let w = text-placed _ _ (start .pre .4) (start .pre .5) _ _ (start .pre .0) (start .pre .2) p z _ _ _ _ (at-run .transform-into .ensures) fl fr (omega (arith, start .pre .8, at-sizes .before .before .before .before .stage-a)) (omega (arith, start .pre .9, at-sizes .before .before .stage-b)) _ _ _ _ (at-place .place-with-text .ensures) (c .before .before .place-with-text2 .ensures) in
-    transforms-written _ _ _ _ (start .pre .4) (start .pre .5) (start .pre .10) p z _ (at-judge .limits-then-room .ensures) _ _ _ _ (at-k .k .given .1) w
+    let fl = few-places-left _ _ (start .pre .0 .passed-a) (start .pre .0 .passed-b) _ _ (start .pre .0 .count-a) (start .pre .0 .count-b) p z _ (start .pre .2) _ _ _ (at-judge .limits-then-room .ensures) _ _ (at-k .k .given .1) in
+    let fr = few-places-right _ _ (start .pre .0 .passed-a) (start .pre .0 .passed-b) _ _ (start .pre .0 .count-a) (start .pre .0 .count-b) p z _ (start .pre .2) _ _ _ (at-judge .limits-then-room .ensures) _ _ (at-k .k .given .1) in
+    let w = text-placed _ _ (start .pre .0 .passed-a) (start .pre .0 .passed-b) _ _ (start .pre .0 .count-a) (start .pre .0 .count-b) p z _ _ _ _ (at-run .transform-into .ensures) fl fr (omega (arith, start .pre .3, at-sizes .before .before .before .before .stage-a)) (omega (arith, start .pre .4, at-sizes .before .before .stage-b)) _ _ _ _ (at-place .place-with-text .ensures) (c .before .before .place-with-text2 .ensures) in
+    transforms-written _ _ _ _ (start .pre .0 .passed-a) (start .pre .0 .passed-b) (start .pre .5) p z _ (at-judge .limits-then-room .ensures) _ _ _ _ (at-k .k .given .1) w
 
 pub staged-spec : {M : Type 1} → statement M
 staged-spec =

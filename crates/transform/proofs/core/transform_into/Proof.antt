@@ -28,8 +28,20 @@ goes-on-requires c κs = search needs
 step-requires : tie.Need-step-requires Inv-loop μ-loop
 step-requires c κs =
     let at-loop = c .before .before .before .before in
-    let start = c .before .before .before .before .before .before .before .before .before .before in
-    (start .pre .0, start .pre .2, start .pre .6, start .pre .6, search left-under, search right-under, search needs, search needs, search live-is, omega (arith, at-loop .loop .inv .1, start .pre .7), omega (arith, at-loop .loop .inv .2, start .pre .8))
+    let start = c .before .before .before .before .before .before .before .before .before .before in (
+      start .pre .0,
+      record {
+        slots-left = start .pre .1;
+        slots-right = start .pre .1;
+        under-e = search left-under;
+        under-f = search right-under;
+        stands-x = search needs;
+        stands-y = search needs;
+        room-left = omega (arith, at-loop .loop .inv .1, start .pre .2);
+        room-right = omega (arith, at-loop .loop .inv .2, start .pre .3);
+      },
+      search live-is,
+    )
 
 loop-less : tie.Need-loop-less Inv-loop μ-loop
 loop-less c = search went-less

@@ -9,12 +9,12 @@ use Rattle.transform_steps.proofs.core.emit_equal.Tie as tie
 push-without-text-requires : tie.Need-push-without-text-requires
 push-without-text-requires c κs =
     let start = c .before .before .before .before .before .before .before .before .before in
-    (start .pre .0, start .pre .13, start .pre .5, start .pre .6, start .pre .8, start .pre .10, under-more _ _ _ (omega arith) (start .pre .2))
+    (start .pre .0 .slots-left, start .pre .0 .room-left, start .pre .0 .stands-y, start .pre .1, start .pre .3, start .pre .5, under-more _ _ _ (omega arith) (start .pre .0 .under-e))
 
 push-without-text-requires-2 : tie.Need-push-without-text-requires-2
 push-without-text-requires-2 c κs =
     let start = c .before .before .before .before .before .before .before .before .before .before .before .before .before in
-    (start .pre .1, start .pre .14, start .pre .4, start .pre .6, start .pre .7, start .pre .9, under-more _ _ _ (omega arith) (start .pre .3))
+    (start .pre .0 .slots-right, start .pre .0 .room-right, start .pre .0 .stands-x, start .pre .1, start .pre .2, start .pre .4, under-more _ _ _ (omega arith) (start .pre .0 .under-f))
 
 retain-requires : tie.Need-retain-requires
 retain-requires c κs =
@@ -40,7 +40,7 @@ returns c =
     let at-mark2 = at-retain .before .before .before in
     let at-mark = at-mark2 .before .before .before .before in
     let start = at-mark .before .before .before .before .before .before .before .before .before .before in
-    meets-insert _ _ _ _ _ _ _ _ (start .pre .4) (start .pre .5) (start .pre .11) (start .pre .12) (start .pre .7) (start .pre .8) _ _ _ (at-mark .push-without-text .ensures) (at-retain .retain .ensures) _ _ _ (at-mark2 .push-without-text2 .ensures) (c .retain2 .ensures)
+    meets-insert _ _ _ _ _ _ _ _ (start .pre .0 .stands-x) (start .pre .0 .stands-y) (start .pre .6) (start .pre .7) (start .pre .2) (start .pre .3) _ _ _ (at-mark .push-without-text .ensures) (at-retain .retain .ensures) _ _ _ (at-mark2 .push-without-text2 .ensures) (c .retain2 .ensures)
 
 pub emit-equal-spec : {M : Type 1} → statement M
 emit-equal-spec =

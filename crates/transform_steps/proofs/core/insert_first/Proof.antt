@@ -9,7 +9,7 @@ use Rattle.transform_steps.proofs.core.insert_first.Tie as tie
 push-without-text-requires : tie.Need-push-without-text-requires
 push-without-text-requires c κs =
     let start = c .before .before .before .before .before .before .before in
-    (start .pre .1, start .pre .6, start .pre .4, left-live _ _ (start .pre .4) (start .pre .5), search needs, whole-cut _ _ (start .pre .4), under-more _ _ _ (omega arith) (start .pre .2))
+    (start .pre .slots-few, start .pre .room, start .pre .stands, left-live _ _ (start .pre .stands) (start .pre .live), search needs, whole-cut _ _ (start .pre .stands), under-more _ _ _ (omega arith) (start .pre .under-e))
 
 gives-requires : tie.Need-gives-requires
 gives-requires c κs = search needs
@@ -29,7 +29,7 @@ returns c =
     let at-gives = at-retain .before in
     let at-mark = at-gives .before .before .before in
     let start = at-mark .before .before .before .before .before .before .before .before in
-    first-both _ _ _ _ _ _ _ _ _ (start .pre .4) (c .rest .ensures) (at-mark .push-without-text .ensures) (at-gives .gives .ensures .0) (at-retain .retain .ensures)
+    first-both _ _ _ _ _ _ _ _ _ (start .pre .stands) (c .rest .ensures) (at-mark .push-without-text .ensures) (at-gives .gives .ensures .0) (at-retain .retain .ensures)
 
 pub insert-first-spec : {M : Type 1} → statement M
 insert-first-spec =

@@ -1,5 +1,6 @@
 use native.Mathlib.Omega.{arith}
 use borrow.Author.Needs.{needs}
+use Rattle.steps.proofs.Feeding.{fed-left, fed-right}
 use Rattle.steps.proofs.Siding.{chosen-less, chosen-equal, chosen-greater}
 use Rattle.steps.proofs.Stepping.{alone-first, alone-second, both-together}
 use Rattle.transform_steps.proofs.core.inserts.Statement.{statement}
@@ -14,7 +15,7 @@ enum-told c = search needs
 lesser-first-requires : tie.Need-lesser-first-requires
 lesser-first-requires c κs =
     let start = c .before .before .before .before .before .before .before .before .before .before in
-    (start .pre .0, start .pre .2, start .pre .4, start .pre .5, start .pre .6, omega (arith, start .pre .8), start .pre .10)
+    fed-left (start .pre .0) (start .pre .1) (omega (arith, start .pre .2))
 
 enum-told-2 : tie.Need-enum-told-2
 enum-told-2 c = search needs
@@ -24,7 +25,7 @@ equal-inserts-requires c κs =
     let at-told = c .before .before in
     let at-rank = at-told .before .before in
     let start = at-rank .before .before .before .before .before .before .before in
-    (start .pre .0, start .pre .1, start .pre .2, start .pre .3, start .pre .4, start .pre .5, start .pre .6, start .pre .7, chosen-equal _ _ _ _ (start .pre .6) (start .pre .7) (start .pre .8) (start .pre .9) _ (at-rank .rank .ensures) (at-told .enum-told2 .given .1), start .pre .8, start .pre .9, start .pre .10, start .pre .11)
+    (start .pre .0, start .pre .1, chosen-equal _ _ _ _ (start .pre .1 .stands-x) (start .pre .1 .stands-y) (start .pre .2) (start .pre .3) _ (at-rank .rank .ensures) (at-told .enum-told2 .given .1), start .pre .2, start .pre .3)
 
 enum-told-3 : tie.Need-enum-told-3
 enum-told-3 c = search needs
@@ -32,7 +33,7 @@ enum-told-3 c = search needs
 lesser-second-requires : tie.Need-lesser-second-requires
 lesser-second-requires c κs =
     let start = c .before .before .before .before .before .before .before .before .before .before in
-    (start .pre .1, start .pre .3, start .pre .4, start .pre .5, start .pre .7, omega (arith, start .pre .9), start .pre .11)
+    fed-right (start .pre .0) (start .pre .1) (omega (arith, start .pre .3))
 
 same-length : tie.Need-same-length
 same-length c = search needs
@@ -43,7 +44,7 @@ returns c =
     let at-told = at-call .before .before in
     let at-rank = at-told .before .before in
     let start = at-rank .before .before .before .before .before .before .before in
-    alone-first _ _ _ _ _ _ _ (start .pre .6) (start .pre .7) _ _ (chosen-less _ _ _ _ (start .pre .6) (start .pre .7) (start .pre .8) (start .pre .9) _ (at-rank .rank .ensures) (at-told .enum-told .given .1)) (at-call .lesser-first .ensures)
+    alone-first _ _ _ _ _ _ _ (start .pre .1 .stands-x) (start .pre .1 .stands-y) _ _ (chosen-less _ _ _ _ (start .pre .1 .stands-x) (start .pre .1 .stands-y) (start .pre .2) (start .pre .3) _ (at-rank .rank .ensures) (at-told .enum-told .given .1)) (at-call .lesser-first .ensures)
 
 same-length-2 : tie.Need-same-length-2
 same-length-2 c = search needs
@@ -57,7 +58,7 @@ returns-2 c =
     let at-told = at-call .before .before .before in
     let at-rank = at-told .before .before in
     let start = at-rank .before .before .before .before .before .before .before in
-    both-together _ _ _ _ _ _ _ (start .pre .6) (start .pre .7) _ _ _ (chosen-equal _ _ _ _ (start .pre .6) (start .pre .7) (start .pre .8) (start .pre .9) _ (at-rank .rank .ensures) (at-told .enum-told2 .given .1)) (at-call .equal-inserts .ensures)
+    both-together _ _ _ _ _ _ _ (start .pre .1 .stands-x) (start .pre .1 .stands-y) _ _ _ (chosen-equal _ _ _ _ (start .pre .1 .stands-x) (start .pre .1 .stands-y) (start .pre .2) (start .pre .3) _ (at-rank .rank .ensures) (at-told .enum-told2 .given .1)) (at-call .equal-inserts .ensures)
 
 same-length-4 : tie.Need-same-length-4
 same-length-4 c = search needs
@@ -68,7 +69,7 @@ returns-3 c =
     let at-told = at-call .before .before in
     let at-rank = at-told .before .before in
     let start = at-rank .before .before .before .before .before .before .before in
-    alone-second _ _ _ _ _ _ _ (start .pre .6) (start .pre .7) _ _ (chosen-greater _ _ _ _ (start .pre .6) (start .pre .7) (start .pre .8) (start .pre .9) _ (at-rank .rank .ensures) (at-told .enum-told3 .given .1)) (at-call .lesser-second .ensures)
+    alone-second _ _ _ _ _ _ _ (start .pre .1 .stands-x) (start .pre .1 .stands-y) _ _ (chosen-greater _ _ _ _ (start .pre .1 .stands-x) (start .pre .1 .stands-y) (start .pre .2) (start .pre .3) _ (at-rank .rank .ensures) (at-told .enum-told3 .given .1)) (at-call .lesser-second .ensures)
 
 pub inserts-spec : {M : Type 1} → statement M
 inserts-spec =

@@ -13,21 +13,21 @@ emit-both-requires c κs =
     let at-lesser = c .before .before in
     let start = at-lesser .before .before .before .before .before .before .before in
     let q = at-lesser .lesser .ensures in
-    (start .pre .2, start .pre .3, start .pre .4, start .pre .5, start .pre .6, start .pre .7, both-some _ _ _ _ (start .pre .6) (start .pre .7) (start .pre .8) _ q, omega (arith, q), omega (arith, q), uncut-x _ _ _ _ (start .pre .6) (start .pre .7) (start .pre .8) _ q, uncut-y _ _ _ _ (start .pre .6) (start .pre .7) (start .pre .8) _ q, start .pre .8, start .pre .9, start .pre .10, start .pre .11)
+    (start .pre .1, both-some _ _ _ _ (start .pre .1 .stands-x) (start .pre .1 .stands-y) (start .pre .2) _ q, omega (arith, q), omega (arith, q), uncut-x _ _ _ _ (start .pre .1 .stands-x) (start .pre .1 .stands-y) (start .pre .2) _ q, uncut-y _ _ _ _ (start .pre .1 .stands-x) (start .pre .1 .stands-y) (start .pre .2) _ q, start .pre .2, start .pre .3)
 
 rest-requires : tie.Need-rest-requires
 rest-requires c κs =
     let at-lesser = c .before .before .before .before .before .before .before .before .before in
     let start = at-lesser .before .before .before .before .before .before .before in
     let q = at-lesser .lesser .ensures in
-    (start .pre .0, start .pre .6, omega (arith, q), uncut-x _ _ _ _ (start .pre .6) (start .pre .7) (start .pre .8) _ q)
+    (start .pre .0 .count-a, start .pre .1 .stands-x, omega (arith, q), uncut-x _ _ _ _ (start .pre .1 .stands-x) (start .pre .1 .stands-y) (start .pre .2) _ q)
 
 rest-requires-2 : tie.Need-rest-requires-2
 rest-requires-2 c κs =
     let at-lesser = c .before .before .before .before .before .before .before .before .before .before in
     let start = at-lesser .before .before .before .before .before .before .before in
     let q = at-lesser .lesser .ensures in
-    (start .pre .1, start .pre .7, omega (arith, q), uncut-y _ _ _ _ (start .pre .6) (start .pre .7) (start .pre .8) _ q)
+    (start .pre .0 .count-b, start .pre .1 .stands-y, omega (arith, q), uncut-y _ _ _ _ (start .pre .1 .stands-x) (start .pre .1 .stands-y) (start .pre .2) _ q)
 
 same-length : tie.Need-same-length
 same-length c = search needs
