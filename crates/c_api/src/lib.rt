@@ -5,7 +5,7 @@ ghost use lib.ListN.{length};
 ghost use Rattle.characters.specs.Form.{wellFormed};
 ghost use Rattle.characters.specs.Chars.{numChars};
 ghost use Rattle.record.specs.Calls.{checkCall, baseCall, targetCall, noopCall, textCall, textFrom};
-ghost use Rattle.walker.specs.Walk.{stepAt};
+ghost use Rattle.walker.specs.Walk.{stepCall};
 ghost use Rattle.operational_transform.specs.Calls.{retainCall, deleteCall, insertCall, applyCall, invertCall, composeCall, transformCall};
 ghost use Rattle.log.specs.Open.{openCall};
 ghost use Rattle.session.specs.Session.{acceptCall, summaryCall, playCall};
@@ -59,7 +59,7 @@ pub extern "C" fn ot_is_noop(rec: &[u8]) -> u64
 
 #[no_mangle]
 pub extern "C" fn ot_step(rec: &[u8], at: u64) -> u64
-    ensures { λ r. ⌜ r ≡ stepNumber (stepAt (now (rec .entry)) at) ⌝ }
+    ensures { λ r. ⌜ r ≡ stepNumber (stepCall (now (rec .entry)) at) ⌝ }
 {
     packing::core::step(walker::step(rec, at as usize))
 }

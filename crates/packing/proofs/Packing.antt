@@ -23,6 +23,7 @@ use Rattle.record.specs.Calls.{textCall, textFrom}
 use Rattle.operation.proofs.Answers.{text-passed, text-index, text-small}
 use Rattle.walker.specs.declared.Found.{Found}
 use Rattle.walker.specs.declared.Found.the-variants.{Op}
+use Rattle.walker.specs.Walk.{foundOf}
 use Rattle.packing.specs.Numbers.{packed, stepNumber, most, small, part}
 
 -- ---- refusals
@@ -46,7 +47,7 @@ pub noop-is : (x : Noop) (b : Bool) (r : ℕ) → r ≡ cond b 1 0 → x ≡ noo
 noop-is x true r p e = rw e p
 noop-is x false r p e = rw e p
 
-pub step-is : (x : Found) (kind count : ℕ) → x ≡ Op kind count → kind + 256 * count ≡ stepNumber x
+pub step-is : (x : Found) (kind count : ℕ) → x ≡ Op kind count → kind + 256 * count ≡ stepNumber (foundOf x)
 step-is x kind count e = rw e refl
 
 -- ---- two results

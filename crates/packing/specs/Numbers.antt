@@ -5,8 +5,6 @@ use mathlib.Core.Bool.{cond, Bool, true, false, _&&_}
 use lib.Dec.{leb}
 use Rattle.answers.specs.Answer.{Answer, success, refused}
 use Rattle.record.specs.Layout.{maxRecord}
-use Rattle.walker.specs.declared.Found.{Found}
-use Rattle.walker.specs.declared.Found.the-variants.{Op, End}
 use Rattle.log.specs.Log.{maxRevisions}
 
 -- One result stands as it is. Of two, the first is the low 32 bits and the second the high 32. Bit 63 is set where the call is
@@ -36,9 +34,11 @@ small (success (m ∷ n ∷ k ∷ ns)) = false
 small (refused n) = true
 
 -- what a step finds: the kind and 256 times the count; 0 at the end
-abbrev pub stepNumber : Found → ℕ
-stepNumber (Op kind count) = kind + 256 * count
-stepNumber End = 0
+abbrev pub stepNumber : Answer → ℕ
+stepNumber (success []) = 0
+stepNumber (success (kind ∷ [])) = kind
+stepNumber (success (kind ∷ count ∷ ns)) = kind + 256 * count
+stepNumber (refused n) = 0
 
 -- a part of a record, as two results: where it begins and how many bytes it has; 0 where it has none
 abbrev pub part : ℕ → ℕ → ℕ

@@ -10,6 +10,7 @@ ghost use mathlib.Core.Bool.{cond};
 ghost use Prim.Native.Nat.{_+_, _^_};
 ghost use lib.Dec.{T};
 ghost use Rattle.answers.specs.Answer.{number, factOf, noopOf, writtenOf, pairOf};
+ghost use Rattle.walker.specs.Walk.{foundOf};
 ghost use Rattle.packing.specs.Numbers.{packed, small, stepNumber};
 
 // 1 for true, 0 for false.
@@ -63,7 +64,7 @@ pub fn pair(x: WrittenPair) -> u64
 }
 
 pub fn step(x: Found) -> u64
-    ensures { λ r. ⌜ r ≡ stepNumber x ⌝ }
+    ensures { λ r. ⌜ r ≡ stepNumber (foundOf x) ⌝ }
 {
     match x {
         Found::Op { kind, count } => kind as u64 + 256 * (count as u64),

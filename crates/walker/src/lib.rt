@@ -1,7 +1,7 @@
 // To go through a record: a walker carries the borrowed record along with its position.
 use answers::Fact;
 ghost use mathlib.Core.Path.{_≡_};
-ghost use Rattle.walker.specs.Walk.{stepAt, nextAt};
+ghost use Rattle.walker.specs.Walk.{foundOf, stepCall, nextAt};
 
 pub struct Walker<'a> {
     pub rec: &'a [u8],
@@ -21,7 +21,7 @@ struct Moved {
 }
 
 fn move_at(rec: &[u8], at: usize) -> Moved
-    ensures { λ r. ⌜ (r .step ≡ stepAt (now (rec .entry)) at) × (r .at ≡ nextAt (now (rec .entry)) at) ⌝ }
+    ensures { λ r. ⌜ (foundOf (r .step) ≡ stepCall (now (rec .entry)) at) × (r .at ≡ nextAt (now (rec .entry)) at) ⌝ }
 {
     let Fact::Is(_) = operation::check(rec) else {
         return Moved {
@@ -45,7 +45,7 @@ fn move_at(rec: &[u8], at: usize) -> Moved
 }
 
 fn step_at(rec: &[u8], at: usize) -> Found
-    ensures { λ r. ⌜ r ≡ stepAt (now (rec .entry)) at ⌝ }
+    ensures { λ r. ⌜ foundOf r ≡ stepCall (now (rec .entry)) at ⌝ }
 {
     let m = move_at(rec, at);
     m.step
@@ -61,7 +61,7 @@ impl<'a> Walker<'a> {
 
     // A step: what is found, the walker moved on by one. At the end it stays.
     pub fn next(&mut self) -> Found
-        ensures { λ s. ⌜ (s ≡ stepAt (now (now (self .entry) .rec)) (now (self .entry) .at))
+        ensures { λ s. ⌜ (foundOf s ≡ stepCall (now (now (self .entry) .rec)) (now (self .entry) .at))
             × ((now (self .exit) .rec ≡ now (self .entry) .rec)
             × (now (self .exit) .at ≡ nextAt (now (now (self .entry) .rec)) (now (self .entry) .at))) ⌝ }
     {
@@ -72,7 +72,7 @@ impl<'a> Walker<'a> {
 
     // What the next step will find.
     pub fn peek(self) -> Found
-        ensures { λ s. ⌜ s ≡ stepAt (now (self .entry .rec)) (self .entry .at) ⌝ }
+        ensures { λ s. ⌜ foundOf s ≡ stepCall (now (self .entry .rec)) (self .entry .at) ⌝ }
     {
         step_at(self.rec, self.at)
     }
@@ -80,7 +80,7 @@ impl<'a> Walker<'a> {
 
 // What a walker finds at operation `at`: with plain parameters, for callers that keep the position themselves.
 pub fn step(rec: &[u8], at: usize) -> Found
-    ensures { λ r. ⌜ r ≡ stepAt (now (rec .entry)) at ⌝ }
+    ensures { λ r. ⌜ foundOf r ≡ stepCall (now (rec .entry)) at ⌝ }
 {
     let w = Walker { rec, at };
     w.peek()

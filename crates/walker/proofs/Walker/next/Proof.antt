@@ -43,7 +43,7 @@ use denote.Triple.Entry.{Vals, onEntry}
 use denote.Triple.Spec.{Meets, tripleOf}
 use denote.Triple.Table.{entered, cited}
 use denote.Triple.Walked.{says, Stays, stay-ref, walkOf, goes-ref, Walks, ends-at, walked, walk-meets}
-use Rattle.walker.specs.Walk.{stepAt, nextAt}
+use Rattle.walker.specs.Walk.{foundOf, stepCall, nextAt}
 use Rattle.walker.specs.declared.Walker.{Walker}
 use Rattle.walker.specs.declared.Found.{Found}
 use Rattle.walker.specs.declared.Moved.{Moved}
@@ -136,7 +136,7 @@ module _ {M : Type 1} (𝓤 : URA M) (H : Heap 𝓤) (A : Atoms 𝓤) (W : Given
       move ! (2 ∷ 0 ∷ []) $ use2 W (raw (MoveAt 𝓤 H A at-mem run .pre to)) asked $ frame ! $ done !)
 
   abbrev Tells : Moved → Type 0
-  Tells r = (r .step ≡ stepAt (now (h .rec)) (h .at)) × (r .at ≡ nextAt (now (h .rec)) (h .at))
+  Tells r = (foundOf (r .step) ≡ stepCall (now (h .rec)) (h .at)) × (r .at ≡ nextAt (now (h .rec)) (h .at))
 
   said : (r : Moved) → ent 𝓤 (ensured 𝓤 H A move-at.ended (move-at.clauses 𝓤 H A at-mem run) (κ′, tt) (h .rec, (h .at, tt)) tt r) (fact 𝓤 (Tells r))
   said r = exE 𝓤 _ (λ ws. snd∗ 𝓤 (sem 𝓤 H A (lasts move-at.ended (κ′, tt) (h .rec, (h .at, tt)) ws)) (fact 𝓤 (Tells r)))
