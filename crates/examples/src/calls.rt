@@ -58,6 +58,10 @@ fn asked(word: &[u8], a: &[u8], k: usize) -> bool {
         show::step(walker::step(a, k));
         return true;
     }
+    if check::same(word, b"nth") {
+        show::step(walker::core::nth(a, k));
+        return true;
+    }
     if check::same(word, b"walk") {
         walk(a);
         return true;

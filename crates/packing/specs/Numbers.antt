@@ -33,7 +33,7 @@ small (success (m ∷ n ∷ [])) = leb m most && leb n most
 small (success (m ∷ n ∷ k ∷ ns)) = false
 small (refused n) = true
 
--- what a step finds: the kind and 256 times the count; 0 at the end
+-- what a step gives, two numbers or none: the kind and 256 times the count; 0 at the end
 abbrev pub stepNumber : Answer → ℕ
 stepNumber (success []) = 0
 stepNumber (success (kind ∷ [])) = kind

@@ -1,6 +1,6 @@
 -- "A step gives the kind and count found there and moves on by one; past the last record, and wherever the record is
 -- refused, it gives the end."
-use Prim.Native.Nat.{ℕ, _+_}
+use Prim.Native.Nat.{ℕ, zero, suc, _+_}
 use mathlib.Core.List.{List, [], _∷_}
 use mathlib.Core.Bool.{cond}
 use lib.Dec.{ltb}
@@ -32,3 +32,8 @@ behind (refused n) at = at
 
 abbrev pub nextAt : List ℕ → ℕ → ℕ
 nextAt r at = behind (stepCall r at) at
+
+-- where a new walker stands after k steps
+abbrev pub positionAfter : List ℕ → ℕ → ℕ
+positionAfter r zero = 0
+positionAfter r (suc k) = nextAt r (positionAfter r k)

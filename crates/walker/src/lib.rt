@@ -3,6 +3,8 @@ use answers::Fact;
 ghost use mathlib.Core.Path.{_≡_};
 ghost use Rattle.walker.specs.Walk.{foundOf, stepCall, nextAt};
 
+pub mod core;
+
 pub struct Walker<'a> {
     pub rec: &'a [u8],
     pub at: usize,
