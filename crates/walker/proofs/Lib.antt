@@ -1,2 +1,3 @@
 -- walker
 pub mod Steps
+pub mod Unread
