@@ -187,10 +187,6 @@ emitted-over : (n k kind c : ℕ) → writtenOpIfAny n k kind c [] ≡ []
 unfolding writtenOpIfAny
 emitted-over n k kind c = ifZero-elim (λ q. q ≡ []) c (λ _. refl) (λ _. simp over-none)
 
-pub spilled-none : (n : ℕ) (e : Emitter) → flushedIfClosed n e [] ≡ []
-unfolding flushedIfClosed flushedAt
-spilled-none n e = ifZero-elim (λ q. q ≡ []) (e .ret) (λ _. refl) (λ _. simp emitted-over)
-
 pub flushed-none : (n : ℕ) (e : Emitter) → flushed n e [] ≡ []
 unfolding flushedAt
 flushed-none n e = simp emitted-over

@@ -10,7 +10,7 @@ use lib.Dec.{T, eqb, leb}
 use lib.ListN.{length, take, drop}
 use Rattle.characters.specs.Form.{wellFormed, wellChar}
 use Rattle.characters.specs.Chars.{numChars}
-use Rattle.characters.specs.Text.{Char, chars, bytes}
+use Rattle.characters.specs.Text.{Char, chars}
 use Rattle.characters.specs.Scalar.{encodeScalar}
 use Rattle.characters.specs.Order.{order}
 use Rattle.characters.proofs.Texts.{Octets, octets, chars-length}

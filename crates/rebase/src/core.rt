@@ -69,7 +69,8 @@ fn store_counterpart(
 )
     requires { ⌜ (to ≡ from + sizeIn f) × (slots ≤ 2 ^ 40) × (nb ≤ 2 ^ 40) × (f .ops ≤ slots) × (textStart slots ≤ length (now side))
         × (textStart nb + f .text ≤ length (now rec)) × Under (2 ^ 40) f ⌝ }
-    ensures { λ _. ⌜ StoresCounterpart slots f (now (side .entry)) nb (now (rec .entry)) from to (now (parts .entry)) (now (parts .exit)) ⌝ }
+    ensures { λ _. ⌜ StoresCounterpart slots f (now (side .entry)) nb (now (rec .entry)) from to (now (parts .entry))
+        (now (parts .exit)) ⌝ }
 {
     if to <= parts.len() {
         steps::core::place_with_text(&mut parts[from..], side, slots, f, rec, nb);

@@ -30,7 +30,7 @@ use Rattle.session.specs.Demand.{Fresh, Given, Call, accept, logAfter, f
 use Rattle.session.specs.Keeping.{carryAll, newest, Spared}
 use Rattle.session.proofs.Rows.{summary, summary-built, summary-base, summary-plays}
 use Rattle.session.proofs.Accepting.{SoundIn}
-use Rattle.session.proofs.Running.{fed-start, fed-sound, left-log, after-sound, after-start, after-log, fresh-log}
+use Rattle.session.proofs.Running.{fed-start, fed-sound, left-log, after-start, after-log, fresh-log}
 use Rattle.session.proofs.Meeting.{revisions-in, goes-fed}
 use Rattle.session.proofs.Demands.{session-log, session-sound, demand3}
 use Rattle.session.proofs.Keeping.{nothing-lost, typed-stands}

@@ -9,8 +9,8 @@ ghost use lib.ListN.{length};
 ghost use mathlib.Core.Bool.{not};
 ghost use Rattle.record.specs.Record.{soundEntry};
 ghost use Rattle.record.specs.Layout.{opCountOf, textStart, maxOps};
-ghost use Rattle.tally.specs.InnerTally.{HasEntries, picked, entry, mayFollow, tallied, Tallied, Whole, partedBy, Parted, sumFrom, clashAt};
-ghost use Rattle.tally.specs.InnerTally.{entriesOf};
+ghost use Rattle.tally.specs.InnerTally.{HasEntries, picked, entry, mayFollow, tallied, Tallied, Whole};
+ghost use Rattle.tally.specs.InnerTally.{partedBy, Parted, sumFrom, clashAt, entriesOf};
 
 // What the kinds and the counts come to: the bytes inserted, whether all neighbours may stand so, the characters of
 // the text before the edit, and those of them that stay.

@@ -1,5 +1,5 @@
 use Prim.Native.Nat.{_-_}
-use mathlib.Core.Path.{_≡_, refl, sym, _∙_}
+use mathlib.Core.Path.{_≡_, refl, sym}
 use lib.ListN.{length, take}
 use borrow.Author.Needs.{needs}
 use Rattle.buffers.specs.InnerOver.{over}

@@ -45,7 +45,6 @@ use denote.Triple.Table.{entered, cited}
 use denote.Triple.Walked.{says, Stays, stay-ref, walkOf, goes-ref, Walks, ends-at, walked, walk-meets}
 use Rattle.walker.specs.Walk.{foundOf, stepCall, nextAt}
 use Rattle.walker.specs.declared.Walker.{Walker}
-use Rattle.walker.specs.declared.Found.{Found}
 use Rattle.walker.specs.declared.Moved.{Moved}
 use Rattle.walker.proofs.Walker as T
 use Rattle.walker.proofs.Walker.Laws as T′
