@@ -135,7 +135,8 @@ const MEDIUM_STAGE: usize = HEADER + OP_BYTES * MEDIUM_OPS;
 
 const LARGE_STAGE: usize = HEADER + OP_BYTES * MAX_OPS;
 
-// With stages of several lengths: what is cleared is paid for.
+// With stages of several lengths: what is cleared is paid for. (The answer is taken apart because one that is handed on whole is
+// copied, and the copy waits for the bytes.)
 fn in_small_stages(
     a: &[u8],
     na: usize,
@@ -150,7 +151,7 @@ fn in_small_stages(
 {
     let mut stage_a = [0u8; SMALL_STAGE];
     let mut stage_b = [0u8; SMALL_STAGE];
-    staged(
+    match staged(
         a,
         na,
         b,
@@ -160,7 +161,10 @@ fn in_small_stages(
         SMALL_OPS,
         out_a,
         out_b,
-    )
+    ) {
+        WrittenPair::Bytes(k, l) => WrittenPair::Bytes(k, l),
+        WrittenPair::Refused(x) => WrittenPair::Refused(x),
+    }
 }
 
 fn in_medium_stages(
@@ -177,7 +181,7 @@ fn in_medium_stages(
 {
     let mut stage_a = [0u8; MEDIUM_STAGE];
     let mut stage_b = [0u8; MEDIUM_STAGE];
-    staged(
+    match staged(
         a,
         na,
         b,
@@ -187,7 +191,10 @@ fn in_medium_stages(
         MEDIUM_OPS,
         out_a,
         out_b,
-    )
+    ) {
+        WrittenPair::Bytes(k, l) => WrittenPair::Bytes(k, l),
+        WrittenPair::Refused(x) => WrittenPair::Refused(x),
+    }
 }
 
 fn in_large_stages(
@@ -204,7 +211,7 @@ fn in_large_stages(
 {
     let mut stage_a = [0u8; LARGE_STAGE];
     let mut stage_b = [0u8; LARGE_STAGE];
-    staged(
+    match staged(
         a,
         na,
         b,
@@ -214,7 +221,10 @@ fn in_large_stages(
         MAX_OPS,
         out_a,
         out_b,
-    )
+    ) {
+        WrittenPair::Bytes(k, l) => WrittenPair::Bytes(k, l),
+        WrittenPair::Refused(x) => WrittenPair::Refused(x),
+    }
 }
 
 // Of two records that were checked.
