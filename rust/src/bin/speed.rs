@@ -146,11 +146,11 @@ mod measured {
         (0..n).map(|i| if mixed { MIXED[(i + seed) % 8] } else { ASCII[(i + seed) % 8] }).collect()
     }
 
-    // `records` operations over a base of at least that many characters: retains, inserts and deletes in turn.
-    fn sequence(records: usize, mixed: bool, base: usize, seed: usize) -> OperationSeq {
+    // `operations` operations over a base of at least that many characters: retains, inserts and deletes in turn.
+    fn sequence(operations: usize, mixed: bool, base: usize, seed: usize) -> OperationSeq {
         let mut s = OperationSeq::default();
         let mut k = 0;
-        while s.ops().len() < records {
+        while s.ops().len() < operations {
             match (k + seed) % 3 {
                 0 => s.retain(2 + (k as u64 + seed as u64) % 3),
                 1 => s.insert(&letters(mixed, 1 + (k + seed) % 5, k)),
@@ -165,20 +165,20 @@ mod measured {
     }
 
     fn pass(report: &mut Report) {
-        report.say("| call | records | ours, ns | the Rust, ns | ratio |");
+        report.say("| call | operations | ours, ns | the Rust, ns | ratio |");
         report.say("|---|---|---|---|---|");
         for mixed in [false, true] {
             let kind = if mixed { "mixed" } else { "ASCII" };
-            for records in [1, 10, 100, 1000] {
-                let size = format!("{records}, {kind}");
-                let base = 4 * records + 8;
-                let x = sequence(records, mixed, base, 0);
+            for operations in [1, 10, 100, 1000] {
+                let size = format!("{operations}, {kind}");
+                let base = 4 * operations + 8;
+                let x = sequence(operations, mixed, base, 0);
                 let base = x.base_len();
-                let y = sequence(records, mixed, base, 1);
-                let y = if y.base_len() == base { y } else { sequence(records, mixed, base, 2) };
-                let y = if y.base_len() == base { y } else { sequence(records, mixed, base, 0) };
+                let y = sequence(operations, mixed, base, 1);
+                let y = if y.base_len() == base { y } else { sequence(operations, mixed, base, 2) };
+                let y = if y.base_len() == base { y } else { sequence(operations, mixed, base, 0) };
                 let z = {
-                    let mut z = sequence(records.saturating_sub(1).max(1), mixed, 0, 1);
+                    let mut z = sequence(operations.saturating_sub(1).max(1), mixed, 0, 1);
                     while z.base_len() > x.target_len() {
                         z = sequence(z.ops().len() / 2, mixed, 0, 1);
                     }
@@ -374,12 +374,12 @@ mod measured {
             report.say(&format!("| after {revisions} | {size} | {} | {:.2} |", show(ours), ours / size as f64));
         }
         report.say("");
-        report.say("| call | ns for each record at 100 | at 1000 | at 1024 |");
+        report.say("| call | ns for each operation at 100 | at 1000 | at 1024 |");
         report.say("|---|---|---|---|");
         for what in ["check", "apply", "compose", "transform"] {
             let mut row = Vec::new();
-            for records in [100usize, 1000, 1023] {
-                let x = sequence(records, false, 4 * records + 8, 0);
+            for operations in [100usize, 1000, 1023] {
+                let x = sequence(operations, false, 4 * operations + 8, 0);
                 let mut y = OperationSeq::default();
                 y.retain(x.base_len() as u64);
                 let mut z = OperationSeq::default();
@@ -413,13 +413,13 @@ mod measured {
         report.say("");
         report.say("| call | operations | ours, ns | the Rust, ns | ratio |");
         report.say("|---|---|---|---|---|");
-        for records in [1, 10, 100, 1000] {
-            let x = sequence(records, false, 0, 0);
+        for operations in [1, 10, 100, 1000] {
+            let x = sequence(operations, false, 0, 0);
             let mut rec = vec![0u8; ot::RECORD];
             let mut out = vec![0u8; ot::RECORD];
             report.aside(
                 "build, from nothing",
-                &records.to_string(),
+                &operations.to_string(),
                 &mut || {
                     rec[..8].copy_from_slice(&ot::EMPTY);
                     for o in black_box(&x).ops() {

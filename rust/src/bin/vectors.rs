@@ -356,17 +356,17 @@ mod list {
         }
     }
 
-    // (retain 1, delete m) over and over, `records` in all.
-    fn fence(records: usize, m: usize) -> OperationSeq {
-        let ops: Vec<_> = (0..records).map(|k| if k % 2 == 0 { Op::Retain(1) } else { Op::Delete(m) }).collect();
+    // (retain 1, delete m) over and over, `operations` in all.
+    fn fence(operations: usize, m: usize) -> OperationSeq {
+        let ops: Vec<_> = (0..operations).map(|k| if k % 2 == 0 { Op::Retain(1) } else { Op::Delete(m) }).collect();
         seq(&ops)
     }
 
-    // Results of 1,023, 1,024 and 1,025 records.
-    fn many_records(list: &mut List) {
+    // Results of 1,023, 1,024 and 1,025 operations.
+    fn many_operations(list: &mut List) {
         let mut random = Random(20_261_118);
-        for records in [1023, 1024] {
-            let s = fence(records, 1);
+        for operations in [1023, 1024] {
+            let s = fence(operations, 1);
             list.turn = 0;
             list.builds(&s, 1, "😀");
             list.turn = 0;
@@ -375,8 +375,8 @@ mod list {
         let play = text(&mut random, 1024);
         list.turn = 0;
         list.plays(&fence(1024, 1), &play);
-        for records in [1022, 1023] {
-            let s = fence(records, 2);
+        for operations in [1022, 1023] {
+            let s = fence(operations, 2);
             let t = seq(&[Op::Retain(2), Op::Insert("a".into()), Op::Retain(s.base_len() - 2)]);
             list.turn = 0;
             list.transformed(&s, &t);
@@ -407,7 +407,7 @@ mod list {
 
     pub fn write(directory: &Path) {
         let mut list = List::default();
-        for add in [small_ones, random_ones, long_bases, many_records, long_texts] {
+        for add in [small_ones, random_ones, long_bases, many_operations, long_texts] {
             add(&mut list);
         }
         for (k, part) in list.parts.iter().enumerate() {
