@@ -4,10 +4,10 @@ use answers::Written;
 use emitter::core::Emitter;
 use record::core::MAX_OPS;
 ghost use mathlib.Core.Path.{_≡_};
-ghost use Prim.Native.Nat.{_^_, _≤_};
+ghost use Prim.Native.Nat.{_*_, _^_, _≤_};
 ghost use Rattle.edits.specs.Compose.{compose as composeOf};
 ghost use Rattle.answers.specs.InnerGiven.{Gives};
-ghost use Rattle.record.specs.Layout.{baseOf, targetOf};
+ghost use Rattle.record.specs.Layout.{baseOf, targetOf, maxOps};
 ghost use Rattle.record.specs.Record.{ops, recordFault};
 ghost use Rattle.steps.specs.InnerSteps.{Operands};
 ghost use Rattle.operational_transform.specs.Calls.{composeCall};
@@ -85,7 +85,7 @@ fn place(
     e: Emitter,
     out: &mut [u8],
 )
-    requires { ⌜ Operands na nb (now a) (now b) × (slots ≤ 2048) × (targetOf (now a) ≡ baseOf (now b)) × Under (2 ^ 40) e
+    requires { ⌜ Operands na nb (now a) (now b) × (slots ≤ 2 * maxOps) × (targetOf (now a) ≡ baseOf (now b)) × Under (2 ^ 40) e
         × Staged slots (composeOf (ops (now a)) (ops (now b))) e (now stage) ⌝ }
     ensures { λ _. ⌜ Writes (e .ops) (composeOf (ops (now (a .entry))) (ops (now (b .entry)))) (now (out .entry)) (now (out .exit)) ⌝ }
 {
@@ -107,7 +107,7 @@ fn staged(
     slots: usize,
     out: &mut [u8],
 ) -> Written
-    requires { ⌜ Operands na nb (now a) (now b) × (slots ≤ 2048) × (targetOf (now a) ≡ baseOf (now b)) ⌝ }
+    requires { ⌜ Operands na nb (now a) (now b) × (slots ≤ 2 * maxOps) × (targetOf (now a) ≡ baseOf (now b)) ⌝ }
     ensures { λ r. ⌜ Gives (composeCall (now (a .entry)) (now (b .entry)) (now (out .entry))) r (now (out .exit)) ⌝ }
 {
     // made anew, since a slice that is handed on as it came is copied, and the copy waits for its bytes
@@ -147,7 +147,7 @@ fn in_medium_stage(a: &[u8], na: usize, b: &[u8], nb: usize, out: &mut [u8]) -> 
 }
 
 fn in_large_stage(a: &[u8], na: usize, b: &[u8], nb: usize, slots: usize, out: &mut [u8]) -> Written
-    requires { ⌜ Operands na nb (now a) (now b) × (slots ≤ 2048) × (targetOf (now a) ≡ baseOf (now b)) ⌝ }
+    requires { ⌜ Operands na nb (now a) (now b) × (slots ≤ 2 * maxOps) × (targetOf (now a) ≡ baseOf (now b)) ⌝ }
     ensures { λ r. ⌜ Gives (composeCall (now (a .entry)) (now (b .entry)) (now (out .entry))) r (now (out .exit)) ⌝ }
 {
     let mut stage = [0u8; LARGE_STAGE];

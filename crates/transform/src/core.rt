@@ -17,7 +17,7 @@ ghost use Rattle.record.specs.Record.{recordFault, ops};
 ghost use Rattle.emitter.specs.InnerEmit.{Under, limitsThenRoomBoth};
 ghost use Rattle.steps.specs.InnerBoth.{BegunBoth, MarkedBoth};
 ghost use Rattle.steps.specs.InnerSteps.{Operands, liveIs};
-ghost use Rattle.transform.specs.InnerPairs.{Transforms};
+ghost use Rattle.transform.specs.InnerPairs.{Transforms, smallOps, mediumOps};
 
 fn begin(a: &[u8], na: usize, b: &[u8], nb: usize) -> Both
     requires { ⌜ Operands na nb (now a) (now b) ⌝ }
@@ -145,7 +145,7 @@ fn in_small_stages(
     out_a: &mut [u8],
     out_b: &mut [u8],
 ) -> WrittenPair
-    requires { ⌜ Operands na nb (now a) (now b) × (na + nb ≤ 40) × (baseOf (now a) ≡ baseOf (now b)) ⌝ }
+    requires { ⌜ Operands na nb (now a) (now b) × (na + nb ≤ smallOps) × (baseOf (now a) ≡ baseOf (now b)) ⌝ }
     ensures { λ r. ⌜ Transforms (now (a .entry)) (now (b .entry)) (now («out_a» .entry)) (now («out_b» .entry)) r (now («out_a» .exit))
         (now («out_b» .exit)) ⌝ }
 {
@@ -175,7 +175,7 @@ fn in_medium_stages(
     out_a: &mut [u8],
     out_b: &mut [u8],
 ) -> WrittenPair
-    requires { ⌜ Operands na nb (now a) (now b) × (na + nb ≤ 338) × (baseOf (now a) ≡ baseOf (now b)) ⌝ }
+    requires { ⌜ Operands na nb (now a) (now b) × (na + nb ≤ mediumOps) × (baseOf (now a) ≡ baseOf (now b)) ⌝ }
     ensures { λ r. ⌜ Transforms (now (a .entry)) (now (b .entry)) (now («out_a» .entry)) (now («out_b» .entry)) r (now («out_a» .exit))
         (now («out_b» .exit)) ⌝ }
 {
