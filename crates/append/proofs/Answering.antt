@@ -28,7 +28,7 @@ use Rattle.log.specs.Log.{encodeAll, countOf, readable, sizeOfLog, lengthAt, re
 use Rattle.log.specs.InnerScan.{Found, Scans}
 use Rattle.session.specs.Rows.{Moved, rebase}
 use Rattle.session.specs.Session.{movedIn, acceptFault, append, acceptCall}
-use Rattle.rebase.specs.InnerRunning.{Holds, HandsOut}
+use Rattle.counterparts.specs.InnerRunning.{Holds, HandsOut}
 use Rattle.append.specs.InnerAccepting.{Rooms, Admitted, MovedPast, Accepts}
 
 -- the record of e in a buffer has as many bytes as e's

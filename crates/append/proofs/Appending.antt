@@ -18,8 +18,8 @@ use Rattle.log.specs.Log.{countOf, placeOf, sizeOfLog, encodeAll, revisions}
 use Rattle.log.proofs.Scanning.{revisions-end}
 use Rattle.session.specs.Session.{append}
 use Rattle.session.specs.Rows.{rebase}
-use Rattle.rebase.specs.InnerRunning.{Holds, Rebased, HandsOut}
-use Rattle.rebase.proofs.Passing.{front-holds}
+use Rattle.counterparts.specs.InnerRunning.{Holds, Rebased, HandsOut}
+use Rattle.counterparts.proofs.Passing.{front-holds}
 use Rattle.append.specs.InnerAccepting.{MovedPast}
 
 pub appends : (log : List ℕ) (s : Scan) (rec : List ℕ) (size : ℕ) → s .count ≡ countOf log → s .count ≤ 256 → s .size ≡ sizeOfLog log → size ≤ length rec → s .size + size ≤ length log → (l₁ l₂ : List ℕ)

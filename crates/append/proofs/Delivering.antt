@@ -18,9 +18,9 @@ use Rattle.reader.proofs.Fronts.{fault-size, fault-small}
 use Rattle.log.specs.declared.core.Scan.{Scan}
 use Rattle.log.specs.Log.{encodeAll, countOf, editsIn, revisions}
 use Rattle.session.specs.Rows.{rebase}
-use Rattle.rebase.specs.declared.core.Run.{Run}
-use Rattle.rebase.specs.declared.core.Run.the-variants as outcome
-use Rattle.rebase.specs.InnerRunning.{Runs, HandsOut}
+use Rattle.counterparts.specs.declared.core.Run.{Run}
+use Rattle.counterparts.specs.declared.core.Run.the-variants as outcome
+use Rattle.counterparts.specs.InnerRunning.{Runs, HandsOut}
 use Rattle.append.specs.InnerAccepting.{Admitted, MovedPast, Stored, Accepts, TriesTo, Tries}
 use Rattle.append.specs.declared.core.Tried.{Tried}
 use Rattle.append.specs.declared.core.Tried.the-variants as tried

@@ -12,8 +12,8 @@ use Rattle.log.specs.Log.{sizesIn, lengthIn, editsIn, countOf, startOf, records
 use Rattle.log.specs.declared.core.Scan.{Scan}
 use Rattle.log.specs.InnerScan.{Found}
 use Rattle.log.proofs.Scanning.{reads, drop-place, place-inside}
-use Rattle.rebase.specs.InnerRunning.{RecordsFollow}
-use Rattle.rebase.proofs.Moving.{lie-first, lie-rest}
+use Rattle.counterparts.specs.InnerRunning.{RecordsFollow}
+use Rattle.counterparts.proofs.Following.{lie-first, lie-rest}
 
 -- ---- records that stand end to end
 

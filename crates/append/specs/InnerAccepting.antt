@@ -15,7 +15,7 @@ use Rattle.log.specs.Log.{countOf, lengthAt, maxRevisions, revisions, encodeAll
 use Rattle.log.specs.InnerScan.{Found}
 use Rattle.session.specs.Rows.{rebase}
 use Rattle.session.specs.Session.{acceptCall}
-use Rattle.rebase.specs.InnerRunning.{Rebased}
+use Rattle.counterparts.specs.InnerRunning.{Rebased}
 use Rattle.append.specs.declared.core.Tried.{Tried}
 use Rattle.append.specs.declared.core.Tried.the-variants as tried
 

@@ -9,7 +9,7 @@ ghost use Rattle.record.specs.Record.{ops, recordFault};
 ghost use Rattle.record.specs.Layout.{sizeOf};
 ghost use Rattle.log.specs.Log.{countOf, sizeOfLog, maxRevisions};
 ghost use Rattle.session.specs.Session.{append as appended};
-ghost use Rattle.rebase.specs.InnerRunning.{Holds};
+ghost use Rattle.counterparts.specs.InnerRunning.{Holds};
 ghost use Rattle.append.specs.InnerAccepting.{Rooms, Admitted, Accepts, MovedPast, Stored, Tries};
 
 // Whether the log, of which `used` bytes are taken, has room for `size` more, and the output for the counterparts.

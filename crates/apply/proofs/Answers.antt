@@ -26,8 +26,8 @@ use Rattle.record.specs.Record.{recordFault}
 use Rattle.record.specs.Calls.{checkCall}
 use Rattle.record.proofs.Checked.{same-refusal, passed}
 use Rattle.operational_transform.specs.Calls.{textFault, applyCall}
-use Rattle.apply.specs.InnerSteps.{played}
-use Rattle.apply.proofs.Playing.{played-most}
+use Rattle.apply_steps.specs.InnerSteps.{played}
+use Rattle.apply_steps.proofs.Playing.{played-most}
 
 -- ---- apply
 

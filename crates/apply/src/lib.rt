@@ -12,8 +12,6 @@ ghost use Rattle.record.specs.Layout.{baseOf};
 ghost use Rattle.record.specs.Record.{recordFault};
 ghost use Rattle.operational_transform.specs.Calls.{applyCall};
 
-pub mod core;
-
 // The text after the edit: retain copies, delete skips, insert writes.
 pub fn apply(rec: &[u8], text: &[u8], out: &mut [u8]) -> Written
     ensures { λ r. ⌜ (writtenOf r ≡ applyCall (now (rec .entry)) (now (text .entry)) (now (out .entry)) .answer)
@@ -43,11 +41,11 @@ fn write(rec: &[u8], text: &[u8], out: &mut [u8]) -> Written
 {
     let inserted = reader::core::text_bytes(rec);
     if text.len() + inserted <= out.len() {
-        return Written::Bytes(core::apply_into(out, rec, text));
+        return Written::Bytes(apply_steps::core::apply_into(out, rec, text));
     }
-    let size = core::apply_into(&mut out[..0], rec, text);
+    let size = apply_steps::core::apply_into(&mut out[..0], rec, text);
     if out.len() < size {
         return Written::Refused(Refusal::Room);
     }
-    Written::Bytes(core::apply_into(out, rec, text))
+    Written::Bytes(apply_steps::core::apply_into(out, rec, text))
 }

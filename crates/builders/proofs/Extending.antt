@@ -1,10 +1,9 @@
 -- The record of the operations and the one added, as it is written.
-use Prim.Native.Nat.{ℕ, _+_, _≤_, _-_, _<_}
+use Prim.Native.Nat.{ℕ, _+_, _≤_, _<_}
 use mathlib.Core.Path.{_≡_, sym, ap, _∙_, refl}
 use native.Mathlib.Omega.{arith}
 use mathlib.Core.List.{List, _++_, reverse, reverse-reverse, []}
-use lib.ListN.{length, length-reverse, take, drop, length-append}
-use lib.Seq.{take-all}
+use lib.ListN.{length, length-reverse, length-append}
 use mathlib.Core.Bool.{true, Bool, false}
 use lib.Dec.{T}
 use Rattle.buffers.specs.InnerOver.{over}
@@ -24,27 +23,21 @@ use Rattle.answers.specs.declared.Fact.{Fact}
 use Rattle.answers.specs.declared.Fact.the-variants as fact
 use Rattle.answers.specs.Answer.{factOf}
 use Rattle.answers.specs.declared.Refusal.the-variants.{Limit}
-use Rattle.record.specs.Record.{text, ops, recordFault, fits, inBytes, inserted}
+use Rattle.record.specs.Record.{ops, recordFault, fits, inBytes, inserted}
 use Rattle.record.specs.Layout.{opCountOf, textBytesOf, textStart, maxSize}
 use Rattle.record.specs.Calls.{checkCall}
 use Rattle.record.proofs.Faults.{limits, faultless}
 use Rattle.record.proofs.Sequences.{fits-limits}
 use Rattle.operational_transform.specs.Calls.{deliver}
 use Rattle.emitter.specs.declared.core.Emitter.{Emitter}
-use Rattle.emitter.specs.InnerEmit.{one, flushed, textsOf, laid, group, relocated, Done, headed, limitsThenRoom}
+use Rattle.places.specs.InnerPlaces.{relocated}
+use Rattle.emitter.specs.InnerEmit.{flushed, textsOf, laid, group, Done, headed, limitsThenRoom}
 use Rattle.emitter.proofs.Emitting.{flushed-few, group-text, group-length, lay-group}
 use Rattle.emitter.proofs.Delivering.{text-ahead}
 use Rattle.emitter.proofs.Giving.{gives-refused, gives-written, text-refused, no-text, gives-limit}
 use Rattle.emitter.proofs.Loops.{add-base}
-use Rattle.builders.specs.InnerExtending.{closedOf, Grown}
-use Rattle.builders.proofs.Growing.{add-texts}
-
--- ---- `closed`, `finish`
-
-module _ (f : Emitter) where
-  pub closes : {x y z : ℕ} → x ≡ one (f .ins) → y ≡ one (f .del) → z ≡ one (f .ret)
-      → record { ins = 0; del = 0; ret = 0; ops = f .ops + x + y + z; text = f .text; base = f .base; target = f .target } ≡ closedOf f
-  closes p q r = rw (p, q, r)
+use Rattle.extend.specs.InnerExtending.{closedOf, Grown}
+use Rattle.extend.proofs.Growing.{add-texts}
 
 -- ---- all that is written
 
@@ -102,12 +95,6 @@ text-room r k t z p q = omega (arith, limits r .0 (faultless r .0 z .in-limits))
 
 pub before-few : (r : List ℕ) (p : Op Char) (u : List ℕ) (f : Emitter) → Grown r p u f → (k : ℕ) → k ≡ opCountOf r → f .ops ≤ k
 before-few r p u f a k e = omega (arith, a .few)
-
--- `settle_with`
-pub settles-with : (m n k t at : ℕ) (r u o : List ℕ) {o₁ o₂ : List ℕ} → at ≡ textStart n → o₁ ≡ relocated m n k t r o → o₂ ≡ over (at + t) (take (length u - 0) (drop 0 u)) o₁ → o₂ ≡ over (textStart n + t) u (relocated m n k t r o)
-settles-with m n k t at r u o p q w =
-    let z = take-all (length u - 0) u (omega arith) in
-    w ∙ (λ i. over (p i + t) (z i) (q i))
 
 -- ---- the entries
 

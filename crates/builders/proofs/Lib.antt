@@ -1,3 +1,2 @@
 -- builders
-pub mod Growing
 pub mod Extending

@@ -93,7 +93,7 @@ fn place(
         write(a, na, b, nb, out, e.ops);
         return;
     }
-    emitter::core::relocate(out, e.ops, stage, slots, e.ops, e.text);
+    places::core::relocate(out, e.ops, stage, slots, e.ops, e.text);
     emitter::core::write_header(out, e);
 }
 

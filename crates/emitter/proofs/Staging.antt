@@ -13,7 +13,8 @@ use Rattle.buffers.proofs.Tests.{known, le-and}
 use Rattle.edits.specs.Sequence.{Seq}
 use Rattle.record.specs.Layout.{kindsStart, countsStart, textStart}
 use Rattle.record.specs.Record.{inBytes, text}
-use Rattle.emitter.specs.InnerEmit.{kindsOf, countsOf, laid, textsOf, Under, Sizes, Writes, Marked, headed, relocatedOps, Done, Staged, relocated}
+use Rattle.places.specs.InnerPlaces.{relocatedOps, relocated}
+use Rattle.emitter.specs.InnerEmit.{kindsOf, countsOf, laid, textsOf, Under, Sizes, Writes, Marked, headed, Done, Staged}
 use Rattle.emitter.specs.declared.core.Emitter.{Emitter}
 use Rattle.emitter.proofs.Emitting.{length-kinds, length-counts}
 use Rattle.emitter.proofs.Delivering.{text-ahead}
@@ -133,22 +134,3 @@ module _ (e : Emitter) (slots room : ℕ) where
 
   pub place-text : (x : ℕ) → x ≡ textStart slots → e .ops ≤ slots → leb (x + e .text) room ≡ (leb (e .ops) slots && leb (textStart slots + e .text) room)
   place-text x p h = rw (le-leb (e .ops) slots h, p)
-
-part-is : (p q a b m : ℕ) (s o : List ℕ) → p ≡ q → a ≡ b → over p (take (a + m - a) (drop a s)) o ≡ over q (take m (drop b s)) o
-part-is p q a b m s o x y = let z : a + m - a ≡ m = omega arith in λ i. over (x i) (take (z i) (drop (y i) s)) o
-
-pub settles-records : (slots n k : ℕ) (stage o : List ℕ) {a c d : ℕ} {o₁ o₂ : List ℕ} → a ≡ kindsStart + 0 → c ≡ countsStart slots + 2 * 0 → d ≡ countsStart n + 2 * 0
-    → o₁ ≡ over d (take (c + 2 * k - c) (drop c stage)) o → o₂ ≡ over a (take (a + k - a) (drop a stage)) o₁ → o₂ ≡ relocatedOps slots n k stage o
-settles-records slots n k stage o {a} {c} {d} pa pc pd q r =
-    let a8 : a ≡ kindsStart = omega arith in
-    let cs : c ≡ countsStart slots = omega arith in
-    let dn : d ≡ countsStart n = omega arith in
-    r
-    ∙ part-is a kindsStart a kindsStart k stage _ a8 a8
-    ∙ ap (over kindsStart (take k (drop kindsStart stage))) (q ∙ part-is d (countsStart n) c (countsStart slots) (2 * k) stage o dn cs)
-
-pub settles : (slots n k t : ℕ) (stage o : List ℕ) {a c f x d : ℕ} {o₁ o₂ o₃ : List ℕ} → a ≡ kindsStart + 0 → c ≡ countsStart slots + 2 * 0 → f ≡ textStart slots → x ≡ textStart n → d ≡ countsStart n + 2 * 0
-    → o₁ ≡ over x (take (f + t - f) (drop f stage)) o → o₂ ≡ over d (take (c + 2 * k - c) (drop c stage)) o₁ → o₃ ≡ over a (take (a + k - a) (drop a stage)) o₂ → o₃ ≡ relocated slots n k t stage o
-unfolding relocated
-settles slots n k t stage o {a} {c} {f} {x} {d} {o₁} pa pc pf px pd p q r =
-    settles-records slots n k stage o₁ pa pc pd q r ∙ ap (relocatedOps slots n k stage) (p ∙ part-is x (textStart n) f (textStart slots) t stage o px pf)

@@ -2,7 +2,7 @@
 use Prim.Native.Nat.{ℕ, _+_, _*_, _≤_, suc, _^_}
 use mathlib.Core.List.{List, [], _∷_, _++_, map, reverse}
 use mathlib.Core.Path.{_≡_}
-use lib.ListN.{length, take, drop}
+use lib.ListN.{length}
 use mathlib.Core.Bool.{Bool, _&&_, cond}
 use lib.Dec.{leb}
 use Rattle.buffers.specs.InnerOver.{over, bytes16}
@@ -15,31 +15,16 @@ use Rattle.answers.specs.declared.Written.{Written}
 use Rattle.answers.specs.declared.Written.the-variants as written
 use Rattle.answers.specs.declared.WrittenPair.{WrittenPair}
 use Rattle.answers.specs.declared.WrittenPair.the-variants as pair
-use Rattle.record.specs.Layout.{kindsStart, countsStart, deleteKind, insertKind, retainKind, textStart, maxOps, maxSize}
+use Rattle.record.specs.Layout.{kindsStart, countsStart, textStart, maxOps, maxSize}
 use Rattle.record.specs.Record.{text, inBytes, code, inserted}
+use Rattle.places.specs.InnerPlaces.{one, flushedAt}
 use Rattle.emitter.specs.declared.core.Emitter.{Emitter}
 
 -- ---- the pending group: an insert, a delete and a retain, each of which may be missing
 
-abbrev pub one : ℕ → ℕ
-one c = ifZero c 0 1
-
--- kind and count of operation k of n
-abbrev pub writtenOp : ℕ → ℕ → ℕ → ℕ → List ℕ → List ℕ
-writtenOp n k kind c o = over (countsStart n + 2 * k) (bytes16 c) (over (kindsStart + k) (kind ∷ []) o)
-
--- an operation is written where its count is not 0
-unfoldable pub writtenOpIfAny : ℕ → ℕ → ℕ → ℕ → List ℕ → List ℕ
-unfolding over
-writtenOpIfAny n k kind c o = ifZero c o (writtenOp n k kind c o)
-
 -- how many operations there are once the group is flushed, and the buffer then
 abbrev pub flushedOps : Emitter → ℕ
 flushedOps e = e .ops + one (e .ins) + one (e .del) + one (e .ret)
-
-unfoldable pub flushedAt : ℕ → ℕ → ℕ → ℕ → ℕ → List ℕ → List ℕ
-unfolding writtenOpIfAny
-flushedAt n ops ins del ret o = writtenOpIfAny n (ops + one ins + one del) retainKind ret (writtenOpIfAny n (ops + one ins) deleteKind del (writtenOpIfAny n ops insertKind ins o))
 
 abbrev pub flushed : ℕ → Emitter → List ℕ → List ℕ
 flushed n e o = flushedAt n (e .ops) (e .ins) (e .del) (e .ret) o
@@ -168,15 +153,6 @@ pub record Marked (slots : ℕ) (s : Seq) (stage : List ℕ) : Type 0 where
   pub before : List ℕ
   pub as-long : length stage ≡ length before
   pub wrote : length s ≤ slots → stage ≡ laid slots (reverse s) (textsOf (reverse s)) before
-
--- the first k kinds and counts of a record with places for `slots` operations, at their places in one of n
-abbrev pub relocatedOps : ℕ → ℕ → ℕ → List ℕ → List ℕ → List ℕ
-relocatedOps slots n k stage o = over kindsStart (take k (drop kindsStart stage)) (over (countsStart n) (take (2 * k) (drop (countsStart slots) stage)) o)
-
--- and t bytes of its text
-unfoldable pub relocated : ℕ → ℕ → ℕ → ℕ → List ℕ → List ℕ → List ℕ
-unfolding over
-relocated slots n k t stage o = relocatedOps slots n k stage (over (textStart n) (take t (drop (textStart slots) stage)) o)
 
 -- ---- the answer of a call that would write a record of these sizes: 9, then 10
 

@@ -18,7 +18,8 @@ use Rattle.record.specs.declared.core.Front.{Front}
 use Rattle.record.specs.Layout.{insertKind, retainKind, kindAt, deleteKind, textStart}
 use Rattle.record.specs.InnerFront.{opsLeft, Place}
 use Rattle.record.specs.Record.{ops}
-use Rattle.emitter.specs.InnerEmit.{writtenOp, textsOf, laid}
+use Rattle.places.specs.InnerPlaces.{writtenOp}
+use Rattle.emitter.specs.InnerEmit.{textsOf, laid}
 use Rattle.invert_in_place.specs.declared.core.Inversion.{Inversion}
 
 -- how many characters the front's operation takes from the text, and what undoes it where the text goes on with `t`

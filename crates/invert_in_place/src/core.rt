@@ -55,7 +55,7 @@ fn restore(
     ensures { λ to. ⌜ Restores n (now (text .entry)) k at put count (now (out .entry)) to (now (out .exit)) ⌝ }
 {
     let to = skip_chars(text, chars, at, count);
-    emitter::core::write_op(out, n, k, INSERT, to - at);
+    places::core::write_op(out, n, k, INSERT, to - at);
     buffers::core::copy(out, put, text, at, to);
     to
 }
@@ -114,7 +114,7 @@ fn undo_insert(
     if delete_follows(rec, n, k) {
         let next = k + 1;
         let more = reader::core::count(rec, n, next);
-        emitter::core::write_op(out, n, next, DELETE, num);
+        places::core::write_op(out, n, next, DELETE, num);
         let to = restore(text, chars, out, n, k, s.at, s.put, more);
         return Inversion {
             k: k + 2,
@@ -123,7 +123,7 @@ fn undo_insert(
             put: s.put + (to - s.at),
         };
     }
-    emitter::core::write_op(out, n, k, DELETE, num);
+    places::core::write_op(out, n, k, DELETE, num);
     Inversion {
         k: k + 1,
         from: s.from + count,
@@ -141,7 +141,7 @@ fn undo(rec: &[u8], n: usize, text: &[u8], chars: usize, out: &mut [u8], s: Inve
     let kind = reader::core::kind(rec, s.k);
     let count = reader::core::count(rec, n, s.k);
     if kind == RETAIN {
-        emitter::core::write_op(out, n, s.k, RETAIN, count);
+        places::core::write_op(out, n, s.k, RETAIN, count);
         if s.k + 1 == n {
             return Inversion {
                 k: s.k + 1,

@@ -2,8 +2,8 @@
 use answers::Refusal;
 use answers::WrittenPair;
 use append::core::Tried;
+use counterparts::core::Run;
 use log::core::Scan;
-use rebase::core::Run;
 use record::core::HEADER;
 use record::core::MAX_OPS;
 use record::core::MAX_RECORD;

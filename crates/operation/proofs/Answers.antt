@@ -29,15 +29,16 @@ use Rattle.record.proofs.Faults.{InLimits, limits, faultless}
 use Rattle.record.proofs.Records.{byteOps-length, ops-length}
 use Rattle.record.proofs.Walks.{left-all, left-done, left-retain, left-insert, left-delete, inserts-all, inserts-more}
 use Rattle.record.proofs.Checked.{same-refusal, passed}
+use Rattle.entries.specs.InnerTally.{HasEntries}
 use Rattle.tally.specs.declared.core.Entries.{Entries}
 use Rattle.tally.specs.declared.core.Entries.the-variants.{Unsound, Of}
 use Rattle.tally.specs.declared.core.Sums.{Sums}
-use Rattle.tally.specs.InnerTally.{HasEntries, sumsOf, entriesOf}
-use Rattle.tally.proofs.Tallying.{found, Found}
-use Rattle.operation.specs.declared.checks.Inserted.{Inserted}
-use Rattle.operation.specs.declared.checks.Inserted.the-variants.{IllFormed, Chars}
-use Rattle.operation.specs.InnerTexts.{insertedOf, Sound, Reached}
-use Rattle.operation.proofs.Texts.{reached-room, Reach, reach}
+use Rattle.tally.specs.InnerSums.{sumsOf, entriesOf}
+use Rattle.tally.proofs.Summing.{found, Found}
+use Rattle.inserts.specs.declared.core.Inserted.{Inserted}
+use Rattle.inserts.specs.declared.core.Inserted.the-variants.{IllFormed, Chars}
+use Rattle.inserts.specs.InnerTexts.{insertedOf, Sound, Reached}
+use Rattle.inserts.proofs.Texts.{reached-room, Reach, reach}
 
 -- which enum's case is found by a test
 unsound : (b : Bool) (x : Sums) (e : Entries) → e ≡ cond b (Of x) Unsound → e ≡ Unsound → b ≡ false

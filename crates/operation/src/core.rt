@@ -10,5 +10,5 @@ pub fn text_from(rec: &[u8], n: usize, k: usize) -> usize
     requires { ⌜ (recordFault (now rec) ≡ 0) × (n ≡ opCountOf (now rec)) × (k < opCountOf (now rec)) ⌝ }
     ensures { λ r. ⌜ (r ≡ textFrom (now (rec .entry)) k) × (r ≤ maxRecord) ⌝ }
 {
-    crate::checks::text_at(rec, n, k)
+    inserts::core::text_at(rec, n, k)
 }

@@ -2,20 +2,23 @@
 use answers::Fact;
 use answers::Noop;
 use answers::Refusal;
+use record::core::HEADER;
 use record::core::INSERT;
+use record::core::MAX_OPS;
+use record::core::MAX_SIZE;
 use record::core::RETAIN;
 ghost use mathlib.Core.Path.{_≡_};
 ghost use Rattle.answers.specs.Answer.{factOf, noopOf};
+ghost use Rattle.record.specs.Record.{inLimits};
 ghost use Rattle.record.specs.Calls.{checkCall, baseCall, targetCall, noopCall, textCall};
 
-mod checks;
 pub mod core;
 
 // How many bytes the record has, or the lowest of the refusals 1 to 5 that is found in it.
 pub fn check(rec: &[u8]) -> Fact
     ensures { λ r. ⌜ factOf r ≡ checkCall (now (rec .entry)) ⌝ }
 {
-    if !checks::in_limits(rec) {
+    if !in_limits(rec) {
         return Fact::Refused(Refusal::Size);
     }
     let n = layout::core::op_count(rec);
@@ -26,7 +29,12 @@ pub fn check(rec: &[u8]) -> Fact
     if sums.inserts != text {
         return Fact::Refused(Refusal::Entry);
     }
-    let checks::Inserted::Chars(chars) = checks::inserted_chars(rec, n, text, sums.ordered) else {
+    let inserts::core::Inserted::Chars(chars) = inserts::core::inserted_chars(
+        rec,
+        n,
+        text,
+        sums.ordered,
+    ) else {
         return Fact::Refused(Refusal::Utf8);
     };
     if !sums.ordered {
@@ -40,6 +48,30 @@ pub fn check(rec: &[u8]) -> Fact
         return Fact::Refused(Refusal::Sums);
     }
     Fact::Is(layout::core::text_start(n) + text)
+}
+
+// Refusal 1 is not found.
+fn in_limits(rec: &[u8]) -> bool
+    ensures { λ r. ⌜ r ≡ inLimits (now (rec .entry)) ⌝ }
+{
+    if rec.len() < HEADER {
+        return false;
+    }
+    let n = layout::core::op_count(rec);
+    if MAX_OPS < n {
+        return false;
+    }
+    let text = layout::core::text_bytes(rec);
+    if MAX_SIZE < text {
+        return false;
+    }
+    if MAX_SIZE < layout::core::base(rec) {
+        return false;
+    }
+    if MAX_SIZE < layout::core::target(rec) {
+        return false;
+    }
+    layout::core::text_start(n) + text <= rec.len()
 }
 
 // How many characters the text before the edit has.
@@ -96,7 +128,7 @@ pub fn insert_text(rec: &[u8], k: usize) -> &[u8]
     if kind != INSERT {
         return &rec[0..0];
     }
-    let from = checks::text_at(rec, n, k);
+    let from = inserts::core::text_at(rec, n, k);
     let to = from + layout::core::count(rec, n, k);
     &rec[from..to]
 }

@@ -21,7 +21,7 @@ use Rattle.answers.proofs.Outputs.{atFront-take}
 use Rattle.record.specs.Layout.{sizeOf, baseOf}
 use Rattle.record.specs.Record.{ops, recordFault}
 use Rattle.record.proofs.Records.{ops-base, ops-target}
-use Rattle.apply.specs.InnerSteps.{played}
+use Rattle.apply_steps.specs.InnerSteps.{played}
 use Rattle.log.specs.Log.{startOf, countOf, readable, revisions}
 use Rattle.log.proofs.Scanning.{place-start, length-start, place-inside, Revision, revision, revisions-end}
 use Rattle.session.specs.Rows.{playAll, longest}

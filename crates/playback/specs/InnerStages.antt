@@ -8,7 +8,7 @@ use lib.ListN.{length, take, drop}
 use Rattle.characters.specs.Form.{wellFormed}
 use Rattle.characters.specs.Chars.{numChars}
 use Rattle.characters.specs.Text.{chars}
-use Rattle.apply.specs.InnerSteps.{played}
+use Rattle.apply_steps.specs.InnerSteps.{played}
 use Rattle.log.specs.Log.{placeOf, lengthAt, revisions}
 use Rattle.session.specs.Rows.{playAll, longest}
 use Rattle.session.specs.Session as session

@@ -100,7 +100,7 @@ fn advance(rec: &[u8], n: usize, a: &mut [u8], b: &mut [u8]) -> Reached
     ensures { λ r. ⌜ Advances (now (rec .entry)) (take n (now (a .entry))) (length (now (a .entry))) (length (now (b .entry)))
         (now (a .exit)) r ⌝ }
 {
-    let m = apply::core::apply_into(b, rec, &a[..n]);
+    let m = apply_steps::core::apply_into(b, rec, &a[..n]);
     if b.len() < m {
         return Reached::Short;
     }

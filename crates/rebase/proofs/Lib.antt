@@ -1,4 +1,3 @@
 -- rebase
 pub mod Stages
-pub mod Passing
 pub mod Moving

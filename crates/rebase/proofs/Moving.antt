@@ -1,15 +1,15 @@
 -- The run past the revisions: what was moved already, and what is still to come, is the whole.
-use Prim.Native.Nat.{ℕ, zero, suc, _+_, _*_, _≤_, _-_, _^_}
+use Prim.Native.Nat.{ℕ, suc, _+_, _*_, _≤_, _-_, _^_}
 use mathlib.Core.Path.{_≡_, refl, sym, ap, _∙_, subst, ap₂, subst₂}
 use mathlib.Core.List.{List, _++_, [], map, _∷_, append-assoc, append-nil}
-use lib.Dec.{eqb, eqb→eq, leb}
+use lib.Dec.{T, leb}
 use lib.ListN.{drop, length, take, length-append, length-drop}
 use native.Mathlib.Omega.{arith}
 use mathlib.Core.Bool.{Bool, true, false, not, _&&_, and-eq-true-iff, true≢false}
 use lib.Seq.{take-at, drop-at, drop-drop}
 use borrow.Author.Tests.{not-true, not-false, le-leb, leb-true}
 use Rattle.buffers.specs.Buffers.{atFront}
-use Rattle.buffers.proofs.Tests.{both, holds}
+use Rattle.buffers.proofs.Tests.{known, holds}
 use Rattle.characters.specs.Order.{order}
 use Rattle.characters.specs.Text.{Char}
 use Rattle.edits.specs.Sequence.{Seq}
@@ -22,33 +22,24 @@ use Rattle.record.specs.Record.{recordFault, ops, inBytes, text, encode, fits}
 use Rattle.record.proofs.Records.{ops-base, encode-small, ops-target}
 use Rattle.record.proofs.Faults.{limits, faultless}
 use Rattle.record.proofs.Sequences.{fits-limits}
-use Rattle.emitter.specs.InnerEmit.{withinLimits, sizeIn}
+use Rattle.emitter.specs.declared.core.Emitter.{Emitter}
+use Rattle.emitter.specs.InnerEmit.{Sizes, withinLimits, sizeIn}
 use Rattle.emitter.proofs.Counting.{text-left}
 use Rattle.emitter.proofs.Delivering.{sized-fits}
 use Rattle.steps.specs.declared.core.Pair.{Pair}
 use Rattle.steps.specs.declared.core.Counts.{Counts}
 use Rattle.steps.specs.InnerBoth.{MarkedBoth, SizedBoth}
-use Rattle.log.specs.Log.{readableFrom, encodeAll, editsIn}
+use Rattle.log.specs.Log.{encodeAll, editsIn}
 use Rattle.log.proofs.Logs.{encodeAll-append}
 use Rattle.log.proofs.Scanning.{to-end}
 use Rattle.session.specs.Rows.{Moved, rebase, rule}
-use Rattle.rebase.specs.InnerRunning.{RecordsFollow, Holds, SameText, Fit, Ready, ReplacesEdit, Runs}
-use Rattle.rebase.specs.declared.core.Progress.{Progress}
-use Rattle.rebase.specs.declared.core.Run.the-variants as outcome
-use Rattle.rebase.proofs.Passing.{within-fits}
+use Rattle.counterparts.specs.InnerRunning.{RecordsFollow, Holds, SameText, Fit, Ready, ReplacesEdit, Runs}
+use Rattle.counterparts.specs.declared.core.Progress.{Progress}
+use Rattle.counterparts.specs.declared.core.Run.the-variants as outcome
+use Rattle.counterparts.proofs.Following.{lie-first, lie-rest}
 
--- ---- records end to end
-
-pub lie-first : (n len : ℕ) (l : List ℕ) → (n ≡ 0 → ⊥) → RecordsFollow n len l → (recordFault l ≡ 0) × (baseOf l ≡ len)
-unfolding readableFrom
-lie-first zero len l h r = absurd (h refl)
-lie-first (suc n) len l h r =
-    let (z, m) = both (eqb (recordFault l) 0) _ .0 (r .reads) in
-    (eqb→eq (recordFault l) 0 z, eqb→eq (baseOf l) len (both (eqb (baseOf l) len) _ .0 m .0))
-
-pub lie-rest : (n len : ℕ) (l : List ℕ) → RecordsFollow (suc n) len l → RecordsFollow n (targetOf l) (drop (sizeOf l) l)
-unfolding readableFrom
-lie-rest n len l r = record { reads = both (eqb (baseOf l) len) _ .0 (both (eqb (recordFault l) 0) _ .0 (r .reads) .1) .1 }
+pub within-fits : (s : Seq) (e : Emitter) → Sizes s e → withinLimits e ≡ true → T (fits s)
+within-fits s e d w = known (sym (sized-fits s e d) ∙ w)
 
 -- ---- what was moved past already
 abbrev pub behind : List Seq → Moved → Moved

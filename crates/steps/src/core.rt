@@ -15,7 +15,8 @@ ghost use Rattle.edits.specs.Transform.{transformTurn, transform as transformOf
 ghost use Rattle.record.specs.InnerFront.{frontText, Stands};
 ghost use Rattle.record.specs.Layout.{baseOf, textStart};
 ghost use Rattle.record.specs.Record.{ops, recordFault};
-ghost use Rattle.emitter.specs.InnerEmit.{Under, headed, relocatedOps};
+ghost use Rattle.places.specs.InnerPlaces.{relocatedOps};
+ghost use Rattle.emitter.specs.InnerEmit.{Under, headed};
 ghost use Rattle.steps.specs.InnerSteps.{Operands, liveIs, Chooses, Begun};
 ghost use Rattle.steps.specs.InnerSides.{givesOf};
 ghost use Rattle.steps.specs.InnerBoth.{Counted, SizedBoth};
@@ -134,7 +135,7 @@ pub fn place_with_text(out: &mut [u8], stage: &[u8], slots: usize, e: Emitter, r
         from,
         from + e.text,
     );
-    emitter::core::relocate_ops(out, e.ops, stage, slots, e.ops);
+    places::core::relocate_ops(out, e.ops, stage, slots, e.ops);
     emitter::core::write_header(out, e);
 }
 

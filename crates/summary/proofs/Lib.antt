@@ -1,3 +1,2 @@
 -- summary
-pub mod Holding
-pub mod Summing
+pub mod Answering

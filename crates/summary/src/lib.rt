@@ -14,8 +14,6 @@ ghost use Rattle.record.specs.Layout.{maxSize};
 ghost use Rattle.log.specs.Log.{countOf, startOf, readable};
 ghost use Rattle.session.specs.Session.{summaryCall};
 
-mod partial;
-
 // What the revisions do together, beginning with the sequence that retains the starting length.
 pub fn summary(log: &[u8], out: &mut [u8]) -> Written
     ensures { λ r. ⌜ (writtenOf r ≡ summaryCall (now (log .entry)) (now (out .entry)) .answer)
@@ -38,7 +36,7 @@ fn summed(log: &[u8], count: usize, start: usize, out: &mut [u8]) -> Written
 {
     let mut cur = [0u8; MAX_RECORD];
     let mut next = [0u8; MAX_RECORD];
-    match partial::sum_up(log, count, start, &mut cur, &mut next) {
+    match partial::core::sum_up(log, count, start, &mut cur, &mut next) {
         Written::Refused(x) => Written::Refused(x),
         Written::Bytes(k) => delivered(&cur, k, out),
     }

@@ -1,2 +1,3 @@
 -- tally
-pub mod Tallying
+pub mod Parting
+pub mod Summing

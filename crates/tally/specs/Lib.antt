@@ -1,2 +1,3 @@
 -- tally
-pub mod InnerTally
+pub mod InnerParts
+pub mod InnerSums

@@ -1,16 +1,16 @@
 // The passes of the check over the kinds and the counts of a record. Those over eight entries and more are branch-free, so that the
 // compiler vectorises them: the narrower their numbers, the more entries are done at once.
+use entries::core::Tally;
 use record::core::DELETE;
 use record::core::INSERT;
 use record::core::RETAIN;
 ghost use mathlib.Core.Path.{_≡_};
-ghost use Prim.Native.Nat.{_≤_, _^_, _<_, _+_, _-_};
+ghost use Prim.Native.Nat.{_≤_, _<_, _+_, _-_};
 ghost use lib.ListN.{length};
-ghost use mathlib.Core.Bool.{not};
-ghost use Rattle.record.specs.Record.{soundEntry};
 ghost use Rattle.record.specs.Layout.{opCountOf, textStart, maxOps};
-ghost use Rattle.tally.specs.InnerTally.{HasEntries, picked, entry, mayFollow, tallied, Tallied, Whole};
-ghost use Rattle.tally.specs.InnerTally.{partedBy, Parted, sumFrom, clashAt, entriesOf};
+ghost use Rattle.entries.specs.InnerTally.{HasEntries, picked, entry, Tallied, sumFrom, clashAt};
+ghost use Rattle.tally.specs.InnerParts.{partedBy, Parted, Whole};
+ghost use Rattle.tally.specs.InnerSums.{entriesOf};
 
 // What the kinds and the counts come to: the bytes inserted, whether all neighbours may stand so, the characters of
 // the text before the edit, and those of them that stay.
@@ -28,12 +28,6 @@ pub enum Entries {
 }
 
 // n where it counts, else 0.
-pub fn pick(counts: bool, n: u32) -> u32
-    ensures { λ r. ⌜ (r ≡ picked counts n) × (r ≤ n) ⌝ }
-{
-    if counts { n } else { 0 }
-}
-
 fn pick_u16(counts: bool, n: u16) -> u16
     ensures { λ r. ⌜ (r ≡ picked counts n) × (r ≤ n) ⌝ }
 {
@@ -44,154 +38,6 @@ fn pick_u8(counts: bool, n: u8) -> u8
     ensures { λ r. ⌜ (r ≡ picked counts n) × (r ≤ n) ⌝ }
 {
     if counts { n } else { 0 }
-}
-
-fn is_sound(kind: u8, count: u32) -> bool
-    ensures { λ r. ⌜ r ≡ soundEntry (entry kind count) ⌝ }
-{
-    if kind == 0 {
-        return false;
-    }
-    if DELETE < kind {
-        return false;
-    }
-    0 < count
-}
-
-fn may_follow(last: u8, kind: u8) -> bool
-    ensures { λ r. ⌜ r ≡ mayFollow last kind ⌝ }
-{
-    if last == kind {
-        return false;
-    }
-    if last == DELETE {
-        return kind != INSERT;
-    }
-    true
-}
-
-// What can't be (0 where all can), the bytes inserted, all counts, those of retains, and how many neighbours may not
-// stand so.
-struct Tally {
-    invalid: u32,
-    inserts: u32,
-    all: u32,
-    kept: u32,
-    clashes: u32,
-}
-
-// One entry more.
-fn add_entry(t: Tally, kind: u8, count: usize, clashes: bool) -> Tally
-    requires { ⌜ (t .invalid ≤ 2 ^ 31) × (t .all ≤ 2 ^ 31) × (t .inserts ≤ t .all) × (t .kept ≤ t .all) × (t .clashes ≤ 2 ^ 31)
-        × (count < 65536) ⌝ }
-    ensures { λ r. ⌜ r ≡ tallied t (entry kind count) clashes ⌝ }
-{
-    let c = count as u32;
-    Tally {
-        invalid: t.invalid + pick(!is_sound(kind, c), 1),
-        inserts: t.inserts + pick(kind == INSERT, c),
-        all: t.all + c,
-        kept: t.kept + pick(kind == RETAIN, c),
-        clashes: t.clashes + pick(clashes, 1),
-    }
-}
-
-// Any entries, in one pass: in 32 bits, that are enough for all sums.
-fn tally_wide(rec: &[u8], n: usize) -> Tally
-    requires { ⌜ HasEntries (now rec) n ⌝ }
-    ensures { λ r. ⌜ Tallied (now (rec .entry)) n r ⌝ }
-{
-    let mut t = Tally {
-        invalid: 0,
-        inserts: 0,
-        all: 0,
-        kept: 0,
-        clashes: 0,
-    };
-    if n == 0 {
-        return t;
-    }
-    let first = layout::core::kind(rec, 0);
-    let one = layout::core::count(rec, n, 0);
-    t = add_entry(t, first, one, false);
-    let mut k = 1;
-    while k < n {
-        let last = layout::core::kind(rec, k - 1);
-        let kind = layout::core::kind(rec, k);
-        let count = layout::core::count(rec, n, k);
-        t = add_entry(t, kind, count, !may_follow(last, kind));
-        k += 1;
-    }
-    t
-}
-
-// One entry more, by its kind.
-fn add_entry_by_kind(t: Tally, last: u8, kind: u8, count: u32) -> Tally
-    requires { ⌜ (t .invalid ≤ 2 ^ 31) × (t .all ≤ 2 ^ 31) × (t .inserts ≤ t .all) × (t .kept ≤ t .all) × (t .clashes ≤ 2 ^ 31)
-        × (count < 65536) ⌝ }
-    ensures { λ r. ⌜ r ≡ tallied t (entry kind count) (not (mayFollow last kind)) ⌝ }
-{
-    let invalid = t.invalid + pick(count == 0, 1);
-    let all = t.all + count;
-    if kind == RETAIN {
-        return Tally {
-            invalid,
-            inserts: t.inserts,
-            all,
-            kept: t.kept + count,
-            clashes: t.clashes + pick(!may_follow(last, RETAIN), 1),
-        };
-    }
-    if kind == INSERT {
-        return Tally {
-            invalid,
-            inserts: t.inserts + count,
-            all,
-            kept: t.kept,
-            clashes: t.clashes + pick(!may_follow(last, INSERT), 1),
-        };
-    }
-    if kind == DELETE {
-        return Tally {
-            invalid,
-            inserts: t.inserts,
-            all,
-            kept: t.kept,
-            clashes: t.clashes + pick(!may_follow(last, DELETE), 1),
-        };
-    }
-    Tally {
-        invalid: t.invalid + 1,
-        inserts: t.inserts,
-        all,
-        kept: t.kept,
-        clashes: t.clashes + pick(!may_follow(last, kind), 1),
-    }
-}
-
-// A few entries, one after another: with branches that is the fewest instructions for those of a keystroke. Kind 0 stands
-// before the first: only what can't be may not follow it.
-fn tally_short(rec: &[u8], n: usize) -> Tally
-    requires { ⌜ HasEntries (now rec) n ⌝ }
-    ensures { λ r. ⌜ Tallied (now (rec .entry)) n r ⌝ }
-{
-    let mut t = Tally {
-        invalid: 0,
-        inserts: 0,
-        all: 0,
-        kept: 0,
-        clashes: 0,
-    };
-    let mut last: u8 = 0;
-    let mut k = 0;
-    while k < n {
-        let kind = layout::core::kind(rec, k);
-        let count = layout::core::count(rec, n, k) as u32;
-        t = add_entry_by_kind(t, last, kind, count);
-        last = kind;
-        k += 1;
-    }
-    t
 }
 
 // All counts, or 65,536 where the entries are so few that one pass in 32 bits was measured to be faster.
@@ -272,7 +118,7 @@ fn clashes_in(rec: &[u8], from: usize, to: usize) -> u8
     while k < to {
         let last = layout::core::kind(rec, k - 1);
         let kind = layout::core::kind(rec, k);
-        clashes += pick_u8(!may_follow(last, kind), 1);
+        clashes += pick_u8(!entries::core::may_follow(last, kind), 1);
         k += 1;
     }
     clashes
@@ -298,11 +144,11 @@ fn tally_all(rec: &[u8], n: usize) -> Tally
     ensures { λ r. ⌜ Tallied (now (rec .entry)) n r ⌝ }
 {
     if n < 8 {
-        return tally_short(rec, n);
+        return entries::core::tally_short(rec, n);
     }
     let all = all_counts(rec, n);
     if MOST_COUNTS < all {
-        return tally_wide(rec, n);
+        return entries::core::tally_wide(rec, n);
     }
     let p = sum_parts(rec, n, all);
     let inserts = p.inserts as u32;

@@ -1,5 +1,5 @@
 use borrow.Author.Needs.{needs}
-use Rattle.summary.proofs.Summing.{deliver-short, deliver-whole}
+use Rattle.summary.proofs.Answering.{deliver-short, deliver-whole}
 use Rattle.summary.proofs.delivered.Statement.{statement}
 use Rattle.summary.proofs.delivered.Tie as tie
 

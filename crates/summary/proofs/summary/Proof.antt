@@ -1,5 +1,5 @@
 use borrow.Author.Needs.{needs}
-use Rattle.summary.proofs.Summing.{summary-6, summary-same, found-reads, found-count, found-start, found-small}
+use Rattle.summary.proofs.Answering.{summary-6, summary-same, found-reads, found-count, found-start, found-small}
 use Rattle.summary.proofs.summary.Statement.{statement}
 use Rattle.summary.proofs.summary.Tie as tie
 

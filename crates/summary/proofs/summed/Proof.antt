@@ -1,5 +1,5 @@
 use borrow.Author.Needs.{needs}
-use Rattle.summary.proofs.Summing.{summed-room, summed-refused, summed-whole}
+use Rattle.summary.proofs.Answering.{summed-room, summed-refused, summed-whole}
 use Rattle.summary.proofs.summed.Statement.{statement}
 use Rattle.summary.proofs.summed.Tie as tie
 

@@ -1,5 +1,6 @@
 use borrow.Author.Needs.{needs}
-use Rattle.emitter.proofs.Emitting.{spilled-again, fits-ret, fits-few, fits-three}
+use Rattle.places.proofs.Writing.{fits-ret, fits-few, fits-three}
+use Rattle.emitter.proofs.Emitting.{spilled-again}
 use Rattle.emitter.proofs.core.write_if_closed.Statement.{statement}
 use Rattle.emitter.proofs.core.write_if_closed.Tie as tie
 

@@ -1,5 +1,5 @@
 use borrow.Author.Needs.{needs}
-use Rattle.tally.proofs.Tallying.{part-one}
+use Rattle.tally.proofs.Parting.{part-one}
 use Rattle.tally.proofs.core.add_part.Statement.{statement}
 use Rattle.tally.proofs.core.add_part.Tie as tie
 

@@ -1,8 +1,8 @@
 use Prim.Native.Nat.{_-_, _*_, _≤_}
 use mathlib.Core.Path.{_≡_, refl}
 use borrow.Author.Needs.{needs}
-use Rattle.tally.specs.InnerTally.{sumOf}
-use Rattle.tally.proofs.Tallying.{whole-few, whole-more, whole-found}
+use Rattle.entries.specs.InnerTally.{sumOf}
+use Rattle.tally.proofs.Parting.{whole-few, whole-more, whole-found}
 use Rattle.tally.proofs.core.all_counts.Statement.{statement}
 use Rattle.tally.proofs.core.all_counts.Tie as tie
 

@@ -2,8 +2,8 @@ use Prim.Native.Nat.{_+_, _-_, _≤_}
 use mathlib.Core.Path.{_≡_, refl}
 use native.Mathlib.Omega.{arith}
 use borrow.Author.Needs.{needs}
-use Rattle.tally.specs.InnerTally.{sumFrom, clashAt}
-use Rattle.tally.proofs.Tallying.{clashes-join}
+use Rattle.entries.specs.InnerTally.{sumFrom, clashAt}
+use Rattle.entries.proofs.Tallying.{clashes-join}
 use Rattle.tally.proofs.core.clashes.Statement.{statement}
 use Rattle.tally.proofs.core.clashes.Tie as tie
 

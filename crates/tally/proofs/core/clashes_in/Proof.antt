@@ -2,8 +2,8 @@ use Prim.Native.Nat.{_-_, _≤_}
 use mathlib.Core.Path.{_≡_}
 use native.Mathlib.Omega.{arith}
 use borrow.Author.Needs.{needs}
-use Rattle.tally.specs.InnerTally.{sumFrom, clashAt}
-use Rattle.tally.proofs.Tallying.{clashes-none, clashes-more}
+use Rattle.entries.specs.InnerTally.{sumFrom, clashAt}
+use Rattle.entries.proofs.Tallying.{clashes-none, clashes-more}
 use Rattle.tally.proofs.core.clashes_in.Statement.{statement}
 use Rattle.tally.proofs.core.clashes_in.Tie as tie
 

@@ -2,8 +2,8 @@ use Prim.Native.Nat.{_-_, _≤_}
 use mathlib.Core.Path.{_≡_}
 use native.Mathlib.Omega.{arith}
 use borrow.Author.Needs.{needs}
-use Rattle.tally.specs.InnerTally.{Parted}
-use Rattle.tally.proofs.Tallying.{part-none, part-room, part-more}
+use Rattle.tally.specs.InnerParts.{Parted}
+use Rattle.tally.proofs.Parting.{part-none, part-room, part-more}
 use Rattle.tally.proofs.core.sum_parts.Statement.{statement}
 use Rattle.tally.proofs.core.sum_parts.Tie as tie
 

@@ -1,5 +1,5 @@
 use borrow.Author.Needs.{needs}
-use Rattle.tally.proofs.Tallying.{sums-unsound, sums-found}
+use Rattle.tally.proofs.Summing.{sums-unsound, sums-found}
 use Rattle.tally.proofs.core.sum_up.Statement.{statement}
 use Rattle.tally.proofs.core.sum_up.Tie as tie
 

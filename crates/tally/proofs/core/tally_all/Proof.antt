@@ -1,6 +1,6 @@
 use native.Mathlib.Omega.{arith}
 use borrow.Author.Needs.{needs}
-use Rattle.tally.proofs.Tallying.{parts-under, tally-parts}
+use Rattle.tally.proofs.Parting.{parts-under, tally-parts}
 use Rattle.tally.proofs.core.tally_all.Statement.{statement}
 use Rattle.tally.proofs.core.tally_all.Tie as tie
 

@@ -1,2 +1,0 @@
--- apply
-pub mod InnerSteps

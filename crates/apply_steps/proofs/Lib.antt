@@ -1,0 +1,4 @@
+-- apply_steps
+pub mod Overs
+pub mod Passing
+pub mod Playing

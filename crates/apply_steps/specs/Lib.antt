@@ -1,0 +1,2 @@
+-- apply_steps
+pub mod InnerSteps

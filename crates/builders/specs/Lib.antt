@@ -1,2 +1,0 @@
--- builders
-pub mod InnerExtending

@@ -1,0 +1,3 @@
+-- counterparts
+pub mod Following
+pub mod Passing

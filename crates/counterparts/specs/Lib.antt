@@ -1,0 +1,2 @@
+-- counterparts
+pub mod InnerRunning

@@ -1,0 +1,2 @@
+-- entries
+pub mod Tallying

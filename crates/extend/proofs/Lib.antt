@@ -1,0 +1,3 @@
+-- extend
+pub mod Growing
+pub mod Settling

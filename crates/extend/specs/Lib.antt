@@ -1,0 +1,2 @@
+-- extend
+pub mod InnerExtending

@@ -1,0 +1,3 @@
+// A record extended by one operation.
+
+pub mod core;

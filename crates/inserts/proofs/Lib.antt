@@ -1,0 +1,2 @@
+-- inserts
+pub mod Texts

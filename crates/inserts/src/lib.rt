@@ -1,0 +1,3 @@
+// The inserted texts of a record.
+
+pub mod core;

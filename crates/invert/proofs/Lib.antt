@@ -1,2 +1,0 @@
--- invert
-pub mod Undoing

@@ -1,0 +1,3 @@
+-- partial
+pub mod Holding
+pub mod Summing

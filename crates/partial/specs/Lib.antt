@@ -1,0 +1,2 @@
+-- partial
+pub mod InnerSumming

@@ -1,0 +1,3 @@
+-- places
+pub mod Writing
+pub mod Relocating

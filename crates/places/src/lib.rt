@@ -1,0 +1,3 @@
+// Operations at their places in a record.
+
+pub mod core;

@@ -1,2 +1,0 @@
--- rebase
-pub mod InnerRunning

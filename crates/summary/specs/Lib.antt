@@ -1,2 +1,0 @@
--- summary
-pub mod InnerSumming

@@ -1,0 +1,3 @@
+// Two inserts that meet.
+
+pub mod core;
