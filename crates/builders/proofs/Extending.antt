@@ -30,7 +30,7 @@ use Rattle.record.proofs.Faults.{limits, faultless}
 use Rattle.record.proofs.Sequences.{fits-limits}
 use Rattle.operational_transform.specs.Calls.{deliver}
 use Rattle.emitter.specs.declared.core.Emitter.{Emitter}
-use Rattle.places.specs.InnerPlaces.{relocated}
+use Rattle.places.specs.InnerOps.{relocated}
 use Rattle.emitter.specs.InnerEmit.{flushed, textsOf, laid, group, Done, headed, limitsThenRoom}
 use Rattle.emitter.proofs.Emitting.{flushed-few, group-text, group-length, lay-group}
 use Rattle.emitter.proofs.Delivering.{text-ahead}

@@ -13,7 +13,7 @@ use Rattle.edits.specs.Transform.{Sides}
 use Rattle.answers.specs.declared.Refusal.the-variants.{Limit}
 use Rattle.record.specs.Layout.{sizeOf, textStart, maxOps, maxRecord}
 use Rattle.record.specs.Record.{encode, ops, recordFault, inBytes, text, fits}
-use Rattle.places.specs.InnerPlaces.{relocatedOps}
+use Rattle.places.specs.InnerOps.{relocatedOps}
 use Rattle.emitter.specs.InnerEmit.{Marked, sizeIn, headed}
 use Rattle.emitter.specs.declared.core.Emitter.{Emitter}
 use Rattle.steps.specs.InnerBoth.{SizedBoth}

@@ -28,7 +28,7 @@ use Rattle.record.specs.Layout.{kindsStart, countsStart, textStart, maxOps, max
 use Rattle.record.proofs.Sequences.{Limits, fits-limits}
 use Rattle.record.proofs.Records.{encode-length}
 use Rattle.operational_transform.specs.Calls.{deliver}
-use Rattle.places.specs.InnerPlaces.{one}
+use Rattle.places.specs.InnerOps.{one}
 use Rattle.emitter.specs.InnerEmit.{kindsOf, countsOf, textsOf, flushedOps, flushed, Under, laid, Finishes, nothing, Adds, Done, withinLimits, sizeIn, limitsThenRoom, headed, Sizes}
 use Rattle.emitter.specs.declared.core.Emitter.{Emitter}
 use Rattle.emitter.proofs.Growing.{total-reverse}

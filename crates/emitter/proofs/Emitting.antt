@@ -13,7 +13,7 @@ use Rattle.edits.proofs.Meaning.{ifZero-elim}
 use Rattle.record.specs.Layout.{kindsStart, countsStart, textStart}
 use Rattle.record.specs.Record.{inBytes, code, inserted}
 use Rattle.record.proofs.Sequences.{inBytes-size}
-use Rattle.places.specs.InnerPlaces.{one, writtenOp, writtenOpIfAny, flushedAt}
+use Rattle.places.specs.InnerOps.{one, writtenOp, writtenOpIfAny, flushedAt}
 use Rattle.emitter.specs.InnerEmit.{flushedOps, flushed, opens, flushedIfClosed, Under, kindsOf, countsOf, laid, kept, textsOf, group}
 use Rattle.places.proofs.Writing.{one-none, one-some, one-few, emitted-none, emitted-some, emitted-over}
 use Rattle.emitter.specs.declared.core.Emitter.{Emitter}

@@ -13,7 +13,7 @@ use Rattle.buffers.proofs.Tests.{known, le-and}
 use Rattle.edits.specs.Sequence.{Seq}
 use Rattle.record.specs.Layout.{kindsStart, countsStart, textStart}
 use Rattle.record.specs.Record.{inBytes, text}
-use Rattle.places.specs.InnerPlaces.{relocatedOps, relocated}
+use Rattle.places.specs.InnerOps.{relocatedOps, relocated}
 use Rattle.emitter.specs.InnerEmit.{kindsOf, countsOf, laid, textsOf, Under, Sizes, Writes, Marked, headed, Done, Staged}
 use Rattle.emitter.specs.declared.core.Emitter.{Emitter}
 use Rattle.emitter.proofs.Emitting.{length-kinds, length-counts}

@@ -17,7 +17,7 @@ use Rattle.answers.specs.declared.WrittenPair.{WrittenPair}
 use Rattle.answers.specs.declared.WrittenPair.the-variants as pair
 use Rattle.record.specs.Layout.{kindsStart, countsStart, textStart, maxOps, maxSize}
 use Rattle.record.specs.Record.{text, inBytes, code, inserted}
-use Rattle.places.specs.InnerPlaces.{one, flushedAt}
+use Rattle.places.specs.InnerOps.{one, flushedAt}
 use Rattle.emitter.specs.declared.core.Emitter.{Emitter}
 
 -- ---- the pending group: an insert, a delete and a retain, each of which may be missing

@@ -23,7 +23,7 @@ use Rattle.record.specs.Layout.{kindAt, countAt, opCountOf, textBytesOf, baseOf
 use Rattle.record.proofs.Sequences.{inBytes-size}
 use Rattle.record.proofs.Records.{Bytes, ops-base, ops-target}
 use Rattle.record.proofs.Faults.{limits, faultless}
-use Rattle.places.specs.InnerPlaces.{one, relocated}
+use Rattle.places.specs.InnerOps.{one, relocated}
 use Rattle.emitter.specs.InnerEmit.{group, textsOf, laid}
 use Rattle.places.proofs.Writing.{some-is}
 use Rattle.emitter.proofs.Emitting.{group-text, lay-text}

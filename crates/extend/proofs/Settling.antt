@@ -8,7 +8,7 @@ use lib.Seq.{take-all}
 use Rattle.buffers.specs.InnerOver.{over}
 use Rattle.record.specs.Layout.{textStart}
 use Rattle.emitter.specs.declared.core.Emitter.{Emitter}
-use Rattle.places.specs.InnerPlaces.{one, relocated}
+use Rattle.places.specs.InnerOps.{one, relocated}
 use Rattle.extend.specs.InnerExtending.{closedOf}
 
 -- ---- `closed`

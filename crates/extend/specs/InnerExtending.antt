@@ -13,7 +13,7 @@ use Rattle.edits.specs.Build.{add, extend}
 use Rattle.record.specs.Layout.{kindAt, countAt, opCountOf, textBytesOf, textStart}
 use Rattle.record.specs.Record.{ops}
 use Rattle.emitter.specs.declared.core.Emitter.{Emitter}
-use Rattle.places.specs.InnerPlaces.{relocated}
+use Rattle.places.specs.InnerOps.{relocated}
 use Rattle.emitter.specs.InnerEmit.{flushedOps, Under, textsOf, laid, group}
 
 -- the count of the operation before operation k, where it is of this kind; else 0

@@ -18,7 +18,7 @@ ghost use Rattle.characters.specs.Text.{chars};
 ghost use Rattle.edits.specs.Op.{retain, delete, insert};
 ghost use Rattle.record.specs.Layout.{opCountOf, maxOps, maxSize, textStart};
 ghost use Rattle.record.specs.Record.{recordFault};
-ghost use Rattle.places.specs.InnerPlaces.{one, relocated};
+ghost use Rattle.places.specs.InnerOps.{one, relocated};
 ghost use Rattle.emitter.specs.InnerEmit.{Under, flushed, headed};
 ghost use Rattle.extend.specs.InnerExtending.{lastCount, closedOf, Grown};
 

@@ -34,7 +34,7 @@ use Rattle.record.proofs.Records.{ops-base, ops-good, ops-length, ops-target}
 use Rattle.record.proofs.Sequences.{fits-limits}
 use Rattle.reader.proofs.Fronts.{begins-none, Begins, begins-retain, begins-delete, load-room, begins-well, begins-insert, place-start, ops-start}
 use Rattle.operational_transform.specs.Calls.{deliver}
-use Rattle.places.specs.InnerPlaces.{writtenOp}
+use Rattle.places.specs.InnerOps.{writtenOp}
 use Rattle.emitter.specs.InnerEmit.{textsOf, laid}
 use Rattle.emitter.specs.declared.core.Emitter.{Emitter}
 use Rattle.emitter.proofs.Emitting.{lay-record, lay-text}

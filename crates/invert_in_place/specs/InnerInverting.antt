@@ -18,7 +18,7 @@ use Rattle.record.specs.declared.core.Front.{Front}
 use Rattle.record.specs.Layout.{insertKind, retainKind, kindAt, deleteKind, textStart}
 use Rattle.record.specs.InnerFront.{opsLeft, Place}
 use Rattle.record.specs.Record.{ops}
-use Rattle.places.specs.InnerPlaces.{writtenOp}
+use Rattle.places.specs.InnerOps.{writtenOp}
 use Rattle.emitter.specs.InnerEmit.{textsOf, laid}
 use Rattle.invert_in_place.specs.declared.core.Inversion.{Inversion}
 

@@ -30,7 +30,7 @@ use Rattle.record.specs.Layout.{baseOf, targetOf, maxRecord, maxSize}
 use Rattle.record.proofs.Records.{ops-encode, fault-encode, encode-small}
 use Rattle.record.proofs.Sequences.{Limits, fits-limits}
 use Rattle.operational_transform.specs.Calls.{deliver, composeCall}
-use Rattle.places.specs.InnerPlaces.{one}
+use Rattle.places.specs.InnerOps.{one}
 use Rattle.emitter.specs.InnerEmit.{Under, nothing, Retains, Done, Finishes, headed, sizeIn}
 use Rattle.emitter.specs.declared.core.Emitter.{Emitter}
 use Rattle.emitter.proofs.Delivering.{writing-refused, builds, sized-length, written-front}

@@ -6,7 +6,7 @@ use mathlib.Core.List.{List}
 use lib.ListN.{take, drop}
 use Rattle.buffers.specs.InnerOver.{over}
 use Rattle.record.specs.Layout.{kindsStart, countsStart, textStart}
-use Rattle.places.specs.InnerPlaces.{relocatedOps, relocated}
+use Rattle.places.specs.InnerOps.{relocatedOps, relocated}
 
 part-is : (p q a b m : ℕ) (s o : List ℕ) → p ≡ q → a ≡ b → over p (take (a + m - a) (drop a s)) o ≡ over q (take m (drop b s)) o
 part-is p q a b m s o x y = let z : a + m - a ≡ m = omega arith in λ i. over (x i) (take (z i) (drop (y i) s)) o

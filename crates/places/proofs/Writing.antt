@@ -13,7 +13,7 @@ use Rattle.buffers.proofs.Over.{put-in, put16-both, over-swap, over-again, over
 use Rattle.buffers.proofs.Tests.{known, le-and}
 use Rattle.edits.proofs.Meaning.{ifZero-elim}
 use Rattle.record.specs.Layout.{kindsStart, countsStart}
-use Rattle.places.specs.InnerPlaces.{one, writtenOp, writtenOpIfAny, flushedAt}
+use Rattle.places.specs.InnerOps.{one, writtenOp, writtenOpIfAny, flushedAt}
 
 pub one-none : (c : ℕ) → c ≡ 0 → one c ≡ 0
 one-none c e = ap one e

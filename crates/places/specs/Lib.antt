@@ -1,2 +1,2 @@
 -- places
-pub mod InnerPlaces
+pub mod InnerOps

@@ -9,7 +9,7 @@ ghost use lib.ListN.{length};
 ghost use mathlib.Core.Bool.{_&&_};
 ghost use lib.Dec.{leb};
 ghost use Rattle.record.specs.Layout.{countsStart, textStart};
-ghost use Rattle.places.specs.InnerPlaces.{one, writtenOpIfAny, writtenOp, flushedAt, relocatedOps, relocated};
+ghost use Rattle.places.specs.InnerOps.{one, writtenOpIfAny, writtenOp, flushedAt, relocatedOps, relocated};
 
 // How many operations a count takes: none where it is 0.
 pub fn one_if_any(c: usize) -> usize

@@ -19,7 +19,7 @@ use Rattle.record.specs.Layout.{textStart, opCountOf, textBytesOf, baseOf, targ
 use Rattle.record.proofs.Faults.{InLimits, limits, faultless}
 use Rattle.record.proofs.Records.{inBytes-text, inBytes-ops, ops-text, ops-length, ops-base, ops-target}
 use Rattle.emitter.specs.declared.core.Emitter.{Emitter}
-use Rattle.places.specs.InnerPlaces.{relocatedOps}
+use Rattle.places.specs.InnerOps.{relocatedOps}
 use Rattle.emitter.specs.InnerEmit.{Finishes, headed, withinLimits, limitsThenRoomBoth}
 use Rattle.emitter.proofs.Staging.{marks, marked-writes}
 use Rattle.emitter.proofs.Counting.{left-length, right-length, text-left, text-right}

@@ -15,7 +15,7 @@ ghost use Rattle.edits.specs.Transform.{transformTurn, transform as transformOf
 ghost use Rattle.record.specs.InnerFront.{frontText, Stands};
 ghost use Rattle.record.specs.Layout.{baseOf, textStart};
 ghost use Rattle.record.specs.Record.{ops, recordFault};
-ghost use Rattle.places.specs.InnerPlaces.{relocatedOps};
+ghost use Rattle.places.specs.InnerOps.{relocatedOps};
 ghost use Rattle.emitter.specs.InnerEmit.{Under, headed};
 ghost use Rattle.steps.specs.InnerSteps.{Operands, liveIs, Chooses, Begun};
 ghost use Rattle.steps.specs.InnerSides.{givesOf};

@@ -1,5 +1,5 @@
-// The passes of the check over the kinds and the counts of a record. Those over eight entries and more are branch-free, so that the
-// compiler vectorises them: the narrower their numbers, the more entries are done at once.
+// The passes of the check over the kinds and the counts of many entries, in 16 and 8 bits. They are branch-free, so that the compiler
+// vectorises them: the narrower their numbers, the more entries are done at once. Others are gone through by `entries`.
 use entries::core::Tally;
 use record::core::DELETE;
 use record::core::INSERT;
