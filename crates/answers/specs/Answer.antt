@@ -3,7 +3,7 @@ use Prim.Native.Nat.{ℕ, zero, suc}
 use mathlib.Core.List.{List, [], _∷_}
 use mathlib.Core.Bool.{Bool, true, false, cond}
 use Rattle.answers.specs.declared.Refusal.{Refusal}
-use Rattle.answers.specs.declared.Refusal.the-variants.{Size, Entry, Utf8, Neighbours, Sums, Log, Revision, IncompatibleLengths, Limit, Room}
+use Rattle.answers.specs.declared.Refusal.the-variants.{Size, Entry, Utf8, Neighbours, Sums, Log, Revision, IncompatibleLengths, Limit, Room, Json}
 use Rattle.answers.specs.declared.Fact.{Fact}
 use Rattle.answers.specs.declared.Fact.the-variants as fact
 use Rattle.answers.specs.declared.Noop.{Noop}
@@ -25,6 +25,7 @@ number Revision = 7
 number IncompatibleLengths = 8
 number Limit = 9
 number Room = 10
+number Json = 11
 
 -- the numbers that a call gives, or the number of its refusal
 pub data Answer : Type 0 where

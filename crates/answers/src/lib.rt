@@ -3,7 +3,7 @@ ghost use mathlib.Core.Path.{_≡_};
 ghost use Prim.Native.Nat.{_≤_};
 ghost use Rattle.answers.specs.Answer.{number as numberOf};
 
-// Why a call is refused: document 01's numbers 1 to 10, in order.
+// Why a call is refused: document 01's numbers 1 to 10, in order, and document 02's from 11 on.
 pub enum Refusal {
     // A record's buffer is too short for it, or a size passes its limit.
     Size,
@@ -25,10 +25,12 @@ pub enum Refusal {
     Limit,
     // A buffer is too short for what goes into it.
     Room,
+    // Bytes that aren't a list of the form that `from_json` reads.
+    Json,
 }
 
 pub fn number(x: Refusal) -> u8
-    ensures { λ r. ⌜ (r ≡ numberOf x) × (r ≤ 10) ⌝ }
+    ensures { λ r. ⌜ (r ≡ numberOf x) × (r ≤ 11) ⌝ }
 {
     match x {
         Refusal::Size => 1,
@@ -41,6 +43,7 @@ pub fn number(x: Refusal) -> u8
         Refusal::IncompatibleLengths => 8,
         Refusal::Limit => 9,
         Refusal::Room => 10,
+        Refusal::Json => 11,
     }
 }
 

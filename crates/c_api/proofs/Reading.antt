@@ -19,7 +19,7 @@ use Rattle.edits.specs.Apply.{apply}
 use Rattle.edits.specs.Compose.{compose}
 use Rattle.edits.specs.Invert.{invert}
 use Rattle.answers.specs.declared.Refusal.{Refusal}
-use Rattle.answers.specs.declared.Refusal.the-variants.{Size, Entry, Utf8, Neighbours, Sums, Log, Revision, IncompatibleLengths, Limit, Room}
+use Rattle.answers.specs.declared.Refusal.the-variants.{Size, Entry, Utf8, Neighbours, Sums, Log, Revision, IncompatibleLengths, Limit, Room, Json}
 use Rattle.answers.specs.Answer.{number, Answer, success, refused, unlessRefused, needs, orElse}
 use Rattle.answers.specs.Output.{Out, writing}
 use Rattle.answers.proofs.Refusals.{needs-out, first-zero}
@@ -47,6 +47,7 @@ low-byte Revision = refl
 low-byte IncompatibleLengths = refl
 low-byte Limit = refl
 low-byte Room = refl
+low-byte Json = refl
 
 -- bit 63
 is-set : (n : ℕ) → leb (2 ^ 63) (2 ^ 63 + n) ≡ true

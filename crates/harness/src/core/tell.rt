@@ -34,6 +34,9 @@ pub fn reason(x: Refusal) {
         Refusal::IncompatibleLengths => show::text(b": two lengths that have to agree and differ"),
         Refusal::Limit => show::text(b": a result that would pass a limit"),
         Refusal::Room => show::text(b": a buffer too short for what goes into it"),
+        Refusal::Json => show::text(
+            b": not a JSON list of positive and negative whole numbers and strings",
+        ),
     }
 }
 
