@@ -1,51 +1,88 @@
 -- How a list is read on from a position: one law for each thing that code does there.
-use Prim.Native.Nat.{ℕ, _+_, _*_, _<_}
+use Prim.Native.Nat.{ℕ, _+_, _*_, _-_, _<_, _≤_}
 use native.Mathlib.Numerals.{add-one}
 use native.Mathlib.Omega.{arith}
-use mathlib.Core.Path.{_≡_, refl, ap, ap₂, _∙_}
-use mathlib.Core.Bool.{Bool, true, false, not}
+use mathlib.Core.Path.{_≡_, refl, sym, ap, ap₂, _∙_}
+use mathlib.Core.Bool.{Bool, true, false, not, and-false, _&&_}
 use mathlib.Core.List.{List, [], _∷_, _++_, append-assoc, append-nil}
 use mathlib.Core.Option.{Option}
 use lib.Dec.{T, ltb, eqb}
-use lib.ListN.{length, take, drop, getD}
-use lib.Seq.{drop-cons, take-suc}
+use lib.ListN.{length, take, drop, getD, take-append-drop}
+use lib.Seq.{drop-cons, drop-drop, take-suc}
 use borrow.Author.Tests.{not-true}
 use Rattle.buffers.specs.Lists.{allOf}
 use Rattle.buffers.proofs.Tests.{holds, both}
-use Rattle.json_lists.specs.Form.{Sign, Item, number, string, isSpace, isDigit, digitValue, isHex, hexValue, Place, atStart, afterBracket, afterComma, afterMinus, inNumber, inString, afterEscape, inUnicode, afterHigh, afterHighEscape, afterValue, atEnd, outside, named, counted, next, ends, reached, items}
+use Rattle.characters.specs.Form.{wellFormed}
+use Rattle.characters.proofs.Chars.{well-append}
+use Rattle.json_lists.specs.Form.{Sign, Item, number, string, isSpace, isDigit, digitValue, isHex, hexValue}
+use Rattle.json_lists.specs.Form.{Place, atStart, afterBracket, afterComma, afterMinus, inNumber, inString, afterEscape}
+use Rattle.json_lists.specs.Form.{inUnicode, afterHigh, afterHighEscape, afterValue, atEnd, outside, isEnd}
+use Rattle.json_lists.specs.Form.{named, counted, next, ends, reached, items}
 use Rattle.json_lists.specs.Grammar.{isRaw}
-use Rattle.json_lists.proofs.Reading.{reached-append, items-append}
+use Rattle.json_lists.specs.InnerRuns.{Run, Plain, valueFrom, Onward, Passes, Fails}
+use Rattle.json_lists.proofs.Reading.{reached-append, items-append, outside-stays}
+use Rattle.json_lists.proofs.Ascii.{ascii-on, low-space, low-digit, low-hex}
 
--- two ways to stand are one: the same place is reached and the same items end from here on
-pub record Same (p : Place) (bs : List ℕ) (q : Place) (cs : List ℕ) : Type 0 where
-  pub to : reached p bs ≡ reached q cs
-  pub has : items p bs ≡ items q cs
+-- ---- one step behind another
 
-pub same-then : {p q r : Place} {bs cs ds : List ℕ} → Same p bs q cs → Same q cs r ds → Same p bs r ds
-same-then f g = record { to = f .to ∙ g .to; has = f .has ∙ g .has }
+pub onward-none : (p : Place) (bs : List ℕ) → Onward p bs p bs
+onward-none p bs = record { to = refl; has = refl; well = refl }
 
--- an item ends here
-pub record Item-then (x : Item) (p : Place) (bs : List ℕ) (q : Place) (cs : List ℕ) : Type 0 where
-  pub to : reached p bs ≡ reached q cs
-  pub has : items p bs ≡ x ∷ items q cs
+pub onward-then : {p q r : Place} {bs cs ds : List ℕ} → Onward p bs q cs → Onward q cs r ds → Onward p bs r ds
+onward-then f g = record { to = f .to ∙ g .to; has = f .has ∙ g .has; well = f .well ∙ g .well }
+
+pub passes-then : {x : Item} {p q r : Place} {bs cs ds : List ℕ} → Onward p bs q cs → Passes x q cs r ds → Passes x p bs r ds
+passes-then f g = record { to = f .to ∙ g .to; has = f .has ∙ g .has; well = f .well ∙ g .well }
+
+pub passes-on : {x : Item} {p q r : Place} {bs cs ds : List ℕ} → Passes x p bs q cs → Onward q cs r ds → Passes x p bs r ds
+passes-on {x} f g = record { to = f .to ∙ g .to; has = f .has ∙ ap (λ l. x ∷ l) (g .has); well = f .well ∙ g .well }
+
+pub fails-then : {p q : Place} {bs cs : List ℕ} → Onward p bs q cs → Fails q cs → Fails p bs
+fails-then f g = ap₂ (λ w r. w && isEnd r) (f .well) (f .to) ∙ g
+
+-- ---- where no list of the form goes on
+
+-- a place that is reached and is not the end
+off-end : (p : Place) (bs : List ℕ) → isEnd (reached p bs) ≡ false → Fails p bs
+off-end p bs e = rw e (and-false (wellFormed bs))
+
+pub outside-fails : (bs : List ℕ) → Fails outside bs
+outside-fails bs = off-end outside bs (ap isEnd (outside-stays bs))
+
+pub ended-fails : (p : Place) → isEnd p ≡ false → Fails p []
+unfolding reached
+ended-fails p e = off-end p [] e
+
+pub ill-fails : (p : Place) (bs : List ℕ) → wellFormed bs ≡ false → Fails p bs
+ill-fails p bs e = ap (λ w. w && isEnd (reached p bs)) e
+
+pub next-outside-fails : (p : Place) (b : ℕ) (bs : List ℕ) → next p b ≡ outside → Fails p (b ∷ bs)
+unfolding reached
+next-outside-fails p b bs e = off-end p (b ∷ bs) (ap isEnd (ap (λ q. reached q bs) e ∙ outside-stays bs))
 
 -- ---- one byte
 
-module _ (list : List ℕ) (p : Place) (i : ℕ) where
-  pub at-byte : i < length list → (reached p (drop i list) ≡ reached (next p (getD list i 0)) (drop (i + 1) list)) × (items p (drop i list) ≡ ends p (getD list i 0) ++ items (next p (getD list i 0)) (drop (i + 1) list))
-  unfolding reached items
-  at-byte h = (rw (add-one, drop-cons list i 0), rw (add-one, drop-cons list i 0))
+pub at-byte : (t : List ℕ) (at : ℕ) → at < length t → drop at t ≡ getD t at 0 ∷ drop (at + 1) t
+at-byte t at h = drop-cons t at 0 h ∙ rw add-one
 
-  -- the same, counted from the front
-  pub front-byte : i < length list → (reached p (take (i + 1) list) ≡ next (reached p (take i list)) (getD list i 0)) × (items p (take (i + 1) list) ≡ items p (take i list) ++ ends (reached p (take i list)) (getD list i 0))
-  unfolding reached items
-  front-byte h =
-      let e : take (i + 1) list ≡ take i list ++ (getD list i 0 ∷ []) = rw (add-one, take-suc list i 0) in
-      (ap (reached p) e ∙ reached-append p (take i list) (getD list i 0 ∷ []), ap (items p) e ∙ items-append p (take i list) (getD list i 0 ∷ []) ∙ ap (λ l. items p (take i list) ++ l) (append-nil (ends (reached p (take i list)) (getD list i 0))))
+-- the place and the items so far, counted from the front
+module _ (list : List ℕ) (p : Place) (i : ℕ) (h : i < length list) where
+  one-more : take (i + 1) list ≡ take i list ++ (getD list i 0 ∷ [])
+  one-more = rw (add-one, take-suc list i 0 h)
 
-pub byte : {p q : Place} {b : ℕ} (bs : List ℕ) → next p b ≡ q → ends p b ≡ [] → Same p (b ∷ bs) q bs
+  pub front-place : reached p (take (i + 1) list) ≡ next (reached p (take i list)) (getD list i 0)
+  unfolding reached
+  front-place = ap (reached p) one-more ∙ reached-append p (take i list) (getD list i 0 ∷ [])
+
+  pub front-items : items p (take (i + 1) list) ≡ items p (take i list) ++ ends (reached p (take i list)) (getD list i 0)
+  unfolding items
+  front-items =
+      ap (items p) one-more ∙ items-append p (take i list) (getD list i 0 ∷ [])
+      ∙ ap (λ l. items p (take i list) ++ l) (append-nil (ends (reached p (take i list)) (getD list i 0)))
+
+pub byte : {p q : Place} {b : ℕ} (bs : List ℕ) → b < 0x80 → next p b ≡ q → ends p b ≡ [] → Onward p (b ∷ bs) q bs
 unfolding reached items
-byte bs n m = record { to = ap (λ x. reached x bs) n; has = ap₂ (λ l x. l ++ items x bs) m n }
+byte {b = b} bs l n m = record { to = ap (λ x. reached x bs) n; has = ap₂ (λ l x. l ++ items x bs) m n; well = ascii-on b bs l }
 
 -- ---- white space
 
@@ -81,34 +118,33 @@ space-stays afterValue b h e = (rw e, refl)
 space-stays atEnd b h e = (rw e, refl)
 space-stays outside b h e = (refl, refl)
 
-pub spaces : (p : Place) (xs bs : List ℕ) → T (between p) → T (allOf isSpace xs) → Same p (xs ++ bs) p bs
-spaces p [] bs h s = record { to = refl; has = refl }
+pub spaces : (p : Place) (xs bs : List ℕ) → T (between p) → T (allOf isSpace xs) → Onward p (xs ++ bs) p bs
+spaces p [] bs h s = onward-none p bs
 spaces p (b ∷ xs) bs h s =
     let (e, r) = both (isSpace b) (allOf isSpace xs) .0 s in
-    let (n, m) = space-stays p b h (holds (isSpace b) e) in
-    same-then (byte {b = b} (xs ++ bs) n m) (spaces p xs bs h r)
+    let k = holds (isSpace b) e in
+    let (n, m) = space-stays p b h k in
+    onward-then (byte {b = b} (xs ++ bs) (low-space b k) n m) (spaces p xs bs h r)
 
 -- ---- numbers
 
-abbrev pub valueFrom : ℕ → List ℕ → ℕ
-valueFrom n [] = n
-valueFrom n (b ∷ bs) = valueFrom (n * 10 + digitValue b) bs
-
-pub next-digit : (s : Sign) (n b : ℕ) → isDigit b ≡ true → (next (inNumber s n) b ≡ inNumber s (n * 10 + digitValue b)) × (ends (inNumber s n) b ≡ [])
+pub next-digit : (s : Sign) (n b : ℕ) → isDigit b ≡ true
+    → (next (inNumber s n) b ≡ inNumber s (n * 10 + digitValue b)) × (ends (inNumber s n) b ≡ [])
 unfolding next ends
 next-digit s n b e = (rw e, rw e)
 
-pub digits : (s : Sign) (n : ℕ) (xs bs : List ℕ) → T (allOf isDigit xs) → Same (inNumber s n) (xs ++ bs) (inNumber s (valueFrom n xs)) bs
-digits s n [] bs h = record { to = refl; has = refl }
+pub digits : (s : Sign) (n : ℕ) (xs bs : List ℕ) → T (allOf isDigit xs) → Onward (inNumber s n) (xs ++ bs) (inNumber s (valueFrom n xs)) bs
+digits s n [] bs h = onward-none (inNumber s n) bs
 digits s n (b ∷ xs) bs h =
     let (e, r) = both (isDigit b) (allOf isDigit xs) .0 h in
-    let (d, f) = next-digit s n b (holds (isDigit b) e) in
-    same-then (byte {b = b} (xs ++ bs) d f) (digits s (n * 10 + digitValue b) xs bs r)
+    let k = holds (isDigit b) e in
+    let (d, f) = next-digit s n b k in
+    onward-then (byte {b = b} (xs ++ bs) (low-digit b k) d f) (digits s (n * 10 + digitValue b) xs bs r)
 
 -- a number ends before the first byte that is no digit
-pub number-ends : (s : Sign) (n b : ℕ) (bs : List ℕ) → isDigit b ≡ false → Item-then (number s n) (inNumber s n) (b ∷ bs) afterValue (b ∷ bs)
+pub number-ends : (s : Sign) (n b : ℕ) (bs : List ℕ) → isDigit b ≡ false → Passes (number s n) (inNumber s n) (b ∷ bs) afterValue (b ∷ bs)
 unfolding reached items
-number-ends s n b bs e = record { to = rw e; has = rw e }
+number-ends s n b bs e = record { to = rw e; has = rw e; well = refl }
 
 -- ---- strings
 
@@ -120,28 +156,42 @@ next-raw t b r =
     let x′ = not-true (eqb b 0x22) (holds _ x) in
     (rw (x′, not-true (eqb b 0x5C) (holds _ y), not-true (ltb b 0x20) (holds _ z)), rw x′)
 
-pub raws : (t xs bs : List ℕ) → T (allOf isRaw xs) → Same (inString t) (xs ++ bs) (inString (t ++ xs)) bs
-raws t [] bs h = rw append-nil (record { to = refl; has = refl })
-raws t (b ∷ xs) bs h =
+raws-place : (t xs bs : List ℕ) → T (allOf isRaw xs) → reached (inString t) (xs ++ bs) ≡ reached (inString (t ++ xs)) bs
+unfolding reached
+raws-place t [] bs h = rw append-nil
+raws-place t (b ∷ xs) bs h =
+    let (r, k) = both (isRaw b) (allOf isRaw xs) .0 h in
+    ap (λ x. reached x (xs ++ bs)) (next-raw t b r .0) ∙ raws-place (t ++ (b ∷ [])) xs bs k ∙ rw append-assoc
+
+raws-items : (t xs bs : List ℕ) → T (allOf isRaw xs) → items (inString t) (xs ++ bs) ≡ items (inString (t ++ xs)) bs
+unfolding items
+raws-items t [] bs h = rw append-nil
+raws-items t (b ∷ xs) bs h =
     let (r, k) = both (isRaw b) (allOf isRaw xs) .0 h in
     let (n, m) = next-raw t b r in
-    same-then (byte {b = b} (xs ++ bs) n m) (rw append-assoc at (raws (t ++ (b ∷ [])) xs bs k))
+    ap₂ (λ l x. l ++ items x (xs ++ bs)) m n ∙ raws-items (t ++ (b ∷ [])) xs bs k ∙ rw append-assoc
 
-pub string-ends : (t bs : List ℕ) → Item-then (string t) (inString t) (0x22 ∷ bs) afterValue bs
+-- whole characters that need no escape
+pub raws : (t xs bs : List ℕ) → T (allOf isRaw xs) → T (wellFormed xs) → Onward (inString t) (xs ++ bs) (inString (t ++ xs)) bs
+raws t xs bs h w = record { to = raws-place t xs bs h; has = raws-items t xs bs h; well = well-append xs bs (holds (wellFormed xs) w) }
+
+pub string-ends : (t bs : List ℕ) → Passes (string t) (inString t) (0x22 ∷ bs) afterValue bs
 unfolding reached items
-string-ends t bs = record { to = refl; has = refl }
+string-ends t bs = record { to = refl; has = refl; well = ascii-on 0x22 bs (omega arith) }
 
 pub next-hex : (high : Option ℕ) (due v : ℕ) (t : List ℕ) (b : ℕ) → isHex b ≡ true → next (inUnicode high due v t) b ≡ counted high due (v * 16 + hexValue b) t
 unfolding next
 next-hex high due v t b e = rw e
 
-no-item : (high : Option ℕ) (due v : ℕ) (t : List ℕ) (b : ℕ) → ends (inUnicode high due v t) b ≡ []
+-- one digit more of an escape
+hex-step : (high : Option ℕ) (due v : ℕ) (t : List ℕ) (b : ℕ) (bs : List ℕ) → T (isHex b)
+    → Onward (inUnicode high due v t) (b ∷ bs) (counted high due (v * 16 + hexValue b) t) bs
 unfolding ends
-no-item high due v t b = refl
+hex-step high due v t b bs h = let e = holds (isHex b) h in byte {b = b} bs (low-hex b e) (next-hex high due v t b e) refl
 
 -- four hexadecimal digits
 pub four-digits : (high : Option ℕ) (t : List ℕ) (a b c d : ℕ) (bs : List ℕ) → T (allOf isHex (a ∷ b ∷ c ∷ d ∷ []))
-    → Same (inUnicode high 3 0 t) (a ∷ b ∷ c ∷ d ∷ bs) (named high (((hexValue a * 16 + hexValue b) * 16 + hexValue c) * 16 + hexValue d) t) bs
+    → Onward (inUnicode high 3 0 t) (a ∷ b ∷ c ∷ d ∷ bs) (named high (((hexValue a * 16 + hexValue b) * 16 + hexValue c) * 16 + hexValue d) t) bs
 four-digits high t a b c d bs h =
     let (x, h₁) = both (isHex a) _ .0 h in
     let (y, h₂) = both (isHex b) _ .0 h₁ in
@@ -149,7 +199,32 @@ four-digits high t a b c d bs h =
     let (w, _) = both (isHex d) true .0 h₃ in
     let v : 0 * 16 + hexValue a ≡ hexValue a = omega arith in
     rw v at
-    (same-then (byte (b ∷ c ∷ d ∷ bs) (next-hex high 3 0 t a (holds _ x)) (no-item high 3 0 t a))
-    (same-then (byte (c ∷ d ∷ bs) (next-hex high 2 _ t b (holds _ y)) (no-item high 2 _ t b))
-    (same-then (byte (d ∷ bs) (next-hex high 1 _ t c (holds _ z)) (no-item high 1 _ t c))
-    (byte bs (next-hex high 0 _ t d (holds _ w)) (no-item high 0 _ t d)))))
+    (onward-then (hex-step high 3 0 t a (b ∷ c ∷ d ∷ bs) x)
+    (onward-then (hex-step high 2 _ t b (c ∷ d ∷ bs) y)
+    (onward-then (hex-step high 1 _ t c (d ∷ bs) z)
+    (hex-step high 0 _ t d bs w))))
+
+-- ---- runs, by position
+
+-- what stands from one position to another, and what stands behind it
+between-positions : (t : List ℕ) (at to : ℕ) → at ≤ to → drop at t ≡ take (to - at) (drop at t) ++ drop to t
+between-positions t at to h =
+    let z : at + (to - at) ≡ to = omega arith in
+    sym (take-append-drop (to - at) (drop at t)) ∙ ap (λ l. take (to - at) (drop at t) ++ l) (drop-drop (to - at) at t ∙ ap (λ i. drop i t) z)
+
+along : (t : List ℕ) (at to : ℕ) {p q : Place} → at ≤ to → Onward p (take (to - at) (drop at t) ++ drop to t) q (drop to t) → Onward p (drop at t) q (drop to t)
+along t at to {p} h o =
+    let e = between-positions t at to h in
+    record { to = ap (reached p) e ∙ o .to; has = ap (items p) e ∙ o .has; well = ap wellFormed e ∙ o .well }
+
+module _ {t : List ℕ} {at to : ℕ} where
+  pub run-spaces : {p : Place} → Run isSpace t at to → T (between p) → Onward p (drop at t) p (drop to t)
+  run-spaces {p} r h = along t at to (r .above) (spaces p (take (to - at) (drop at t)) (drop to t) h (r .all))
+
+  pub run-digits : (s : Sign) (n : ℕ) → Run isDigit t at to
+      → Onward (inNumber s n) (drop at t) (inNumber s (valueFrom n (take (to - at) (drop at t)))) (drop to t)
+  run-digits s n r = along t at to (r .above) (digits s n (take (to - at) (drop at t)) (drop to t) (r .all))
+
+  pub run-plain : {chars : ℕ} → Plain t at to chars → (s : List ℕ)
+      → Onward (inString s) (drop at t) (inString (s ++ take (to - at) (drop at t))) (drop to t)
+  run-plain r s = along t at to (r .above) (raws s (take (to - at) (drop at t)) (drop to t) (r .raw) (r .well))

@@ -1,9 +1,9 @@
 -- What the functions that read and write lists promise each other. Only contracts of inner functions cite this.
 use Prim.Native.Nat.{ℕ, _+_, _*_, _≤_, _<_, _-_}
 use mathlib.Core.Path.{_≡_}
-use mathlib.Core.Bool.{Bool, true, false, _&&_}
+use mathlib.Core.Bool.{Bool, true, false, cond, _&&_, _||_}
 use mathlib.Core.List.{List, [], _∷_}
-use lib.Dec.{T}
+use lib.Dec.{T, ltb, eqb}
 use lib.ListN.{length, take, drop, getD}
 use Rattle.buffers.specs.Lists.{allOf}
 use Rattle.characters.specs.Form.{wellFormed}
@@ -33,6 +33,15 @@ pub record Plain (t : List ℕ) (at to chars : ℕ) : Type 0 where
 abbrev pub valueFrom : ℕ → List ℕ → ℕ
 valueFrom n [] = n
 valueFrom n (b ∷ bs) = valueFrom (n * 10 + digitValue b) bs
+
+-- how many bytes a scalar value has
+unfoldable pub width : ℕ → ℕ
+width v = cond (ltb v 0x80) 1 (cond (ltb v 0x800) 2 (cond (ltb v 0x10000) 3 4))
+
+-- how many bytes a text grows by where it is written
+unfoldable pub extraBytes : List ℕ → ℕ
+extraBytes [] = 0
+extraBytes (b ∷ bs) = cond (ltb b 0x20) 5 (cond (eqb b 0x22 || eqb b 0x5C) 1 0) + extraBytes bs
 
 -- ---- how a list is read on
 
