@@ -57,7 +57,7 @@ conts-none : (bs : List ℕ) → allOf isCont bs ≡ true → numChars bs ≡ 0
 conts-none [] e = refl
 conts-none (b ∷ bs) e = let (x, y) = split (isCont b) (allOf isCont bs) e in rw (x, conts-none bs y)
 
-one-char : (c : List ℕ) → isChar c ≡ true → numChars c ≡ 1
+pub one-char : (c : List ℕ) → isChar c ≡ true → numChars c ≡ 1
 one-char [] e = absurd (true≢false (sym e))
 one-char (b ∷ bs) e = let (x, y) = split (not (isCont b)) (allOf isCont bs) e in rw (not-true (isCont b) x, conts-none bs y)
 

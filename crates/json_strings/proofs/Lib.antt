@@ -1,0 +1,3 @@
+-- json_strings
+pub mod Words
+pub mod Spans

@@ -1,0 +1,2 @@
+-- json_strings
+pub mod InnerStrings

@@ -1,0 +1,3 @@
+// The strings of a JSON list.
+
+pub mod core;
