@@ -184,7 +184,7 @@ unfolding next
 next-hex high due v t b e = rw e
 
 -- one digit more of an escape
-hex-step : (high : Option ℕ) (due v : ℕ) (t : List ℕ) (b : ℕ) (bs : List ℕ) → T (isHex b)
+pub hex-step : (high : Option ℕ) (due v : ℕ) (t : List ℕ) (b : ℕ) (bs : List ℕ) → T (isHex b)
     → Onward (inUnicode high due v t) (b ∷ bs) (counted high due (v * 16 + hexValue b) t) bs
 unfolding ends
 hex-step high due v t b bs h = let e = holds (isHex b) h in byte {b = b} bs (low-hex b e) (next-hex high due v t b e) refl

@@ -73,7 +73,7 @@ implied true b e h = e
 implied false b e h = absurd (false≢true h)
 
 module _ (b : ℕ) where
-  hex-value : isHex b ≡ true → hexValue b < 16
+  pub hex-value : isHex b ≡ true → hexValue b < 16
   unfolding isHex hexValue
   hex-value e =
       let z : (not (isHex b) || ltb (hexValue b) 16) ≡ true = each-at (λ b. not (isHex b) || ltb (hexValue b) 16) 0 0x80 b refl (omega arith) (low-hex b e) in

@@ -1,0 +1,3 @@
+-- json_escapes
+pub mod Digits
+

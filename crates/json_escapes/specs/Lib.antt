@@ -1,0 +1,2 @@
+-- json_escapes
+pub mod InnerEscapes
