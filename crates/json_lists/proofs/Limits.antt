@@ -83,6 +83,13 @@ over-or-same (number s n ∷ l) =
     (λ h. ⊎-elim (λ e. let z : min n 32769 ≡ n = omega arith in inl (ap₂ (λ k r. number s k ∷ r) z e)) (λ o. inr (later (number s n) o)) (over-or-same l))
     (λ h. inr (record { before = []; sign = s; value = n; behind = l; large = h; is = refl })) (le-or-lt n 32768)
 
+-- ---- what is delivered
+
+-- a sequence that keeps the limits
+pub delivers : (s : Seq) (out : List ℕ) → T (fits s) → deliver 0 s out ≡ writing 0 (encode s) out
+unfolding deliver
+delivers s out f = ap (λ t. writing (needs t 9 0) (encode s) out) (holds (fits s) f)
+
 pub deliver-over : (s : Seq) (out : List ℕ) → fits s ≡ false → deliver 0 s out ≡ record { answer = refused 9; out = out }
 unfolding deliver
 deliver-over s out e = ap (λ t. writing (needs t 9 0) (encode s) out) e

@@ -31,24 +31,25 @@ module _ {C : Type 0} where
   add-parts (c ∷ x) [] r = ap (λ w. put (insert (c ∷ w)) r) (sym (append-nil x))
   add-parts (c ∷ x) (d ∷ y) r = put-parts (c ∷ x) (d ∷ y) r
 
-module _ (l m : List Item) where
-  behind : (k : List Item) → opsOf (l ++ k) ≡ reverse (addAll (addAll [] (map opOf l)) (map opOf k))
-  unfolding opsOf build
-  behind k = ap (λ s. reverse (addAll [] s)) (map-append opOf l k) ∙ ap reverse (addAll-append [] (map opOf l) (map opOf k))
+-- the builders take items behind those that they have taken
+pub behind : (l k : List Item) → opsOf (l ++ k) ≡ reverse (addAll (addAll [] (map opOf l)) (map opOf k))
+unfolding opsOf build
+behind l k = ap (λ s. reverse (addAll [] s)) (map-append opOf l k) ∙ ap reverse (addAll-append [] (map opOf l) (map opOf k))
 
+module _ (l m : List Item) where
   pub string-parts : (t u : List ℕ) → T (wellFormed t) → T (wellFormed u) → opsOf (l ++ (string (t ++ u) ∷ m)) ≡ opsOf (l ++ (string t ∷ string u ∷ m))
   unfolding addAll opOf
   string-parts t u h k =
       let r = addAll [] (map opOf l) in
-      behind (string (t ++ u) ∷ m)
+      behind l (string (t ++ u) ∷ m)
       ∙ ap (λ s. reverse (addAll (add r (insert s)) (map opOf m))) (chars-append t u h k)
       ∙ ap (λ q. reverse (addAll q (map opOf m))) (sym (add-parts (chars t) (chars u) r))
-      ∙ sym (behind (string t ∷ string u ∷ m))
+      ∙ sym (behind l (string t ∷ string u ∷ m))
 
   -- "insert of no bytes" changes nothing
   pub empty-string : opsOf (l ++ (string [] ∷ m)) ≡ opsOf (l ++ m)
   unfolding addAll opOf
-  empty-string = behind (string [] ∷ m) ∙ sym (behind m)
+  empty-string = behind l (string [] ∷ m) ∙ sym (behind l m)
 
 -- the builders take the items as they end: what is built of the first i bytes, and of one byte more
 pub built-on : (list : List ℕ) (i : ℕ) → i < length list

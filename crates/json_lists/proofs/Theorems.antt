@@ -36,7 +36,7 @@ use Rattle.json_lists.proofs.Reading.{tight}
 use Rattle.json_lists.proofs.Derived.{text-goes}
 use Rattle.json_lists.proofs.Found.{text-found}
 use Rattle.json_lists.proofs.Values.{itemOf, op-item, reads-written}
-use Rattle.json_lists.proofs.Limits.{deliver-over}
+use Rattle.json_lists.proofs.Limits.{delivers, deliver-over}
 use Rattle.json_lists.proofs.WellWritten.{well-written}
 
 -- ---- the form
@@ -115,10 +115,6 @@ pub list-goes : (rec buffer : List ℕ) → recordFault rec ≡ 0 → length (wr
 unfolding toJsonCall
 list-goes rec buffer z h = rw (← writing-goes (recordFault rec) (written (ops rec)) buffer z h) tt
 
-delivers : (s : Seq) (out : List ℕ) → T (fits s) → deliver 0 s out ≡ writing 0 (encode s) out
-unfolding deliver
-delivers s out f = ap (λ t. writing (needs t 9 0) (encode s) out) (holds (fits s) f)
-
 delivered : (s : Seq) (out : List ℕ) → T (succeeds (deliver 0 s out .answer)) → T (fits s) × (deliver 0 s out .out ≡ atFront (encode s) out)
 unfolding deliver
 delivered s out g =
@@ -169,13 +165,13 @@ ops-front : (s : Seq) (out : List ℕ) → ops (atFront (encode s) out) ≡ s
 unfolding atFront
 ops-front s out = ops-encode s (drop (length (encode s)) out)
 
-ops-built : (l : List Item) → Built (opsOf l)
+pub ops-built : (l : List Item) → Built (opsOf l)
 unfolding opsOf
 ops-built l = build-built (map opOf l)
 
-call : (list out : List ℕ) {o : Option (List Item)} → read list ≡ o → fromJsonCall list out ≡ made o out
+pub from-read : (list out : List ℕ) {o : Option (List Item)} → read list ≡ o → fromJsonCall list out ≡ made o out
 unfolding fromJsonCall
-call list out e = ap (λ x. made x out) e
+from-read list out e = ap (λ x. made x out) e
 
 none-goes : (out : List ℕ) → T (succeeds (made none out .answer)) → ⊥
 unfolding writing
@@ -186,18 +182,18 @@ pub settles : (list out buffer again : List ℕ) → T (succeeds (fromJsonCall l
 settles list out buffer again g k = go (read list) refl
   where
     go : (o : Option (List Item)) → read list ≡ o → Settles list out buffer again
-    go none e = absurd (none-goes out (rw (call list out e) at g))
+    go none e = absurd (none-goes out (rw (from-read list out e) at g))
     go (some l) e =
         let s = opsOf l in
-        let (f, d) = delivered s out (rw (call list out e) at g) in
+        let (f, d) = delivered s out (rw (from-read list out e) at g) in
         let w = wrote-list (fromJsonCall list out .out) buffer k in
-        let same : ops (fromJsonCall list out .out) ≡ s = ap (λ (o : Out). ops (o .out)) (call list out e) ∙ ap ops d ∙ ops-front s out in
+        let same : ops (fromJsonCall list out .out) ≡ s = ap (λ (o : Out). ops (o .out)) (from-read list out e) ∙ ap ops d ∙ ops-front s out in
         record {
           size = length (written (ops (fromJsonCall list out .out)));
           answer = w .answer;
           same =
               ap (λ l. fromJsonCall l again) (w .list ∙ ap written same) ∙ from-written s again (ops-built l) f
-              ∙ sym (delivers s again f) ∙ sym (call list again e);
+              ∙ sym (delivers s again f) ∙ sym (from-read list again e);
         }
 
 -- ---- what refuses a list
@@ -217,15 +213,15 @@ no-eleven s out e = go (fits s) (leb (length (encode s)) (length out)) e
 -- 11 exactly where the bytes are outside the form, whatever else is wrong
 pub eleven : (list out : List ℕ) → (fromJsonCall list out .answer ≡ refused 11) ↔ (read list ≡ none)
 unfolding writing
-eleven list out = (λ e. go (read list) refl e, λ e. ap (λ o. o .answer) (call list out e))
+eleven list out = (λ e. go (read list) refl e, λ e. ap (λ o. o .answer) (from-read list out e))
   where
     go : (o : Option (List Item)) → read list ≡ o → fromJsonCall list out .answer ≡ refused 11 → read list ≡ none
     go none p e = p
-    go (some l) p e = absurd (no-eleven (opsOf l) out (ap (λ o. o .answer) (sym (call list out p)) ∙ e))
+    go (some l) p e = absurd (no-eleven (opsOf l) out (ap (λ o. o .answer) (sym (from-read list out p)) ∙ e))
 
 -- 9 where the record of its items would pass a limit
 pub nine : (list out : List ℕ) (l : List Item) → read list ≡ some l → fits (opsOf l) ≡ false → fromJsonCall list out ≡ record { answer = refused 9; out = out }
-nine list out l e f = call list out e ∙ deliver-over (opsOf l) out f
+nine list out l e f = from-read list out e ∙ deliver-over (opsOf l) out f
 
 -- a record that was made of a list can be read, and is the built sequence of its items
 pub record MadeOf (list out : List ℕ) : Type 0 where
@@ -238,10 +234,10 @@ unfolding atFront
 made-of list out g = go (read list) refl
   where
     go : (o : Option (List Item)) → read list ≡ o → MadeOf list out
-    go none e = absurd (none-goes out (rw (call list out e) at g))
+    go none e = absurd (none-goes out (rw (from-read list out e) at g))
     go (some l) e =
         let s = opsOf l in
-        let c = call list out e in
+        let c = from-read list out e in
         let (f, d) = delivered s out (rw c at g) in
         let more = drop (length (encode s)) out in
         let w = wrote 0 (encode s) out (rw (c ∙ delivers s out f) at g) in
