@@ -1,19 +1,17 @@
 -- What the grammar derives is read.
 use Prim.Native.Nat.{ℕ}
-use native.Mathlib.Omega.{arith}
 use mathlib.Core.Path.{_≡_, refl, ap, ap₂, _∙_}
 use mathlib.Core.Bool.{Bool, true, false, _||_}
 use mathlib.Core.List.{List, [], _∷_, _++_, append-assoc, append-nil}
 use mathlib.Core.Option.{Option, none, some}
 use lib.Dec.{T, eqb}
-use borrow.Author.Tests.{eqb-true, ne-eqb}
+use borrow.Author.Tests.{eqb-true}
 use Rattle.buffers.proofs.Tests.{holds, both}
 use Rattle.characters.specs.Scalar.{encodeScalar}
-use Rattle.characters.proofs.Leads.{within-bounds}
 use Rattle.json_lists.specs.Form.{Sign, plus, minus, Item, number, string, isSpace, isDigit, isDigit1-9, digitValue, isHex, isHigh, isLow, paired, Place, atStart, afterBracket, afterComma, afterMinus, inNumber, inString, inUnicode, afterHigh, afterValue, atEnd, follows, named, next, ends, reached, items}
 use Rattle.json_lists.specs.Grammar as grammar
 use Rattle.json_lists.proofs.Reading.{reached-append, items-append}
-use Rattle.json_lists.proofs.Steps.{between, space-stays, next-digit, next-raw, four-digits}
+use Rattle.json_lists.proofs.Steps.{between, space-stays, bracket-digit, comma-digit, minus-digit, next-digit, next-raw, four-digits}
 
 -- the bytes lead from one place to another, and these items end in them
 pub record Goes (p : Place) (bs : List ℕ) (q : Place) (l : List Item) : Type 0 where
@@ -46,36 +44,6 @@ record Opens (p : Place) : Type 0 where
   digit : (b : ℕ) → T (isDigit1-9 b) → Goes p (b ∷ []) (inNumber plus (digitValue b)) []
   minus-sign : Goes p (0x2D ∷ []) afterMinus []
   quote : Goes p (0x22 ∷ []) (inString []) []
-
--- what a first digit is not
-record Unlike (b : ℕ) : Type 0 where
-  space : isSpace b ≡ false
-  quote : eqb b 0x22 ≡ false
-  dash : eqb b 0x2D ≡ false
-  bracket : eqb b 0x5D ≡ false
-
-unlike : (b : ℕ) → T (isDigit1-9 b) → Unlike b
-unfolding isDigit1-9 isSpace
-unlike b h =
-    let (l, k) = within-bounds 0x31 0x39 b h in
-    record {
-      space = rw (ne-eqb b 0x20 (λ e. omega arith), ne-eqb b 0x09 (λ e. omega arith), ne-eqb b 0x0A (λ e. omega arith), ne-eqb b 0x0D (λ e. omega arith));
-      quote = ne-eqb b 0x22 (λ e. omega arith);
-      dash = ne-eqb b 0x2D (λ e. omega arith);
-      bracket = ne-eqb b 0x5D (λ e. omega arith);
-    }
-
-bracket-digit : (b : ℕ) → T (isDigit1-9 b) → next afterBracket b ≡ inNumber plus (digitValue b)
-unfolding next
-bracket-digit b h = let u = unlike b h in rw (u .space, u .bracket, u .quote, u .dash, holds (isDigit1-9 b) h)
-
-comma-digit : (b : ℕ) → T (isDigit1-9 b) → next afterComma b ≡ inNumber plus (digitValue b)
-unfolding next
-comma-digit b h = let u = unlike b h in rw (u .space, u .quote, u .dash, holds (isDigit1-9 b) h)
-
-minus-digit : (b : ℕ) → T (isDigit1-9 b) → next afterMinus b ≡ inNumber minus (digitValue b)
-unfolding next
-minus-digit b h = rw (holds (isDigit1-9 b) h)
 
 bracket-opens : Opens afterBracket
 unfolding next ends
@@ -130,7 +98,7 @@ short-goes u grammar.Short.line-feed = record { to = refl; has = refl }
 short-goes u grammar.Short.carriage-return = record { to = refl; has = refl }
 short-goes u grammar.Short.tab = record { to = refl; has = refl }
 
-character-goes : (u : List ℕ) {t c : List ℕ} → grammar.Character t c → Goes (inString u) t (inString (u ++ c)) []
+pub character-goes : (u : List ℕ) {t c : List ℕ} → grammar.Character t c → Goes (inString u) t (inString (u ++ c)) []
 character-goes u (grammar.Character.unescaped {b = b} h) = let (x, y) = next-raw u b h in byte-goes {b = b} x y
 character-goes u (grammar.Character.short s) = short-goes u s
 character-goes u (grammar.Character.unicode {v = v} h x y) = goes-then (opening u) (rw (named-one v u x y) at (hex-goes none u h))

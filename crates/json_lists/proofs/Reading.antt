@@ -2,7 +2,7 @@
 use Prim.Native.Nat.{ℕ}
 use mathlib.Core.Path.{_≡_, refl, ap, ap₂, _∙_}
 use mathlib.Core.Bool.{Bool, true, false, not, _&&_, _||_}
-use mathlib.Core.List.{List, [], _∷_, _++_, append-assoc}
+use mathlib.Core.List.{List, [], _∷_, _++_, append-assoc, append-nil}
 use lib.Dec.{T}
 use Rattle.buffers.proofs.Tests.{both}
 use Rattle.json_lists.specs.Form.{isSpace, Item, Place, atStart, afterBracket, afterComma, afterMinus, inNumber, inString, afterEscape, inUnicode, afterHigh, afterHighEscape, afterValue, atEnd, outside, next, ends, reached, items}
@@ -34,6 +34,11 @@ pub record Reads (p : Place) (bs : List ℕ) (q : Place) (l : List Item) : Type 
   pub to : reached p bs ≡ q
   pub has : items p bs ≡ l
   pub no-space : T (tight p bs)
+
+-- one byte
+pub reads-byte : {p q : Place} {b : ℕ} {l : List Item} → next p b ≡ q → ends p b ≡ l → T (inside p || not (isSpace b)) → Reads p (b ∷ []) q l
+unfolding reached items tight
+reads-byte {p} {b = b} n m s = record { to = n; has = append-nil (ends p b) ∙ m; no-space = both (inside p || not (isSpace b)) true .1 (s, tt) }
 
 -- ---- one part behind the other
 

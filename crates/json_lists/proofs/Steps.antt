@@ -9,12 +9,13 @@ use mathlib.Core.Option.{Option}
 use lib.Dec.{T, ltb, eqb}
 use lib.ListN.{length, take, drop, getD, take-append-drop}
 use lib.Seq.{drop-cons, drop-drop, take-suc}
-use borrow.Author.Tests.{not-true}
+use borrow.Author.Tests.{not-true, ne-eqb}
 use Rattle.buffers.specs.Lists.{allOf}
 use Rattle.buffers.proofs.Tests.{holds, both}
 use Rattle.characters.specs.Form.{wellFormed}
+use Rattle.characters.proofs.Leads.{within-bounds}
 use Rattle.characters.proofs.Chars.{well-append}
-use Rattle.json_lists.specs.Form.{Sign, Item, number, string, isSpace, isDigit, digitValue, isHex, hexValue}
+use Rattle.json_lists.specs.Form.{Sign, plus, minus, Item, number, string, isSpace, isDigit, isDigit1-9, digitValue, isHex, hexValue}
 use Rattle.json_lists.specs.Form.{Place, atStart, afterBracket, afterComma, afterMinus, inNumber, inString, afterEscape}
 use Rattle.json_lists.specs.Form.{inUnicode, afterHigh, afterHighEscape, afterValue, atEnd, outside, isEnd}
 use Rattle.json_lists.specs.Form.{named, counted, next, ends, reached, items}
@@ -127,6 +128,38 @@ spaces p (b ∷ xs) bs h s =
     onward-then (byte {b = b} (xs ++ bs) (low-space b k) n m) (spaces p xs bs h r)
 
 -- ---- numbers
+
+-- what a first digit is not
+record Unlike (b : ℕ) : Type 0 where
+  space : isSpace b ≡ false
+  quote : eqb b 0x22 ≡ false
+  dash : eqb b 0x2D ≡ false
+  bracket : eqb b 0x5D ≡ false
+
+module _ (b : ℕ) (h : T (isDigit1-9 b)) where
+  unlike : Unlike b
+  unfolding isDigit1-9 isSpace
+  unlike =
+      let (l, k) = within-bounds 0x31 0x39 b h in
+      record {
+        space = rw (ne-eqb b 0x20 (λ e. omega arith), ne-eqb b 0x09 (λ e. omega arith), ne-eqb b 0x0A (λ e. omega arith), ne-eqb b 0x0D (λ e. omega arith));
+        quote = ne-eqb b 0x22 (λ e. omega arith);
+        dash = ne-eqb b 0x2D (λ e. omega arith);
+        bracket = ne-eqb b 0x5D (λ e. omega arith);
+      }
+
+  -- where a number may begin
+  pub bracket-digit : next afterBracket b ≡ inNumber plus (digitValue b)
+  unfolding next
+  bracket-digit = let u = unlike in rw (u .space, u .bracket, u .quote, u .dash, holds (isDigit1-9 b) h)
+
+  pub comma-digit : next afterComma b ≡ inNumber plus (digitValue b)
+  unfolding next
+  comma-digit = let u = unlike in rw (u .space, u .quote, u .dash, holds (isDigit1-9 b) h)
+
+  pub minus-digit : next afterMinus b ≡ inNumber minus (digitValue b)
+  unfolding next
+  minus-digit = rw (holds (isDigit1-9 b) h)
 
 pub next-digit : (s : Sign) (n b : ℕ) → isDigit b ≡ true
     → (next (inNumber s n) b ≡ inNumber s (n * 10 + digitValue b)) × (ends (inNumber s n) b ≡ [])

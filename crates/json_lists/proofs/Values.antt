@@ -1,36 +1,31 @@
 -- What a written value is read as.
 use Prim.Native.Nat.{ℕ, zero, suc, _+_, _*_, _/_, _%_, _<_, _≤_}
 use native.Mathlib.Omega.{arith}
-use mathlib.Core.Path.{_≡_, refl, ap}
-use mathlib.Core.Logic.{⊎-elim}
-use mathlib.Core.Bool.{Bool, true, false, cond}
+use mathlib.Core.Path.{_≡_, refl, ap, _∙_}
+use mathlib.Core.Bool.{Bool, true, false, cond, not}
 use mathlib.Core.List.{List, [], _∷_, _++_, map, append-assoc, append-nil}
+use mathlib.Core.Option.{none}
 use lib.Dec.{T, ltb, eqb}
 use borrow.Author.Tests.{eqb-true, ltb-true, ltb-false}
 use Rattle.characters.specs.Text.{Char, bytes}
 use Rattle.buffers.specs.Lists.{allOf}
-use Rattle.buffers.proofs.Tests.{both}
-use Rattle.characters.proofs.Leads.{le-or-lt}
+use Rattle.buffers.proofs.Tests.{both, holds, known}
+use Rattle.characters.proofs.Leads as leads
+use Rattle.characters.proofs.Bytes.{each-at}
+use Rattle.characters.proofs.Codes.{encode-1}
 use Rattle.characters.proofs.Texts.{chars-bytes}
 use Rattle.edits.specs.Op.{Op, retain, insert, delete}
 use Rattle.edits.specs.Built.{full}
 use Rattle.edits.specs.Sequence.{Seq}
 use Rattle.edits.proofs.Links.{positive}
-use Rattle.json_lists.specs.Form.{Sign, plus, minus, Item, number, string, isSpace, isDigit, digitValue, Place, atStart, afterBracket, afterComma, afterMinus, inNumber, inString, afterValue, atEnd, reached, items}
+use Rattle.json_lists.specs.Form.{Sign, plus, minus, Item, number, string, isSpace, isDigit, isDigit1-9, digitValue, isHex, isHigh, isLow, inUnicode, next, ends, Place, atStart, afterBracket, afterComma, afterMinus, inNumber, inString, afterValue, atEnd, reached, items}
+use Rattle.json_lists.specs.Grammar.{isRaw, Hex4, hex4, unicode}
 use Rattle.json_lists.specs.Written.{decimalIn, decimal, escaped, escapedAll, value, others, written}
 use Rattle.json_lists.specs.Calls.{opOf}
-use Rattle.json_lists.proofs.Reading.{tight, Reads, reads-then}
-
--- ---- what holds of each of n numbers
-
-abbrev All : (ℕ → Type 0) → ℕ → ℕ → Type 0
-All P lo zero = Unit {0}
-All P lo (suc n) = P lo × All P (suc lo) n
-
-all-at : (P : ℕ → Type 0) (lo n b : ℕ) → All P lo n → lo ≤ b → b < lo + n → P b
-all-at P lo zero b a l h = absurd (omega arith)
-all-at P lo (suc n) b a l h =
-    ⊎-elim (λ k. all-at P (suc lo) n b (a .1) k (omega arith)) (λ k. let z : lo ≡ b = omega arith in rw z at (a .0)) (le-or-lt (suc lo) b)
+use Rattle.json_lists.proofs.Reading.{inside, tight, Reads, reads-byte, reads-then}
+use Rattle.json_lists.proofs.Steps.{bracket-digit, comma-digit, minus-digit, next-digit, next-raw}
+use Rattle.json_lists.proofs.Derived.{character-goes}
+use Rattle.json_lists.proofs.Escapes.{only-raw, control-escaped}
 
 -- ---- numbers
 
@@ -38,41 +33,44 @@ all-at P lo (suc n) b a l h =
 pub record Begins (p : Place) (s : Sign) : Type 0 where
   pub digit : (d : ℕ) → 1 ≤ d → d < 10 → Reads p ((0x30 + d) ∷ []) (inNumber s d) []
 
-abbrev Begun : Place → Sign → ℕ → Type 0
-Begun p s d = Reads p ((0x30 + d) ∷ []) (inNumber s d) []
+module _ (d : ℕ) (h : d < 10) where
+  digit-value : digitValue (0x30 + d) ≡ d
+  unfolding digitValue
+  digit-value = omega arith
+
+  digit-no-space : T (not (isSpace (0x30 + d)))
+  unfolding isSpace
+  digit-no-space = known (each-at (λ d. not (isSpace (0x30 + d))) 0 10 d refl (omega arith) (omega arith))
+
+  first-digit : 1 ≤ d → T (isDigit1-9 (0x30 + d))
+  unfolding isDigit1-9
+  first-digit l = known (leads.inside 0x31 0x39 (0x30 + d) (omega arith) (omega arith))
+
+  digit-is : isDigit (0x30 + d) ≡ true
+  unfolding isDigit
+  digit-is = leads.inside 0x30 0x39 (0x30 + d) (omega arith) (omega arith)
+
+  -- it stands outside of strings
+  reads-number : {p : Place} {s : Sign} {n : ℕ} → next p (0x30 + d) ≡ inNumber s n → ends p (0x30 + d) ≡ [] → inside p ≡ false → Reads p ((0x30 + d) ∷ []) (inNumber s n) []
+  reads-number n m e = reads-byte {b = 0x30 + d} n m (rw e digit-no-space)
 
 bracket-begins : Begins afterBracket plus
-unfolding reached items tight
-bracket-begins = record { digit = λ d l h. all-at (Begun afterBracket plus) 1 9 d nine l (omega arith) }
-  where
-    nine : All (Begun afterBracket plus) 1 9
-    nine = (record { to = refl; has = refl; no-space = tt }, (record { to = refl; has = refl; no-space = tt }, (record { to = refl; has = refl; no-space = tt }, (record { to = refl; has = refl; no-space = tt }, (record { to = refl; has = refl; no-space = tt }, (record { to = refl; has = refl; no-space = tt }, (record { to = refl; has = refl; no-space = tt }, (record { to = refl; has = refl; no-space = tt }, (record { to = refl; has = refl; no-space = tt }, tt)))))))))
+unfolding ends
+bracket-begins = record { digit = λ d l h. reads-number d h (bracket-digit (0x30 + d) (first-digit d h l) ∙ ap (inNumber plus) (digit-value d h)) refl refl }
 
 comma-begins : Begins afterComma plus
-unfolding reached items tight
-comma-begins = record { digit = λ d l h. all-at (Begun afterComma plus) 1 9 d nine l (omega arith) }
-  where
-    nine : All (Begun afterComma plus) 1 9
-    nine = (record { to = refl; has = refl; no-space = tt }, (record { to = refl; has = refl; no-space = tt }, (record { to = refl; has = refl; no-space = tt }, (record { to = refl; has = refl; no-space = tt }, (record { to = refl; has = refl; no-space = tt }, (record { to = refl; has = refl; no-space = tt }, (record { to = refl; has = refl; no-space = tt }, (record { to = refl; has = refl; no-space = tt }, (record { to = refl; has = refl; no-space = tt }, tt)))))))))
+unfolding ends
+comma-begins = record { digit = λ d l h. reads-number d h (comma-digit (0x30 + d) (first-digit d h l) ∙ ap (inNumber plus) (digit-value d h)) refl refl }
 
 minus-begins : Begins afterMinus minus
-unfolding reached items tight
-minus-begins = record { digit = λ d l h. all-at (Begun afterMinus minus) 1 9 d nine l (omega arith) }
-  where
-    nine : All (Begun afterMinus minus) 1 9
-    nine = (record { to = refl; has = refl; no-space = tt }, (record { to = refl; has = refl; no-space = tt }, (record { to = refl; has = refl; no-space = tt }, (record { to = refl; has = refl; no-space = tt }, (record { to = refl; has = refl; no-space = tt }, (record { to = refl; has = refl; no-space = tt }, (record { to = refl; has = refl; no-space = tt }, (record { to = refl; has = refl; no-space = tt }, (record { to = refl; has = refl; no-space = tt }, tt)))))))))
+unfolding ends
+minus-begins = record { digit = λ d l h. reads-number d h (minus-digit (0x30 + d) (first-digit d h l) ∙ ap (inNumber minus) (digit-value d h)) refl refl }
 
 -- one digit more
-digit-is : (d : ℕ) → d < 10 → (isDigit (0x30 + d) ≡ true) × (isSpace (0x30 + d) ≡ false) × (digitValue (0x30 + d) ≡ d)
-unfolding isDigit isSpace digitValue
-digit-is d h = all-at (λ d. (isDigit (0x30 + d) ≡ true) × (isSpace (0x30 + d) ≡ false) × (digitValue (0x30 + d) ≡ d)) 0 10 d ten (omega arith) (omega arith)
-  where
-    ten : All (λ d. (isDigit (0x30 + d) ≡ true) × (isSpace (0x30 + d) ≡ false) × (digitValue (0x30 + d) ≡ d)) 0 10
-    ten = ((refl, refl, refl), ((refl, refl, refl), ((refl, refl, refl), ((refl, refl, refl), ((refl, refl, refl), ((refl, refl, refl), ((refl, refl, refl), ((refl, refl, refl), ((refl, refl, refl), ((refl, refl, refl), tt))))))))))
-
 reads-digit : (s : Sign) (n d : ℕ) → d < 10 → Reads (inNumber s n) ((0x30 + d) ∷ []) (inNumber s (n * 10 + d)) []
-unfolding reached items tight
-reads-digit s n d h = let (a, b, c) = digit-is d h in record { to = rw (a, c); has = rw a; no-space = rw b tt }
+reads-digit s n d h =
+    let (e, m) = next-digit s n (0x30 + d) (digit-is d h) in
+    reads-number d h (e ∙ ap (λ k. inNumber s (n * 10 + k)) (digit-value d h)) m refl
 
 pub reads-decimal : (f n : ℕ) (p : Place) (s : Sign) → Begins p s → 1 ≤ n → n < f → Reads p (decimalIn f n) (inNumber s n) []
 unfolding decimalIn
@@ -87,31 +85,34 @@ reads-decimal (suc f) n p s b l h = go (ltb n 10) refl (λ k. reads-decimal f (n
 
 -- ---- strings
 
--- a byte that is not escaped
-pub escaped-raw : (b : ℕ) → eqb b 0x22 ≡ false → eqb b 0x5C ≡ false → ltb b 0x20 ≡ false → escaped b ≡ b ∷ []
-unfolding escaped
-escaped-raw b e f g = rw (e, f, g)
-
-pub reads-raw : (t : List ℕ) (b : ℕ) → eqb b 0x22 ≡ false → eqb b 0x5C ≡ false → ltb b 0x20 ≡ false → Reads (inString t) (b ∷ []) (inString (t ++ (b ∷ []))) []
-unfolding reached items tight
-reads-raw t b e f g = record { to = rw (e, f, g); has = rw e; no-space = tt }
-
+-- what is written for a byte is read as that byte
 abbrev Escaped : List ℕ → ℕ → Type 0
 Escaped t b = Reads (inString t) (escaped b) (inString (t ++ (b ∷ []))) []
 
-controls : (t : List ℕ) → All (Escaped t) 0 32
-unfolding escaped reached items tight
-controls t = (record { to = refl; has = refl; no-space = tt }, (record { to = refl; has = refl; no-space = tt }, (record { to = refl; has = refl; no-space = tt }, (record { to = refl; has = refl; no-space = tt }, (record { to = refl; has = refl; no-space = tt }, (record { to = refl; has = refl; no-space = tt }, (record { to = refl; has = refl; no-space = tt }, (record { to = refl; has = refl; no-space = tt }, (record { to = refl; has = refl; no-space = tt }, (record { to = refl; has = refl; no-space = tt }, (record { to = refl; has = refl; no-space = tt }, (record { to = refl; has = refl; no-space = tt }, (record { to = refl; has = refl; no-space = tt }, (record { to = refl; has = refl; no-space = tt }, (record { to = refl; has = refl; no-space = tt }, (record { to = refl; has = refl; no-space = tt }, (record { to = refl; has = refl; no-space = tt }, (record { to = refl; has = refl; no-space = tt }, (record { to = refl; has = refl; no-space = tt }, (record { to = refl; has = refl; no-space = tt }, (record { to = refl; has = refl; no-space = tt }, (record { to = refl; has = refl; no-space = tt }, (record { to = refl; has = refl; no-space = tt }, (record { to = refl; has = refl; no-space = tt }, (record { to = refl; has = refl; no-space = tt }, (record { to = refl; has = refl; no-space = tt }, (record { to = refl; has = refl; no-space = tt }, (record { to = refl; has = refl; no-space = tt }, (record { to = refl; has = refl; no-space = tt }, (record { to = refl; has = refl; no-space = tt }, (record { to = refl; has = refl; no-space = tt }, (record { to = refl; has = refl; no-space = tt }, tt))))))))))))))))))))))))))))))))
+reads-raw : (t : List ℕ) (b : ℕ) → T (isRaw b) → Escaped t b
+reads-raw t b r = let (n, m) = next-raw t b r in rw (only-raw b .1 r) (reads-byte {b = b} n m tt)
 
-pub reads-escaped : (t : List ℕ) (b : ℕ) → Escaped t b
+tight-digits : (t : List ℕ) {u : List ℕ} {v : ℕ} → Hex4 u v → T (tight (inUnicode none 3 0 t) u)
+unfolding tight
+tight-digits t (hex4 {a} {b} {c} x y z w) = rw (holds (isHex a) x, holds (isHex b) y, holds (isHex c) z) tt
+
+-- a code below 20
+reads-control : (t : List ℕ) (b : ℕ) → b < 0x20 → Escaped t b
+unfolding tight isHigh isLow
+reads-control t b h =
+    let k = control-escaped b h in
+    let g = character-goes t (unicode (k .value) (leads.under 0xD800 0xDBFF b (omega arith)) (leads.under 0xDC00 0xDFFF b (omega arith))) in
+    rw (k .is) (record { to = g .to ∙ ap (λ c. inString (t ++ c)) (encode-1 b (omega arith)); has = g .has; no-space = tight-digits t (k .value) })
+
+reads-escaped : (t : List ℕ) (b : ℕ) → Escaped t b
 unfolding escaped reached items tight
 reads-escaped t b = go (eqb b 0x22) (eqb b 0x5C) (ltb b 0x20) refl refl refl
   where
     go : (x y z : Bool) → eqb b 0x22 ≡ x → eqb b 0x5C ≡ y → ltb b 0x20 ≡ z → Escaped t b
     go true y z e f g = rw (eqb-true b 0x22 e) (record { to = refl; has = refl; no-space = tt })
     go false true z e f g = rw (eqb-true b 0x5C f) (record { to = refl; has = refl; no-space = tt })
-    go false false true e f g = all-at (Escaped t) 0 32 b (controls t) (omega arith) (omega (arith, ltb-true b 0x20 g))
-    go false false false e f g = rw (escaped-raw b e f g) (reads-raw t b e f g)
+    go false false true e f g = reads-control t b (ltb-true b 0x20 g)
+    go false false false e f g = reads-raw t b (unfold isRaw in rw (e, f, g) tt)
 
 pub reads-text : (t u : List ℕ) → Reads (inString t) (escapedAll u) (inString (t ++ u)) []
 unfolding reached items tight

@@ -18,7 +18,7 @@ use Rattle.characters.proofs.Texts.{bytes-well}
 use Rattle.edits.specs.Op.{Op, retain, insert, delete}
 use Rattle.edits.specs.Sequence.{Seq}
 use Rattle.json_lists.specs.Written.{decimalIn, decimal, escaped, escapedAll, value, others, written}
-use Rattle.json_lists.proofs.Values.{escaped-raw}
+use Rattle.json_lists.proofs.Escapes.{escaped-raw}
 use Rattle.json_lists.proofs.Ascii.{lead-ascii}
 
 -- ---- ASCII
