@@ -114,11 +114,11 @@ step-goes s l room f h =
 step-stops : (s : Seq) (l : List Item) (room : List ℕ) → fits s ≡ false → further (deliver 0 s room) l room ≡ stopped 9
 step-stops s l room e = ap (λ o. further o l room) (deliver-over s room e)
 
--- the run ends as the limits decide of all items together
 run-none : (rec room : List ℕ) → runFrom rec [] room ≡ finished rec
 unfolding runFrom
 run-none rec room = refl
 
+-- the run ends as the limits decide of all items together
 run-ends : (k l : List Item) (room : List ℕ) → T (fits (opsOf k)) → T (allOf wellItem l) → maxRecord ≤ length room
     → runFrom (encode (opsOf k)) l room ≡ ending (opsOf (k ++ l))
 run-ends k [] room f w h = run-none (encode (opsOf k)) room ∙ rw (append-nil k, holds (fits (opsOf k)) f)
@@ -132,7 +132,8 @@ run-ends k (x ∷ l) room f w h =
     joined : (k ++ (x ∷ [])) ++ l ≡ k ++ (x ∷ l)
     joined = append-assoc k (x ∷ []) l
 
-    go : (t : Bool) → fits s ≡ t → (T (fits s) → runFrom (encode s) l room ≡ ending (opsOf ((k ++ (x ∷ [])) ++ l))) → further (deliver 0 s room) l room ≡ ending (opsOf (k ++ (x ∷ l)))
+    go : (t : Bool) → fits s ≡ t → (T (fits s) → runFrom (encode s) l room ≡ ending (opsOf ((k ++ (x ∷ [])) ++ l)))
+        → further (deliver 0 s room) l room ≡ ending (opsOf (k ++ (x ∷ l)))
     go true e ih = step-goes s l room (known e) h ∙ ih (known e) ∙ ap (λ m. ending (opsOf m)) joined
     go false e ih =
         step-stops s l room e

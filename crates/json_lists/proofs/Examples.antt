@@ -49,34 +49,57 @@ pub reads :
 unfolding read leadOf within
 reads = (refl, refl, refl, refl, refl, refl, refl, refl, refl, refl, refl, refl, refl, refl)
 
-pub refuses :
-    -- nothing, white space only, [, ], a value without a list, a list in a list
+-- nothing, white space only, [, ], a value without a list, a list in a list
+pub refuses-shapes :
     (read [] ≡ none) × (read (0x20 ∷ []) ≡ none) × (read (0x5B ∷ []) ≡ none) × (read (0x5D ∷ []) ≡ none) × (read (0x35 ∷ []) ≡ none)
     × (read (array (array [])) ≡ none)
-    -- [0] [-0] [01] [-01] [1.0] [1e3] [+1] [-] [- 1] [1 2]
-    × (read (array (0x30 ∷ [])) ≡ none) × (read (array (0x2D ∷ 0x30 ∷ [])) ≡ none) × (read (array (0x30 ∷ 0x31 ∷ [])) ≡ none)
+unfolding read leadOf within
+refuses-shapes = (refl, refl, refl, refl, refl, refl)
+
+-- [0] [-0] [01] [-01] [1.0] [1e3] [+1] [-] [- 1] [1 2]
+pub refuses-numbers :
+    (read (array (0x30 ∷ [])) ≡ none) × (read (array (0x2D ∷ 0x30 ∷ [])) ≡ none) × (read (array (0x30 ∷ 0x31 ∷ [])) ≡ none)
     × (read (array (0x2D ∷ 0x30 ∷ 0x31 ∷ [])) ≡ none) × (read (array (0x31 ∷ 0x2E ∷ 0x30 ∷ [])) ≡ none) × (read (array (0x31 ∷ 0x65 ∷ 0x33 ∷ [])) ≡ none)
     × (read (array (0x2B ∷ 0x31 ∷ [])) ≡ none) × (read (array (0x2D ∷ [])) ≡ none) × (read (array (0x2D ∷ 0x20 ∷ 0x31 ∷ [])) ≡ none)
     × (read (array (0x31 ∷ 0x20 ∷ 0x32 ∷ [])) ≡ none)
-    -- [,] [1,] [,1], a byte order mark, a byte behind the list
-    × (read (array (0x2C ∷ [])) ≡ none) × (read (array (0x31 ∷ 0x2C ∷ [])) ≡ none) × (read (array (0x2C ∷ 0x31 ∷ [])) ≡ none)
+unfolding read leadOf within
+refuses-numbers = (refl, refl, refl, refl, refl, refl, refl, refl, refl, refl)
+
+-- [,] [1,] [,1], a byte order mark, a byte behind the list
+pub refuses-extra :
+    (read (array (0x2C ∷ [])) ≡ none) × (read (array (0x31 ∷ 0x2C ∷ [])) ≡ none) × (read (array (0x2C ∷ 0x31 ∷ [])) ≡ none)
     × (read (0xEF ∷ 0xBB ∷ 0xBF ∷ array []) ≡ none) × (read (0x5B ∷ 0x5D ∷ 0x78 ∷ []) ≡ none) × (read (0x5B ∷ 0x5D ∷ 0x00 ∷ []) ≡ none)
-    -- what is no white space: 0B, 0C, C2 A0
-    × (read (array (0x0B ∷ [])) ≡ none) × (read (array (0x0C ∷ [])) ≡ none) × (read (array (0xC2 ∷ 0xA0 ∷ [])) ≡ none)
-    -- what is no hexadecimal digit: / : @ G ` g
-    × (read (quoted (u 0x30 0x30 0x30 0x2F [])) ≡ none) × (read (quoted (u 0x30 0x30 0x30 0x3A [])) ≡ none) × (read (quoted (u 0x30 0x30 0x30 0x40 [])) ≡ none)
+unfolding read leadOf within
+refuses-extra = (refl, refl, refl, refl, refl, refl)
+
+-- what is no white space: 0B, 0C, C2 A0
+pub refuses-spaces :
+    (read (array (0x0B ∷ [])) ≡ none) × (read (array (0x0C ∷ [])) ≡ none) × (read (array (0xC2 ∷ 0xA0 ∷ [])) ≡ none)
+unfolding read leadOf within
+refuses-spaces = (refl, refl, refl)
+
+-- what is no hexadecimal digit: / : @ G ` g
+pub refuses-digits :
+    (read (quoted (u 0x30 0x30 0x30 0x2F [])) ≡ none) × (read (quoted (u 0x30 0x30 0x30 0x3A [])) ≡ none) × (read (quoted (u 0x30 0x30 0x30 0x40 [])) ≡ none)
     × (read (quoted (u 0x30 0x30 0x30 0x47 [])) ≡ none) × (read (quoted (u 0x30 0x30 0x30 0x60 [])) ≡ none) × (read (quoted (u 0x30 0x30 0x30 0x67 [])) ≡ none)
-    -- a low surrogate first; a high one with nothing, a letter, an escape, \u0041 or a high one behind it
-    × (read (quoted (u 0x44 0x43 0x30 0x30 [])) ≡ none) × (read (quoted (u 0x44 0x38 0x30 0x30 [])) ≡ none)
+unfolding read leadOf within
+refuses-digits = (refl, refl, refl, refl, refl, refl)
+
+-- a low surrogate first; a high one with nothing, a letter, an escape, \u0041 or a high one behind it
+pub refuses-surrogates :
+    (read (quoted (u 0x44 0x43 0x30 0x30 [])) ≡ none) × (read (quoted (u 0x44 0x38 0x30 0x30 [])) ≡ none)
     × (read (quoted (u 0x44 0x38 0x30 0x30 (0x61 ∷ []))) ≡ none) × (read (quoted (u 0x44 0x38 0x30 0x30 (0x5C ∷ 0x6E ∷ []))) ≡ none)
     × (read (quoted (u 0x44 0x38 0x30 0x30 (u 0x30 0x30 0x34 0x31 []))) ≡ none) × (read (quoted (u 0x44 0x38 0x30 0x30 (u 0x44 0x38 0x30 0x30 []))) ≡ none)
-    -- three digits, \x, a raw line feed, 1F, an open string, ill-formed UTF-8: C0 80, ED A0 80, a character cut off
-    × (read (quoted (0x5C ∷ 0x75 ∷ 0x30 ∷ 0x30 ∷ 0x34 ∷ [])) ≡ none) × (read (quoted (0x5C ∷ 0x78 ∷ [])) ≡ none)
+unfolding read leadOf within
+refuses-surrogates = (refl, refl, refl, refl, refl, refl)
+
+-- three digits, \x, a raw line feed, 1F, an open string, ill-formed UTF-8: C0 80, ED A0 80, a character cut off
+pub refuses-strings :
+    (read (quoted (0x5C ∷ 0x75 ∷ 0x30 ∷ 0x30 ∷ 0x34 ∷ [])) ≡ none) × (read (quoted (0x5C ∷ 0x78 ∷ [])) ≡ none)
     × (read (quoted (0x0A ∷ [])) ≡ none) × (read (quoted (0x1F ∷ [])) ≡ none) × (read (array (0x22 ∷ [])) ≡ none)
     × (read (quoted (0xC0 ∷ 0x80 ∷ [])) ≡ none) × (read (quoted (0xED ∷ 0xA0 ∷ 0x80 ∷ [])) ≡ none) × (read (quoted (0xC3 ∷ [])) ≡ none)
 unfolding read leadOf within
-refuses =
-    (refl, refl, refl, refl, refl, refl, refl, refl, refl, refl, refl, refl, refl, refl, refl, refl, refl, refl, refl, refl, refl, refl, refl, refl, refl, refl, refl, refl, refl, refl, refl, refl, refl, refl, refl, refl, refl, refl, refl, refl, refl, refl, refl, refl, refl)
+refuses-strings = (refl, refl, refl, refl, refl, refl, refl, refl)
 
 -- R5 I"a\ä" D20 as [5,"a\\ä",-20]; quotation mark, line feed and 1F as \" \u000a \u001f
 pub writes :

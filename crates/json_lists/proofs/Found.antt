@@ -55,7 +55,9 @@ conv e a = rw e at a
 -- ---- parts
 
 structural-space : {b : ℕ} {c : List ℕ} → Structural b c → (x : ℕ) → T (isSpace x) → Structural b (c ++ (x ∷ []))
-structural-space {b} (Structural.structural {w = w} {v = v} f g) x s = let z : Structural b (w ++ (b ∷ (v ++ (x ∷ [])))) = Structural.structural f (Ws.more g x s) in rw (← append-assoc w (b ∷ v) (x ∷ [])) at z
+structural-space {b} (Structural.structural {w = w} {v = v} f g) x s =
+    let z : Structural b (w ++ (b ∷ (v ++ (x ∷ [])))) = Structural.structural f (Ws.more g x s) in
+    rw (← append-assoc w (b ∷ v) (x ∷ [])) at z
 
 before-space : {t : List ℕ} {l : List Item} → Before t l → (x : ℕ) → T (isSpace x) → Before (t ++ (x ∷ [])) l
 before-space (first a) x s = first (structural-space a x s)
@@ -164,10 +166,13 @@ module _ (b : ℕ) where
 
   step : {p : Place} {t : List ℕ} {l : List Item} → At p t l → At (next p b) (t ++ (b ∷ [])) (l ++ ends p b)
   unfolding next ends
-  step (start {t = t} w) = cond-elim (New t []) (isSpace b) (λ e. start (Ws.more w b (known e))) (λ _. cond-elim (New t []) (eqb b 0x5B) (λ e. bracket (rw (eqb-true b 0x5B e) (Structural.structural w Ws.none))) (λ _. out))
+  step (start {t = t} w) =
+      cond-elim (New t []) (isSpace b) (λ e. start (Ws.more w b (known e)))
+      (λ _. cond-elim (New t []) (eqb b 0x5B) (λ e. bracket (rw (eqb-true b 0x5B e) (Structural.structural w Ws.none))) (λ _. out))
   step (bracket {t = t} a) =
       cond-elim (New t []) (isSpace b) (λ e. bracket (structural-space a b (known e)))
-      (λ _. cond-elim (New t []) (eqb b 0x5D) (λ e. conv (append-nil (t ++ (b ∷ []))) (fin {t = t ++ (b ∷ [])} (rw (eqb-true b 0x5D e) (Array.empty a (Structural.structural Ws.none Ws.none))) Ws.none))
+      (λ _. cond-elim (New t []) (eqb b 0x5D)
+      (λ e. conv (append-nil (t ++ (b ∷ []))) (fin {t = t ++ (b ∷ [])} (rw (eqb-true b 0x5D e) (Array.empty a (Structural.structural Ws.none Ws.none))) Ws.none))
       (λ _. from-before (first a)))
   step (comma {t = t} {l = l} f) = rw (append-nil l) (cond-elim (New t l) (isSpace b) (λ e. comma (before-space f b (known e))) (λ _. from-before f))
   step (dash {t = t} {l = l} f) =
@@ -175,11 +180,13 @@ module _ (b : ℕ) where
   step (num f k) = from-number f k
   step (str f k) = from-string f k
   step (esc {l = l} f k) = rw (append-nil l) (from-escape f k)
-  step (uni {t = t} {u = u} {h = h} {d = d} {l = l} f k g e) = rw (append-nil l) (cond-elim (New (t ++ (0x22 ∷ (u ++ (h ++ (0x5C ∷ 0x75 ∷ d))))) l) (isHex b) (λ x. from-digits f k g e (known x)) (λ _. out))
+  step (uni {t = t} {u = u} {h = h} {d = d} {l = l} f k g e) =
+      rw (append-nil l) (cond-elim (New (t ++ (0x22 ∷ (u ++ (h ++ (0x5C ∷ 0x75 ∷ d))))) l) (isHex b) (λ x. from-digits f k g e (known x)) (λ _. out))
   step (hi {t = t} {u = u} {d = d} {l = l} f k g i) =
       rw (append-nil l) (cond-elim (New (t ++ (0x22 ∷ (u ++ (0x5C ∷ 0x75 ∷ d)))) l) (eqb b 0x5C) (λ e. rw (eqb-true b 0x5C e) (conv (simp append-assoc) (hi-esc f k g i))) (λ _. out))
   step (hi-esc {t = t} {u = u} {d = d} {l = l} f k g i) =
-      rw (append-nil l) (cond-elim (New (t ++ (0x22 ∷ (u ++ (0x5C ∷ 0x75 ∷ (d ++ (0x5C ∷ [])))))) l) (eqb b 0x75) (λ e. rw (eqb-true b 0x75 e) (conv (simp append-assoc) (uni f k (high g i) no-digit))) (λ _. out))
+      rw (append-nil l) (cond-elim (New (t ++ (0x22 ∷ (u ++ (0x5C ∷ 0x75 ∷ (d ++ (0x5C ∷ [])))))) l) (eqb b 0x75)
+      (λ e. rw (eqb-true b 0x75 e) (conv (simp append-assoc) (uni f k (high g i) no-digit))) (λ _. out))
   step (val {l = l} f) = rw (append-nil l) (from-behind f)
   step (fin {t = t} {w = w} {l = l} a f) = rw (append-nil l) (cond-elim (New (t ++ w) l) (isSpace b) (λ e. conv (simp append-assoc) (fin a (Ws.more f b (known e)))) (λ _. out))
   step out = out

@@ -3,9 +3,9 @@ use Prim.Native.Nat.{ℕ, zero, suc, _+_, _*_, _/_, _%_, _^_, _<_, _≤_}
 use native.Mathlib.Nat.{pow-suc}
 use native.Mathlib.Omega.{arith}
 use mathlib.Core.Path.{_≡_}
-use mathlib.Core.Bool.{Bool, true, false, cond, _||_}
+use mathlib.Core.Bool.{Bool, true, false, cond}
 use mathlib.Core.List.{List, [], _∷_, _++_, map}
-use lib.Dec.{T, ltb, eqb}
+use lib.Dec.{T, ltb}
 use lib.ListN.{length, length-append}
 use borrow.Author.Tests.{ltb-false}
 use Rattle.characters.specs.Text.{Char, bytes}
@@ -13,8 +13,9 @@ use Rattle.edits.specs.Op.{Op, retain, insert, delete, takes, base}
 use Rattle.edits.specs.Sequence.{Seq}
 use Rattle.record.specs.Record.{inBytes, inserted, text, fits}
 use Rattle.record.proofs.Sequences.{fits-limits}
-use Rattle.json_lists.specs.Written.{decimalIn, decimal, hexDigit, escaped, escapedAll, value, others, written}
+use Rattle.json_lists.specs.Written.{decimalIn, decimal, escapedAll, value, others, written}
 use Rattle.json_lists.proofs.Strings.{cond-elim}
+use Rattle.json_lists.proofs.Lengths.{escapedAll-length, extraBytes-most}
 
 -- ---- what is written
 
@@ -31,22 +32,13 @@ digits-few (suc k) (suc f) n h =
     let ih = digits-few k f (n / 10) (let e = pow-suc 10 (suc k) in omega arith) in
     cond-few (suc (suc k)) (ltb n 10) ((0x30 + n) ∷ []) (decimalIn f (n / 10) ++ ((0x30 + n % 10) ∷ [])) (λ _. omega arith) (λ _. simp length-append (omega arith))
 
-escaped-length : (b : ℕ) → length (escaped b) ≤ 6
-unfolding escaped
-escaped-length b =
-    let h = hexDigit (b / 16) in
-    let l = hexDigit (b % 16) in
-    cond-few 6 (eqb b 0x22 || eqb b 0x5C) (0x5C ∷ b ∷ []) (cond (ltb b 0x20) (0x5C ∷ 0x75 ∷ 0x30 ∷ 0x30 ∷ h ∷ l ∷ []) (b ∷ [])) (λ _. omega arith)
-    (λ _. cond-few 6 (ltb b 0x20) (0x5C ∷ 0x75 ∷ 0x30 ∷ 0x30 ∷ h ∷ l ∷ []) (b ∷ []) (λ _. omega arith) (λ _. omega arith))
-
-escapedAll-length : (u : List ℕ) → length (escapedAll u) ≤ 6 * length u
-escapedAll-length [] = omega arith
-escapedAll-length (b ∷ u) = simp length-append (omega (arith, escaped-length b, escapedAll-length u))
+escapedAll-most : (u : List ℕ) → length (escapedAll u) ≤ 6 * length u
+escapedAll-most u = omega (arith, escapedAll-length u, extraBytes-most u)
 
 value-length : (o : Op Char) → takes o < 100000 → length (value o) ≤ 6 + 6 * length (inserted (inBytes o))
 unfolding value decimal inBytes
 value-length (retain n) h = omega (arith, digits-few 4 (suc n) n h)
-value-length (insert s) h = simp length-append (omega (arith, escapedAll-length (bytes s)))
+value-length (insert s) h = simp length-append (omega (arith, escapedAll-most (bytes s)))
 value-length (delete n) h = omega (arith, digits-few 4 (suc n) n h)
 
 others-length : (s : Seq) → base s < 100000 → length (others s) ≤ 1 + 7 * length s + 6 * length (text (map inBytes s))

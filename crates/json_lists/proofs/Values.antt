@@ -77,7 +77,8 @@ unfolding decimalIn
 reads-decimal zero n p s b l h = absurd (omega arith)
 reads-decimal (suc f) n p s b l h = go (ltb n 10) refl (λ k. reads-decimal f (n / 10) p s b (omega arith) (omega arith))
   where
-    go : (t : Bool) → ltb n 10 ≡ t → (10 ≤ n → Reads p (decimalIn f (n / 10)) (inNumber s (n / 10)) []) → Reads p (cond t ((0x30 + n) ∷ []) (decimalIn f (n / 10) ++ ((0x30 + n % 10) ∷ []))) (inNumber s n) []
+    go : (t : Bool) → ltb n 10 ≡ t → (10 ≤ n → Reads p (decimalIn f (n / 10)) (inNumber s (n / 10)) [])
+        → Reads p (cond t ((0x30 + n) ∷ []) (decimalIn f (n / 10) ++ ((0x30 + n % 10) ∷ []))) (inNumber s n) []
     go true e ih = b .digit n l (ltb-true n 10 e)
     go false e ih =
         let z : n / 10 * 10 + n % 10 ≡ n = omega arith in
