@@ -42,7 +42,7 @@ module _ (b : ℕ) where
 
   pub low-digit1-9 : isDigit1-9 b ≡ true → b < 0x80
   unfolding isDigit1-9
-  low-digit1-9 = low-test (λ h. over 0x31 0x39 b (omega arith))
+  low-digit1-9 = low-test (λ h. over _ _ b (omega arith))
 
   pub low-digit : isDigit b ≡ true → b < 0x80
   unfolding isDigit

@@ -140,7 +140,7 @@ module _ (b : ℕ) (h : T (isDigit1-9 b)) where
   unlike : Unlike b
   unfolding isDigit1-9 isSpace
   unlike =
-      let (l, k) = within-bounds 0x31 0x39 b h in
+      let (l, k) = within-bounds _ _ b h in
       record {
         space = rw (ne-eqb b 0x20 (λ e. omega arith), ne-eqb b 0x09 (λ e. omega arith), ne-eqb b 0x0A (λ e. omega arith), ne-eqb b 0x0D (λ e. omega arith));
         quote = ne-eqb b 0x22 (λ e. omega arith);

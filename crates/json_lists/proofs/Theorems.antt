@@ -6,10 +6,12 @@ use mathlib.Core.Logic.{_↔_}
 use mathlib.Core.Bool.{Bool, true, false, cond}
 use mathlib.Core.List.{List, [], _∷_, map}
 use mathlib.Core.Option.{Option, none, some}
-use lib.Dec.{T, leb}
+use lib.Dec.{T, leb, le→leb}
 use lib.ListN.{length, take, drop}
 use lib.Seq.{length-take-le}
 use Rattle.characters.specs.Form.{wellFormed}
+use Rattle.characters.proofs.Leads.{within-bounds}
+use Rattle.characters.proofs.Chars.{all-append}
 use Rattle.buffers.specs.Lists.{allOf}
 use Rattle.buffers.proofs.Tests.{both, holds, known}
 use Rattle.answers.specs.Answer.{success, refused, succeeds, needs, orElse, unlessRefused}
@@ -28,8 +30,9 @@ use Rattle.edits.proofs.Building.{build-built}
 use Rattle.edits.proofs.Unique.{build-again}
 use Rattle.operational_transform.proofs.Results.{Result}
 use Rattle.answers.proofs.Outputs.{wrote, atFront-take, writing-goes}
-use Rattle.json_lists.specs.Form.{Item, atStart, isEnd, reached, items, inForm, read}
+use Rattle.json_lists.specs.Form.{Sign, Item, number, string, isDigit1-9, digitValue, atStart, isEnd, reached, items, inForm, read}
 use Rattle.json_lists.specs.Grammar.{JsonText}
+use Rattle.json_lists.specs.Grammar as grammar
 use Rattle.json_lists.specs.Written.{written}
 use Rattle.json_lists.specs.Calls.{opOf, opsOf, made, fromJsonCall, toJsonCall}
 use Rattle.json_lists.proofs.Reading.{tight}
@@ -58,6 +61,40 @@ reads-grammar list l = (
         let (w, k) = both (wellFormed list) (isEnd (reached atStart list)) .0 (known h) in
         (w, rw z at (text-found list k))
     there false h e = absurd (let z : _≡_ {A = ℕ} 0 1 = cc e in omega arith)
+
+-- the item is no number 0
+abbrev pub nonZero : Item → Bool
+nonZero (number s n) = leb 1 n
+nonZero (string t) = true
+
+int-positive : {t : List ℕ} {n : ℕ} → grammar.Int t n → 1 ≤ n
+unfolding isDigit1-9 digitValue
+int-positive (grammar.Int.first {b = b} h) = omega (arith, within-bounds _ _ b h)
+int-positive (grammar.Int.more i b h) = omega (arith, int-positive i)
+
+number-positive : {t : List ℕ} {s : Sign} {n : ℕ} → grammar.Number t s n → T (leb 1 n)
+number-positive (grammar.Number.positive {n = n} i) = le→leb 1 n (int-positive i)
+number-positive (grammar.Number.negative {n = n} i) = le→leb 1 n (int-positive i)
+
+value-positive : {t : List ℕ} {x : Item} → grammar.Value t x → T (allOf nonZero (x ∷ []))
+value-positive (grammar.Value.of-number {n = n} k) = both (leb 1 n) true .1 (number-positive k, tt)
+value-positive (grammar.Value.of-string k) = tt
+
+values-positive : {t : List ℕ} {l : List Item} → grammar.Values t l → T (allOf nonZero l)
+values-positive (grammar.Values.one v) = value-positive v
+values-positive (grammar.Values.more {l = l} {x = x} k c v) =
+    rw (all-append nonZero l (x ∷ [])) (both (allOf nonZero l) (allOf nonZero (x ∷ [])) .1 (values-positive k, value-positive v))
+
+-- "11 .. for .. a 0 or -0": no number of a list that is read is 0
+pub no-zero : (list : List ℕ) (l : List Item) → read list ≡ some l → T (allOf nonZero l)
+no-zero list l e = text (reads-grammar list l .0 e .1)
+  where
+    array : {t : List ℕ} {l : List Item} → grammar.Array t l → T (allOf nonZero l)
+    array (grammar.Array.empty a z) = tt
+    array (grammar.Array.full a k z) = values-positive k
+
+    text : {t : List ℕ} {l : List Item} → JsonText t l → T (allOf nonZero l)
+    text (grammar.JsonText.json-text w a v) = array a
 
 -- ---- on sequences
 

@@ -44,7 +44,7 @@ module _ (d : ℕ) (h : d < 10) where
 
   first-digit : 1 ≤ d → T (isDigit1-9 (0x30 + d))
   unfolding isDigit1-9
-  first-digit l = known (leads.inside 0x31 0x39 (0x30 + d) (omega arith) (omega arith))
+  first-digit l = known (leads.inside _ _ (0x30 + d) (omega arith) (omega arith))
 
   digit-is : isDigit (0x30 + d) ≡ true
   unfolding isDigit
