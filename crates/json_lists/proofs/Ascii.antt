@@ -1,4 +1,4 @@
--- Bytes below 80: each is a character by itself, and only these pass the tests of the form.
+-- Bytes below 80: each is a character by itself, and white space, digits and the letters of escapes are such bytes.
 use Prim.Native.Nat.{ℕ, _≤_, _<_}
 use native.Mathlib.Omega.{arith}
 use mathlib.Core.Path.{_≡_, sym, ap, _∙_}
@@ -18,14 +18,14 @@ module _ (b : ℕ) where
   unfolding rows
   lead-ascii h = sym (lead-row 0 0x00 0x7F tt (omega arith) (omega arith))
 
-  -- what follows it decides
+  -- a text that begins with such a byte is as well-formed as the rest of it
   pub ascii-on : (bs : List ℕ) → b < 0x80 → wellFormed (b ∷ bs) ≡ wellFormed bs
   ascii-on bs h = ap (wellFormedFrom bs) (lead-ascii h)
 
   pub ascii-well : b < 0x80 → T (wellFormed (b ∷ []))
   ascii-well h = known (ascii-on [] h)
 
-  -- ---- tests that only ASCII passes
+  -- ---- tests that only bytes below 80 pass
 
   pub low-eq : (k : ℕ) → k < 0x80 → eqb b k ≡ true → b < 0x80
   low-eq k h e = let z = eqb-true b k e in omega arith

@@ -32,30 +32,30 @@ use Rattle.json_lists.proofs.Theorems.{from-read, ops-built, nine}
 
 -- ---- the builders, one after another
 
--- the builder that takes one item: its call on the record so far, which writes to the buffer `room`
+-- The builder that takes one item is called on the record so far, and writes to the buffer `room`.
 unfoldable pub itemCall : List ℕ → Item → List ℕ → Out
 unfolding retainCall deleteCall insertCall
 itemCall rec (number plus n) room = retainCall rec n room
 itemCall rec (number minus n) room = deleteCall rec n room
 itemCall rec (string t) room = insertCall rec t room
 
--- how a run of builders ends: with the record that they have made, or with the number of the first one that refuses
+-- A run of builders ends with the record that they have made, or with the number of the first one that refuses.
 pub data Ending : Type 0 where
   finished : List ℕ → Ending
   stopped : ℕ → Ending
 
--- a call's answer decides whether the run goes on
+-- A call's answer decides whether the run goes on.
 abbrev pub goesOn : Answer → Ending → Ending
 goesOn (success ns) later = later
 goesOn (refused n) later = stopped n
 
--- the builders take the items one after another, and each takes the record that the one before it has written
+-- The builders take the items one after another, and each takes the record that the one before it has written.
 unfoldable pub runFrom : List ℕ → List Item → List ℕ → Ending
 unfolding itemCall
 runFrom rec [] room = finished rec
 runFrom rec (x ∷ l) room = let o = itemCall rec x room in goesOn (o .answer) (runFrom (given o) l room)
 
--- they begin with the record of the empty sequence
+-- The first one takes the record of the empty sequence.
 unfoldable pub run : List Item → List ℕ → Ending
 unfolding runFrom encode
 run l room = runFrom (encode []) l room
@@ -141,7 +141,8 @@ run-ends k (x ∷ l) room f w h =
 
 -- ---- a list and its builders
 
--- what a list gives, by how the run of its builders ends
+-- What a list gives agrees with how a run of its builders ends: with the record where they finish, with 9 where one of them refuses,
+-- which can only be by 9.
 abbrev pub Agrees : Ending → Out → List ℕ → Type 0
 Agrees (finished rec) o out = o ≡ writing 0 rec out
 Agrees (stopped n) o out = (n ≡ 9) × (o ≡ record { answer = refused 9; out = out })
@@ -151,7 +152,7 @@ module _ (list : List ℕ) (l : List Item) (room : List ℕ) (e : read list ≡ 
   unfolding run opsOf fits
   ends-so = run-ends [] l room tt (strings-well list l e) h
 
-  -- where the builders make a record, the list gives that record; where one of them refuses, its number is 9 and the list's is 9
+  -- A list that is read gives what its builders give, one after another.
   pub by-builders : (out : List ℕ) → Agrees (run l room) (fromJsonCall list out) out
   by-builders out = rw ends-so (go (fits (opsOf l)) refl)
     where
@@ -159,7 +160,7 @@ module _ (list : List ℕ) (l : List Item) (room : List ℕ) (e : read list ≡ 
       go true p = from-read list out e ∙ delivers (opsOf l) out (known p)
       go false p = (refl, nine list out l e p)
 
--- no answer of a record within the limits is 9
+-- where a record only has to be written, no answer is 9
 not-nine : (rec out : List ℕ) → writing 0 rec out .answer ≡ refused 9 → ⊥
 unfolding writing
 not-nine rec out e = go (leb (length rec) (length out)) e
@@ -171,13 +172,13 @@ not-nine rec out e = go (leb (length rec) (length out)) e
     go true e = let z : _≡_ {A = ℕ} 0 1 = cc e in omega arith
     go false e = let z : _≡_ {A = ℕ} 10 9 = cc e in omega arith
 
--- a list is read, and one of its builders refuses by 9
+-- A list is read, and one of its builders refuses by 9.
 pub record StopsAtNine (list room : List ℕ) : Type 0 where
   pub its-items : List Item
   pub reads : read list ≡ some its-items
   pub stops : run its-items room ≡ stopped 9
 
--- 9 for the list is 9 for one of its builders
+-- Where a list is refused by 9, one of its builders refuses by 9.
 pub nine-for-one : (list room out : List ℕ) → maxRecord ≤ length room → fromJsonCall list out .answer ≡ refused 9 → StopsAtNine list room
 unfolding writing
 nine-for-one list room out h e = go (read list) refl

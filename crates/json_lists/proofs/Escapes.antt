@@ -18,7 +18,7 @@ use Rattle.json_lists.specs.Written.{hexDigit, escaped}
 
 -- ---- what is written as it is
 
--- a byte that passes none of the three tests
+-- A byte that passes none of the three tests is written as it is.
 pub escaped-raw : (b : ℕ) → eqb b 0x22 ≡ false → eqb b 0x5C ≡ false → ltb b 0x20 ≡ false → escaped b ≡ b ∷ []
 unfolding escaped
 escaped-raw b e f g = rw (e, f, g)
@@ -51,15 +51,16 @@ backslash-escaped = refl
 
 -- ---- codes below 20
 
--- 0 to 9, or a to f
+-- the digit is one of 0 to 9 or a to f
 abbrev pub isSmallHex : ℕ → Bool
 isSmallHex d = within 0x30 0x39 d || within 0x61 0x66 d
 
+-- A written hexadecimal digit is small.
 pub small-hex : (n : ℕ) → n < 16 → T (isSmallHex (hexDigit n))
 unfolding hexDigit within
 small-hex n h = known (each-at (λ n. isSmallHex (hexDigit n)) 0 16 n refl (omega arith) (omega arith))
 
--- the code reads it as what it stands for
+-- It is read as the value that it was written for.
 pub hex-digit : (n : ℕ) → n < 16 → (isHex (hexDigit n) ≡ true) × (hexValue (hexDigit n) ≡ n)
 unfolding hexDigit hexValue isHex
 hex-digit n h = (
@@ -67,7 +68,7 @@ hex-digit n h = (
   eqb-true (hexValue (hexDigit n)) n (each-at (λ n. eqb (hexValue (hexDigit n)) n) 0 16 n refl (omega arith) (omega arith)),
 )
 
--- a code is written by `\u00` and two small hexadecimal digits, which have its value
+-- A code is written by `\u00` and two small hexadecimal digits, which have its value.
 pub record ByNumber (b : ℕ) : Type 0 where
   pub first : ℕ
   pub second : ℕ
@@ -76,7 +77,7 @@ pub record ByNumber (b : ℕ) : Type 0 where
   pub second-small : T (isSmallHex second)
   pub value : Hex4 (0x30 ∷ 0x30 ∷ first ∷ second ∷ []) b
 
--- So is every code below 20 hexadecimal.
+-- Every code below 20 hexadecimal is written so.
 pub control-escaped : (b : ℕ) → b < 0x20 → ByNumber b
 unfolding escaped isHex hexValue
 control-escaped b h =

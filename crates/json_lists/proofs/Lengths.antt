@@ -14,7 +14,7 @@ use Rattle.json_lists.specs.Written.{hexDigit, escaped, escapedAll}
 use Rattle.json_lists.specs.InnerRuns.{extraBytes}
 use Rattle.json_lists.proofs.Escapes.{only-raw}
 
--- how many bytes one byte grows by
+-- how many bytes one byte grows by where it is written
 abbrev extra : ℕ → ℕ
 extra b = cond (ltb b 0x20) 5 (cond (eqb b 0x22 || eqb b 0x5C) 1 0)
 
@@ -47,6 +47,7 @@ extra-most b = go (ltb b 0x20) (eqb b 0x22 || eqb b 0x5C)
     go false true = omega arith
     go false false = omega arith
 
+-- A text grows by at most five bytes for each of its own.
 pub extraBytes-most : (u : List ℕ) → extraBytes u ≤ 5 * length u
 unfolding extraBytes
 extraBytes-most [] = omega arith
@@ -57,6 +58,7 @@ pub escapedAll-append : (u v : List ℕ) → escapedAll (u ++ v) ≡ escapedAll 
 escapedAll-append [] v = refl
 escapedAll-append (b ∷ u) v = rw (escapedAll-append u v, append-assoc)
 
+-- Two texts, one behind the other, grow by what each grows by.
 pub extraBytes-append : (u v : List ℕ) → extraBytes (u ++ v) ≡ extraBytes u + extraBytes v
 unfolding extraBytes
 extraBytes-append [] v = omega arith
@@ -67,5 +69,6 @@ pub plain-extra : (u : List ℕ) → T (allOf isRaw u) → escapedAll u ≡ u
 plain-extra [] h = refl
 plain-extra (b ∷ u) h = let (r, k) = both (isRaw b) (allOf isRaw u) .0 h in ap₂ _++_ (only-raw b .1 r) (plain-extra u k)
 
+-- Such a text grows by no byte.
 pub plain-none : (u : List ℕ) → T (allOf isRaw u) → extraBytes u ≡ 0
 plain-none u h = omega (arith, escapedAll-length u, ap length (plain-extra u h))

@@ -28,6 +28,7 @@ unfolding opsOf build
 fits-first l m h =
     fits-early (addAll [] (map opOf l)) (map opOf m) (rw (map-append opOf l m, addAll-append [] (map opOf l) (map opOf m)) at h)
 
+-- where its first items pass a limit, the whole list does
 pub passes-early : (l m : List Item) → fits (opsOf l) ≡ false → fits (opsOf (l ++ m)) ≡ false
 passes-early l m e = go (fits (opsOf (l ++ m))) refl
   where
@@ -58,12 +59,14 @@ passes-by-number l m s n h = go (fits (opsOf (l ++ (number s n ∷ m)))) refl
         absurd (omega (arith, at-least s))
     go false e = refl
 
--- numbers may be cut off at 32,769 while they are read
+-- ---- numbers may be cut off at 32,769 while they are read
+
+-- an item whose number is cut off
 abbrev pub capped : Item → Item
 capped (number s n) = number s (min n 32769)
 capped (string t) = string t
 
--- such a number in a list
+-- a number over the limit stands in a list
 record Over (l : List Item) : Type 0 where
   before : List Item
   sign : Sign
@@ -85,15 +88,17 @@ over-or-same (number s n ∷ l) =
 
 -- ---- what is delivered
 
--- a sequence that keeps the limits
+-- a sequence that keeps the limits is written as a record
 pub delivers : (s : Seq) (out : List ℕ) → T (fits s) → deliver 0 s out ≡ writing 0 (encode s) out
 unfolding deliver
 delivers s out f = ap (λ t. writing (needs t 9 0) (encode s) out) (holds (fits s) f)
 
+-- one that passes a limit is refused by 9
 pub deliver-over : (s : Seq) (out : List ℕ) → fits s ≡ false → deliver 0 s out ≡ record { answer = refused 9; out = out }
 unfolding deliver
 deliver-over s out e = ap (λ t. writing (needs t 9 0) (encode s) out) e
 
+-- the same is delivered where numbers are cut off
 pub capped-deliver : (l : List Item) (out : List ℕ) → deliver 0 (opsOf (map capped l)) out ≡ deliver 0 (opsOf l) out
 capped-deliver l out =
     ⊎-elim (λ e. ap (λ r. deliver 0 (opsOf r) out) e)
@@ -104,5 +109,6 @@ capped-deliver l out =
     ∙ sym (deliver-over (opsOf l) out (ap (λ r. fits (opsOf r)) (o .is) ∙ passes-by-number (o .before) (o .behind) (o .sign) (o .value) k)))
     (over-or-same l)
 
+-- one digit more of a number that is cut off
 pub capped-digit : (n d : ℕ) → min (n * 10 + d) 32769 ≡ min (min n 32769 * 10 + d) 32769
 capped-digit n d = omega arith

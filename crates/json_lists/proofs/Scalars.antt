@@ -22,7 +22,7 @@ use Rattle.json_lists.specs.InnerRuns.{width}
 
 -- ---- which numbers are scalar values
 
--- a number of four hexadecimal digits that is no surrogate
+-- a number of four hexadecimal digits that is no surrogate is a scalar value
 pub named-scalar : (v : ℕ) → v < 0x10000 → isHigh v ≡ false → isLow v ≡ false → T (isScalar v)
 unfolding isHigh isLow
 named-scalar v h x y =
@@ -47,7 +47,7 @@ paired-scalar high low h l =
 
 -- ---- their bytes
 
--- one character is a text
+-- a scalar value's bytes are well-formed text
 pub encode-text : (v : ℕ) → T (isScalar v) → T (wellFormed (encodeScalar v))
 encode-text v s =
     let c = encodeScalar v in
@@ -61,9 +61,11 @@ pub one-char : (c : List ℕ) → isChar c ≡ true → numChars c ≡ 1
 one-char [] e = absurd (true≢false (sym e))
 one-char (b ∷ bs) e = let (x, y) = split (not (isCont b)) (allOf isCont bs) e in rw (not-true (isCont b) x, conts-none bs y)
 
+-- they are one character
 pub encode-chars : (v : ℕ) → T (isScalar v) → numChars (encodeScalar v) ≡ 1
 encode-chars v s = let c = encodeScalar v in one-char c (well-is-char c (holds (wellChar c) (encode-well v s)))
 
+-- there are one to four of them
 pub encode-length : (v : ℕ) → length (encodeScalar v) ≡ width v
 unfolding width
 encode-length v =

@@ -1,4 +1,4 @@
--- How long what is read and written is.
+-- How long a written list is.
 use Prim.Native.Nat.{ℕ, zero, suc, _+_, _*_, _/_, _%_, _^_, _<_, _≤_}
 use native.Mathlib.Nat.{pow-suc}
 use native.Mathlib.Omega.{arith}
@@ -17,8 +17,6 @@ use Rattle.json_lists.specs.Written.{decimalIn, decimal, escapedAll, val
 use Rattle.json_lists.proofs.Strings.{cond-elim}
 use Rattle.json_lists.proofs.Lengths.{escapedAll-length, extraBytes-most}
 
--- ---- what is written
-
 cond-few : (k : ℕ) (t : Bool) (x y : List ℕ) → (t ≡ true → length x ≤ k) → (t ≡ false → length y ≤ k) → length (cond t x y) ≤ k
 cond-few k t x y f g = cond-elim (λ (l : List ℕ). length l ≤ k) t f g
 
@@ -32,6 +30,7 @@ digits-few (suc k) (suc f) n h =
     let ih = digits-few k f (n / 10) (let e = pow-suc 10 (suc k) in omega arith) in
     cond-few (suc (suc k)) (ltb n 10) ((0x30 + n) ∷ []) (decimalIn f (n / 10) ++ ((0x30 + n % 10) ∷ [])) (λ _. omega arith) (λ _. simp length-append (omega arith))
 
+-- a written text has at most six bytes for each of its own
 escapedAll-most : (u : List ℕ) → length (escapedAll u) ≤ 6 * length u
 escapedAll-most u = omega (arith, escapedAll-length u, extraBytes-most u)
 
@@ -51,6 +50,6 @@ unfolding written
 written-length [] h = omega arith
 written-length (o ∷ s) h = simp length-append (omega (arith, value-length o (omega arith), others-length s (omega arith)))
 
--- the longest list of a record
+-- a record's list has at most 203,778 bytes
 pub written-small : (s : Seq) → T (fits s) → length (written s) ≤ 203778
 written-small s f = let l = fits-limits s .0 f in omega (arith, written-length s (omega (arith, l .bases)), l .ops, l .text-bytes)

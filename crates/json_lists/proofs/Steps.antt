@@ -43,26 +43,31 @@ fails-then f g = ap₂ (λ w r. w && isEnd r) (f .well) (f .to) ∙ g
 
 -- ---- where no list of the form goes on
 
--- a place that is reached and is not the end
+-- all bytes are read, and the list has not ended
 off-end : (p : Place) (bs : List ℕ) → isEnd (reached p bs) ≡ false → Fails p bs
 off-end p bs e = rw e (and-false (wellFormed bs))
 
+-- bytes outside the form stay outside
 pub outside-fails : (bs : List ℕ) → Fails outside bs
 outside-fails bs = off-end outside bs (ap isEnd (outside-stays bs))
 
+-- the bytes end before the list does
 pub ended-fails : (p : Place) → isEnd p ≡ false → Fails p []
 unfolding reached
 ended-fails p e = off-end p [] e
 
+-- what is left is no UTF-8
 pub ill-fails : (p : Place) (bs : List ℕ) → wellFormed bs ≡ false → Fails p bs
 ill-fails p bs e = ap (λ w. w && isEnd (reached p bs)) e
 
+-- the next byte leads outside the form
 pub next-outside-fails : (p : Place) (b : ℕ) (bs : List ℕ) → next p b ≡ outside → Fails p (b ∷ bs)
 unfolding reached
 next-outside-fails p b bs e = off-end p (b ∷ bs) (ap isEnd (ap (λ q. reached q bs) e ∙ outside-stays bs))
 
 -- ---- one byte
 
+-- the bytes from a position on are the byte there and those from the next position on
 pub at-byte : (t : List ℕ) (at : ℕ) → at < length t → drop at t ≡ getD t at 0 ∷ drop (at + 1) t
 at-byte t at h = drop-cons t at 0 h ∙ rw add-one
 
@@ -81,13 +86,14 @@ module _ (list : List ℕ) (p : Place) (i : ℕ) (h : i < length list) where
       ap (items p) one-more ∙ items-append p (take i list) (getD list i 0 ∷ [])
       ∙ ap (λ l. items p (take i list) ++ l) (append-nil (ends (reached p (take i list)) (getD list i 0)))
 
+-- a byte below 80 at which no item ends
 pub byte : {p q : Place} {b : ℕ} (bs : List ℕ) → b < 0x80 → next p b ≡ q → ends p b ≡ [] → Onward p (b ∷ bs) q bs
 unfolding reached items
 byte {b = b} bs l n m = record { to = ap (λ x. reached x bs) n; has = ap₂ (λ l x. l ++ items x bs) m n; well = ascii-on b bs l }
 
 -- ---- white space
 
--- between values white space changes nothing
+-- a place between values, where white space changes nothing
 abbrev pub between : Place → Bool
 between atStart = true
 between afterBracket = true
@@ -119,6 +125,7 @@ space-stays afterValue b h e = (rw e, refl)
 space-stays atEnd b h e = (rw e, refl)
 space-stays outside b h e = (refl, refl)
 
+-- a run of white space
 pub spaces : (p : Place) (xs bs : List ℕ) → T (between p) → T (allOf isSpace xs) → Onward p (xs ++ bs) p bs
 spaces p [] bs h s = onward-none p bs
 spaces p (b ∷ xs) bs h s =
@@ -166,6 +173,7 @@ pub next-digit : (s : Sign) (n b : ℕ) → isDigit b ≡ true
 unfolding next ends
 next-digit s n b e = (rw e, rw e)
 
+-- a run of digits
 pub digits : (s : Sign) (n : ℕ) (xs bs : List ℕ) → T (allOf isDigit xs) → Onward (inNumber s n) (xs ++ bs) (inNumber s (valueFrom n xs)) bs
 digits s n [] bs h = onward-none (inNumber s n) bs
 digits s n (b ∷ xs) bs h =
@@ -204,10 +212,11 @@ raws-items t (b ∷ xs) bs h =
     let (n, m) = next-raw t b r in
     ap₂ (λ l x. l ++ items x (xs ++ bs)) m n ∙ raws-items (t ++ (b ∷ [])) xs bs k ∙ rw append-assoc
 
--- whole characters that need no escape
+-- whole characters that need no escape are added to the string as they are
 pub raws : (t xs bs : List ℕ) → T (allOf isRaw xs) → T (wellFormed xs) → Onward (inString t) (xs ++ bs) (inString (t ++ xs)) bs
 raws t xs bs h w = record { to = raws-place t xs bs h; has = raws-items t xs bs h; well = well-append xs bs (holds (wellFormed xs) w) }
 
+-- a string ends at its quotation mark
 pub string-ends : (t bs : List ℕ) → Passes (string t) (inString t) (0x22 ∷ bs) afterValue bs
 unfolding reached items
 string-ends t bs = record { to = refl; has = refl; well = ascii-on 0x22 bs (omega arith) }
@@ -222,7 +231,7 @@ pub hex-step : (high : Option ℕ) (due v : ℕ) (t : List ℕ) (b : ℕ) (bs : 
 unfolding ends
 hex-step high due v t b bs h = let e = holds (isHex b) h in byte {b = b} bs (low-hex b e) (next-hex high due v t b e) refl
 
--- four hexadecimal digits
+-- the four hexadecimal digits of an escape
 pub four-digits : (high : Option ℕ) (t : List ℕ) (a b c d : ℕ) (bs : List ℕ) → T (allOf isHex (a ∷ b ∷ c ∷ d ∷ []))
     → Onward (inUnicode high 3 0 t) (a ∷ b ∷ c ∷ d ∷ bs) (named high (((hexValue a * 16 + hexValue b) * 16 + hexValue c) * 16 + hexValue d) t) bs
 four-digits high t a b c d bs h =

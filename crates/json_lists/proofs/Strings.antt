@@ -59,12 +59,13 @@ Sound afterValue x = Clear x
 Sound atEnd x = Clear x
 Sound outside x = Unit {0}
 
--- ---- tests that only ASCII passes
+-- ---- by cases
 
 pub cond-elim : {A : Type 0} (P : A → Type 0) (t : Bool) {x y : A} → (t ≡ true → P x) → (t ≡ false → P y) → P (cond t x y)
 cond-elim P true f g = f refl
 cond-elim P false f g = g refl
 
+-- two texts that are well-formed are so one behind the other
 join-well : (s t : List ℕ) → T (wellFormed s) → T (wellFormed t) → T (wellFormed (s ++ t))
 join-well s t h k = known (well-append s t (holds (wellFormed s) h) ∙ holds (wellFormed t) k)
 
@@ -73,6 +74,7 @@ implied true b e h = e
 implied false b e h = absurd (false≢true h)
 
 module _ (b : ℕ) where
+  -- a hexadecimal digit is below 16
   pub hex-value : isHex b ≡ true → hexValue b < 16
   unfolding isHex hexValue
   hex-value e =
