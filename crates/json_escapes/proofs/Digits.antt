@@ -10,9 +10,9 @@ use lib.Dec.{T, ltb}
 use lib.ListN.{length, drop, getD, drop-of-length-le}
 use borrow.Author.Tests.{lt-ltb, le-ltb}
 use Rattle.buffers.proofs.Tests.{known}
-use Rattle.characters.specs.Form.{within}
+use Rattle.characters.specs.Form.{within, wellFormed}
 use Rattle.characters.proofs.Leads.{inside, under, over}
-use Rattle.json_lists.specs.Form.{isHex, hexValue, Place, inUnicode, outside, counted, next, isEnd}
+use Rattle.json_lists.specs.Form.{isHex, hexValue, Place, inUnicode, outside, counted, next, reached, items}
 use Rattle.json_lists.specs.InnerRuns.{Onward, Fails}
 use Rattle.json_lists.proofs.Strings.{hex-value}
 use Rattle.json_lists.proofs.Steps.{onward-none, onward-then, fails-then, ended-fails, next-outside-fails, at-byte, hex-step}
@@ -84,6 +84,7 @@ few-below (suc (suc (suc (suc (suc k))))) h = absurd (omega arith)
 pub record SomeDigits (t : List ℕ) (at k v : ℕ) : Type 0 where
   pub few : k ≤ 4
   pub small : v < below k
+  pub fits : v < 0x10000
   pub there : at + k ≤ length t
   pub onward : (high : Option ℕ) (s : List ℕ) → Onward (inUnicode high 3 0 s) (drop at t) (counted high (4 - k) v s) (drop (at + k) t)
 
@@ -95,13 +96,13 @@ module _ (t : List ℕ) (at : ℕ) where
   pub no-digits : at ≤ length t → SomeDigits t at 0 0
   no-digits h =
       let z : at + 0 ≡ at = omega arith in
-      record { few = omega arith; small = omega arith; there = omega arith; onward = λ high s. rw z (onward-none (inUnicode high 3 0 s) (drop at t)) }
+      record { few = omega arith; small = omega arith; fits = omega arith; there = omega arith; onward = λ high s. rw z (onward-none (inUnicode high 3 0 s) (drop at t)) }
 
   pub all-digits : (v : ℕ) {k : ℕ} → SomeDigits t at k v → 4 ≤ k → Hex4At t at v
   all-digits v {k} d h =
       let l = d .few in
       let z : k ≡ 4 = omega arith in
-      let m : v < 0x10000 = omega (arith, d .small, few-below k l) in
+      let m = d .fits in
       record {
         few = omega arith;
         there = λ _. omega (arith, d .there);
@@ -110,9 +111,6 @@ module _ (t : List ℕ) (at : ℕ) where
       }
 
   module _ (k v : ℕ) (d : SomeDigits t at k v) (h : k < 4) where
-    pub value-small : v < 0x10000
-    value-small = omega (arith, d .small, few-below k (d .few))
-
     -- the place behind them
     due : (high : Option ℕ) (s : List ℕ) → counted high (4 - k) v s ≡ inUnicode high (3 - k) v s
     due high s = let z : 4 - k ≡ suc (3 - k) = omega arith in ap (λ n. counted high n v s) z
@@ -126,7 +124,9 @@ module _ (t : List ℕ) (at : ℕ) where
     }
 
     pub digits-end : length t - at ≤ k → Hex4At t at 0x10000
-    digits-end l = no-number (λ high s. rw (drop-of-length-le t (omega (arith, d .there))) (ended-fails (inUnicode high (3 - k) v s) refl))
+    digits-end l =
+        let m : length t ≤ at + k = omega arith in
+        no-number (λ high s. rw (drop-of-length-le t m) (ended-fails (inUnicode high (3 - k) v s) refl))
 
     module _ (l : k < length t - at) {x : ℕ} (e : x ≡ hexOrNone (getD t (at + k) 0)) where
       pub digits-bad : x ≡ 16 → Hex4At t at 0x10000
@@ -138,14 +138,21 @@ module _ (t : List ℕ) (at : ℕ) where
           let b = getD t (at + k) 0 in
           let (p, q) = a-digit b (λ z. f (e ∙ z)) in
           let u = hex-value b p in
-          let w : x ≡ hexValue b = e ∙ q in
+          let w₁ : hexValue b ≡ x = sym (e ∙ q) in
+          let step : (high : Option ℕ) (s : List ℕ) → Onward (inUnicode high (3 - k) v s) (b ∷ drop (at + k + 1) t) (counted high (3 - k) (v * 16 + hexValue b) s) (drop (at + k + 1) t) =
+          λ high s. hex-step high (3 - k) v s b (drop (at + k + 1) t) (known p) in
           let z : at + k + 1 ≡ at + (k + 1) = omega arith in
           let y : 3 - k ≡ 4 - (k + 1) = omega arith in
           record {
             few = omega arith;
             small = rw (add-one k) (omega (arith, d .small));
+            fits = let f = few-below (suc k) (omega arith) in omega (arith, d .small);
             there = omega arith;
             onward = λ high s.
                 onward-then (rw (due high s, at-byte t (at + k) (omega arith)) at (d .onward high s))
-                (rw (← w, z, y) at (hex-step high (3 - k) v s b (drop (at + k + 1) t) (known p)));
+                (record {
+                  to = step high s .to ∙ λ i. reached (counted high (y i) (v * 16 + w₁ i) s) (drop (z i) t);
+                  has = step high s .has ∙ λ i. items (counted high (y i) (v * 16 + w₁ i) s) (drop (z i) t);
+                  well = step high s .well ∙ λ i. wellFormed (drop (z i) t);
+                });
           }

@@ -1,3 +1,3 @@
 -- json_escapes
 pub mod Digits
-
+pub mod Escaping

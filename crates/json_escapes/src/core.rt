@@ -1,9 +1,8 @@
 // The escapes of a string, and whole strings, scanned. Each function gives what it found and the place behind it by value.
 ghost use mathlib.Core.Path.{_≡_};
 ghost use Prim.Native.Nat.{_+_, _≤_, _<_};
-ghost use lib.Dec.{T};
 ghost use lib.ListN.{length};
-ghost use Rattle.json_lists.specs.Form.{isHigh, isLow, afterEscape, afterHigh};
+ghost use Rattle.json_lists.specs.Form.{afterEscape, afterHigh};
 ghost use Rattle.json_lists.specs.InnerRuns.{width as widthOf};
 ghost use Rattle.json_escapes.specs.InnerEscapes.{hexOrNone, shortOrNone, Hex4At, afterU, EscapeAt};
 
@@ -54,24 +53,6 @@ fn four_digits(list: &[u8], at: usize) -> usize
     v
 }
 
-fn is_high(v: usize) -> bool
-    ensures { λ r. ⌜ r ≡ isHigh v ⌝ }
-{
-    if v < 0xD800 {
-        return false;
-    }
-    v <= 0xDBFF
-}
-
-fn is_low(v: usize) -> bool
-    ensures { λ r. ⌜ r ≡ isLow v ⌝ }
-{
-    if v < 0xDC00 {
-        return false;
-    }
-    v <= 0xDFFF
-}
-
 // The scalar value that an escape names, and the place behind it.
 pub struct Escaped {
     pub code: usize,
@@ -89,7 +70,7 @@ fn no_escape(at: usize) -> Escaped
 
 // The low surrogate that must stand at `at`, behind a high one; the pair is one scalar value.
 fn low_surrogate(list: &[u8], at: usize, high: usize) -> Escaped
-    requires { ⌜ (at ≤ length (now list)) × T (isHigh high) ⌝ }
+    requires { ⌜ (at ≤ length (now list)) × (0xD800 ≤ high) × (high ≤ 0xDBFF) ⌝ }
     ensures { λ r. ⌜ EscapeAt (afterHigh high) (now (list .entry)) at r ⌝ }
 {
     if list.len() - at < 2 {
@@ -102,7 +83,10 @@ fn low_surrogate(list: &[u8], at: usize, high: usize) -> Escaped
         return no_escape(at);
     }
     let low = four_digits(list, at + 2);
-    if !is_low(low) {
+    if low < 0xDC00 {
+        return no_escape(at);
+    }
+    if 0xDFFF < low {
         return no_escape(at);
     }
     Escaped {
@@ -120,10 +104,16 @@ fn by_number(list: &[u8], at: usize) -> Escaped
     if v == NO_NUMBER {
         return no_escape(at);
     }
-    if is_high(v) {
+    if v < 0xD800 {
+        return Escaped {
+            code: v,
+            to: at + 4,
+        };
+    }
+    if v <= 0xDBFF {
         return low_surrogate(list, at + 4, v);
     }
-    if is_low(v) {
+    if v <= 0xDFFF {
         return no_escape(at);
     }
     Escaped {

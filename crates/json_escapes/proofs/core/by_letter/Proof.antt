@@ -1,54 +1,37 @@
+use mathlib.Core.Path.{sym, ap}
+use Rattle.json_escapes.specs.InnerEscapes.{shortOrNone}
+use Rattle.json_escapes.proofs.Escaping.{letter-none}
 use Rattle.json_escapes.proofs.core.by_letter.Statement.{statement}
 use Rattle.json_escapes.proofs.core.by_letter.Tie as tie
-use Rattle.json_escapes.proofs.core.by_letter.Reads as reads
-use Rattle.json_escapes.proofs.core.by_letter.Lts as lts
 
--- src/core.rt:136:1
 returns : tie.Need-returns
-returns c = ?
+returns c = sym (ap shortOrNone (c .match .keys1))
 
--- src/core.rt:136:1
 returns-2 : tie.Need-returns-2
-returns-2 c = ?
+returns-2 c = sym (ap shortOrNone (c .match .keys2))
 
--- src/core.rt:136:1
 returns-3 : tie.Need-returns-3
-returns-3 c = ?
+returns-3 c = sym (ap shortOrNone (c .match .keys3))
 
--- src/core.rt:136:1
 returns-4 : tie.Need-returns-4
-returns-4 c = ?
+returns-4 c = sym (ap shortOrNone (c .match .keys4))
 
--- src/core.rt:136:1
 returns-5 : tie.Need-returns-5
-returns-5 c = ?
+returns-5 c = sym (ap shortOrNone (c .match .keys5))
 
--- src/core.rt:136:1
 returns-6 : tie.Need-returns-6
-returns-6 c = ?
+returns-6 c = sym (ap shortOrNone (c .match .keys6))
 
--- src/core.rt:136:1
 returns-7 : tie.Need-returns-7
-returns-7 c = ?
+returns-7 c = sym (ap shortOrNone (c .match .keys7))
 
--- src/core.rt:136:1
 returns-8 : tie.Need-returns-8
-returns-8 c = ?
+returns-8 c = sym (ap shortOrNone (c .match .keys8))
 
--- src/core.rt:136:1
 returns-9 : tie.Need-returns-9
-returns-9 c = ?
+returns-9 c =
+    let r = c .match .rest in
+    letter-none _ (r .0 .0 .0 .0 .0 .0 .0 .1) (r .0 .0 .0 .0 .0 .0 .1) (r .0 .0 .0 .0 .0 .1) (r .0 .0 .0 .0 .1) (r .0 .0 .0 .1) (r .0 .0 .1) (r .0 .1) (r .1)
 
 pub by-letter-spec : {M : Type 1} → statement M
-by-letter-spec =
-    tie.close
-    (tie.spec
-    returns
-    returns-2
-    returns-3
-    returns-4
-    returns-5
-    returns-6
-    returns-7
-    returns-8
-    returns-9)
+by-letter-spec = tie.close (tie.spec returns returns-2 returns-3 returns-4 returns-5 returns-6 returns-7 returns-8 returns-9)

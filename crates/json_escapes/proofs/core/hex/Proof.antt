@@ -1,56 +1,44 @@
+use native.Mathlib.Omega.{arith}
 use borrow.Author.Needs.{needs}
+use Rattle.json_escapes.proofs.Digits.{hex-digit, hex-upper, hex-lower, hex-under, hex-between, hex-behind, hex-over}
 use Rattle.json_escapes.proofs.core.hex.Statement.{statement}
 use Rattle.json_escapes.proofs.core.hex.Tie as tie
-use Rattle.json_escapes.proofs.core.hex.Reads as reads
-use Rattle.json_escapes.proofs.core.hex.Lts as lts
 
--- src/core.rt:29:24
 cast-result : tie.Need-cast-result
 cast-result c = search needs
 
--- src/core.rt:30:25
 sub-result : tie.Need-sub-result
 sub-result c = search needs
 
--- src/core.rt:30:24
 cast-result-2 : tie.Need-cast-result-2
 cast-result-2 c = search needs
 
--- src/core.rt:31:25
 sub-result-2 : tie.Need-sub-result-2
 sub-result-2 c = search needs
 
--- src/core.rt:31:24
 cast-result-3 : tie.Need-cast-result-3
 cast-result-3 c = search needs
 
--- src/core.rt:25:1
 returns : tie.Need-returns
-returns c = ?
+returns c = hex-digit _ (omega arith) (omega arith)
 
--- src/core.rt:25:1
 returns-2 : tie.Need-returns-2
-returns-2 c = ?
+returns-2 c = hex-upper _ (omega arith) (omega arith)
 
--- src/core.rt:25:1
 returns-3 : tie.Need-returns-3
-returns-3 c = ?
+returns-3 c = hex-lower _ (omega arith) (omega arith)
 
--- src/core.rt:25:1
 returns-4 : tie.Need-returns-4
-returns-4 c = ?
+returns-4 c = search (hex-under, hex-over)
 
--- src/core.rt:25:1
 returns-5 : tie.Need-returns-5
-returns-5 c = ?
+returns-5 c = hex-between _ (omega arith) (omega arith)
 
--- src/core.rt:25:1
 returns-6 : tie.Need-returns-6
-returns-6 c = ?
+returns-6 c = hex-behind _ (omega arith) (omega arith)
 
--- src/core.rt:25:1
 returns-7 : tie.Need-returns-7
-returns-7 c = ?
+returns-7 c = search (hex-under, hex-over)
 
 pub hex-spec : {M : Type 1} → statement M
 hex-spec =
