@@ -1,3 +1,4 @@
 -- json_escapes
 pub mod Digits
 pub mod Escaping
+pub mod Scanning

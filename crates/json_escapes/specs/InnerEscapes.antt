@@ -12,6 +12,8 @@ use Rattle.characters.specs.Scalar.{isScalar, encodeScalar}
 use Rattle.json_lists.specs.Form.{string, isHex, hexValue, Place, inString, inUnicode, afterValue, named}
 use Rattle.json_lists.specs.InnerRuns.{width, Onward, Passes, Fails}
 use Rattle.json_escapes.specs.declared.core.Escaped.{Escaped}
+use Rattle.json_escapes.specs.declared.core.Scanned.{Scanned}
+use Rattle.json_escapes.specs.declared.core.Scanned.the-variants.{Outside, Text}
 
 abbrev pub hexOrNone : ℕ → ℕ
 hexOrNone b = cond (isHex b) (hexValue b) 16
@@ -55,3 +57,7 @@ pub record StringAt (t : List ℕ) (at bytes chars to : ℕ) : Type 0 where
   pub above : at < to
   pub below : to ≤ length t
   pub passes : Passes (string text) (inString []) (drop at t) afterValue (drop to t)
+
+abbrev pub StringScanned : List ℕ → ℕ → Scanned → Type 0
+StringScanned t at Outside = Fails (inString []) (drop at t)
+StringScanned t at (Text bytes chars to) = StringAt t at bytes chars to

@@ -4,7 +4,7 @@ ghost use Prim.Native.Nat.{_+_, _≤_, _<_};
 ghost use lib.ListN.{length};
 ghost use Rattle.json_lists.specs.Form.{afterEscape, afterHigh};
 ghost use Rattle.json_lists.specs.InnerRuns.{width as widthOf};
-ghost use Rattle.json_escapes.specs.InnerEscapes.{hexOrNone, shortOrNone, Hex4At, afterU, EscapeAt};
+ghost use Rattle.json_escapes.specs.InnerEscapes.{hexOrNone, shortOrNone, Hex4At, afterU, EscapeAt, StringScanned};
 
 const QUOTATION_MARK: u8 = 0x22;
 
@@ -171,4 +171,53 @@ pub fn width(v: usize) -> usize
         return 3;
     }
     4
+}
+
+// What a string is found to be: none of the form's, or of so many bytes and characters, with the place behind it.
+pub enum Scanned {
+    Outside,
+    Text {
+        bytes: usize,
+        chars: usize,
+        to: usize,
+    },
+}
+
+// The string whose first quotation mark stands before `at`.
+pub fn string(list: &[u8], at: usize) -> Scanned
+    requires { ⌜ at ≤ length (now list) ⌝ }
+    ensures { λ r. ⌜ StringScanned (now (list .entry)) at r ⌝ }
+{
+    let mut i = at;
+    let mut bytes = 0;
+    let mut chars = 0;
+    while i < list.len() {
+        let s = json_strings::core::plain(list, i);
+        let end = s.to;
+        if list.len() <= end {
+            return Scanned::Outside;
+        }
+        bytes += end - i;
+        chars += s.chars;
+        let b = list[end];
+        if b == QUOTATION_MARK {
+            return Scanned::Text {
+                bytes,
+                chars,
+                to: end + 1,
+            };
+        }
+        if b != BACKSLASH {
+            return Scanned::Outside;
+        }
+        let x = escape(list, end + 1);
+        let code = x.code;
+        if code == NO_CODE {
+            return Scanned::Outside;
+        }
+        bytes += width(code);
+        chars += 1;
+        i = x.to;
+    }
+    Scanned::Outside
 }

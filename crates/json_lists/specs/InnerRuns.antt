@@ -27,6 +27,7 @@ pub record Plain (t : List ℕ) (at to chars : ℕ) : Type 0 where
   pub raw : T (allOf isRaw (take (to - at) (drop at t)))
   pub well : T (wellFormed (take (to - at) (drop at t)))
   pub num : chars ≡ numChars (take (to - at) (drop at t))
+  pub few : chars ≤ to - at
   pub stops : to < length t → isRaw (getD t to 0) ≡ true → wellFormed (drop to t) ≡ false
 
 -- the value of digits behind a number that has the value n so far

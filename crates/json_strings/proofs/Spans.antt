@@ -147,7 +147,7 @@ module _ (t : List ℕ) (at i conts : ℕ) (s : SoFar t at i conts) where
   few-conts = omega (arith, s .num)
 
   spanned : (i < length t → isRaw (getD t i 0) ≡ true → wellFormed (drop i t) ≡ false) → Plain t at i (i - at - conts)
-  spanned f = record { above = s .above; below = s .below; raw = s .raw; well = known (s .well); num = omega (arith, s .num); stops = f }
+  spanned f = record { above = s .above; below = s .below; raw = s .raw; well = known (s .well); num = omega (arith, s .num); few = omega arith; stops = f }
 
   pub span-whole : length t ≤ i → Plain t at i (i - at - conts)
   span-whole h = spanned (λ l. absurd (omega arith))
