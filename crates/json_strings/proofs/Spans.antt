@@ -26,20 +26,20 @@ use Rattle.json_strings.specs.InnerStrings.{isPlain, Plains}
 
 -- ---- stretches of a list
 
-joined : (t : List ℕ) (at i j : ℕ) → at ≤ i → i ≤ j → take (j - at) (drop at t) ≡ take (i - at) (drop at t) ++ take (j - i) (drop i t)
+pub joined : (t : List ℕ) (at i j : ℕ) → at ≤ i → i ≤ j → take (j - at) (drop at t) ≡ take (i - at) (drop at t) ++ take (j - i) (drop i t)
 joined t at i j h k =
     let e : j - at ≡ (i - at) + (j - i) = omega arith in
     let z : at + (i - at) ≡ i = omega arith in
     ap (λ n. take n (drop at t)) e ∙ take-add (i - at) (j - i) (drop at t)
     ∙ ap (λ l. take (i - at) (drop at t) ++ take (j - i) l) (drop-drop (i - at) at t ∙ ap (λ k. drop k t) z)
 
-empty : (t : List ℕ) (at : ℕ) → take (at - at) (drop at t) ≡ []
+pub empty : (t : List ℕ) (at : ℕ) → take (at - at) (drop at t) ≡ []
 empty t at = let z : at - at ≡ 0 = omega arith in ap (λ n. take n (drop at t)) z
 
-one : (t : List ℕ) (i : ℕ) → i < length t → take (i + 1 - i) (drop i t) ≡ getD t i 0 ∷ []
+pub one : (t : List ℕ) (i : ℕ) → i < length t → take (i + 1 - i) (drop i t) ≡ getD t i 0 ∷ []
 one t i h = let z : i + 1 - i ≡ 1 = omega arith in ap₂ take z (next t i h)
 
-all-join : (test : ℕ → Bool) (xs ys : List ℕ) → T (allOf test xs) → T (allOf test ys) → T (allOf test (xs ++ ys))
+pub all-join : (test : ℕ → Bool) (xs ys : List ℕ) → T (allOf test xs) → T (allOf test ys) → T (allOf test (xs ++ ys))
 all-join test xs ys h k = rw (all-append test xs ys) (both (allOf test xs) (allOf test ys) .1 (h, k))
 
 -- ---- plain bytes

@@ -1,0 +1,3 @@
+-- json_values
+pub mod Numbers
+pub mod Valued

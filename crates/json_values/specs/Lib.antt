@@ -1,0 +1,2 @@
+-- json_values
+pub mod InnerValues
