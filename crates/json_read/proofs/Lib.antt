@@ -1,0 +1,3 @@
+-- json_read
+pub mod Holding
+pub mod Feeding

@@ -1,0 +1,2 @@
+-- json_read
+pub mod InnerReading

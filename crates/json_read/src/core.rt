@@ -1,0 +1,82 @@
+// A list is read value by value: each goes to an emitter as the builders take it. Once a limit is passed nothing more is emitted, since
+// the record is refused whatever follows; the rest is only scanned, since bytes outside the form are refused before that.
+use emitter::core::Emitter;
+use json_values::core::Value;
+use record::core::MAX_SIZE;
+ghost use mathlib.Core.Path.{_≡_};
+ghost use Prim.Native.Nat.{_≤_, _<_, _^_};
+ghost use lib.ListN.{length};
+ghost use Rattle.edits.specs.Op.{retain, delete};
+ghost use Rattle.record.specs.Layout.{textStart, maxSize};
+ghost use Rattle.emitter.specs.InnerEmit.{Under, withinLimits};
+ghost use Rattle.json_read.specs.InnerReading.{Holds, Feeds, FeedsRetain, FeedsText, Sized, FeedsValue, overText};
+
+fn add_retain(e: Emitter, k: usize) -> Emitter
+    requires { ⌜ (k ≤ 65536) × Holds e ⌝ }
+    ensures { λ r. ⌜ FeedsRetain k e r ⌝ }
+{
+    if !emitter::core::keeps_limits(e) {
+        return e;
+    }
+    emitter::core::retain(e, k)
+}
+
+fn add_delete(out: &mut [u8], n: usize, e: Emitter, k: usize) -> Emitter
+    requires { ⌜ (k ≤ 65536) × (n ≤ 2 ^ 40) × Holds e ⌝ }
+    ensures { λ r. ⌜ Feeds n (delete k) e (now (out .entry)) r (now (out .exit)) ⌝ }
+{
+    if !emitter::core::keeps_limits(e) {
+        return e;
+    }
+    emitter::core::delete(out, n, e, k)
+}
+
+// An emitter that has passed a limit.
+fn with_text_over(e: Emitter) -> Emitter
+    ensures { λ r. ⌜ r ≡ overText e ⌝ }
+{
+    Emitter {
+        ins: e.ins,
+        del: e.del,
+        ret: e.ret,
+        ops: e.ops,
+        text: MAX_SIZE + 1,
+        base: e.base,
+        target: e.target,
+    }
+}
+
+// A text of so many bytes and characters. The bytes themselves have no place in the buffer.
+fn add_insert(out: &mut [u8], n: usize, e: Emitter, bytes: usize, chars: usize) -> Emitter
+    requires { ⌜ (chars ≤ bytes) × (n ≤ 2 ^ 40) × (length (now out) ≤ textStart n) × Holds e ⌝ }
+    ensures { λ r. ⌜ FeedsText n bytes chars e (now (out .entry)) r (now (out .exit)) ⌝ }
+{
+    if bytes == 0 {
+        return e;
+    }
+    if !emitter::core::keeps_limits(e) {
+        return e;
+    }
+    if MAX_SIZE < bytes {
+        return with_text_over(e);
+    }
+    emitter::core::flush_if_closed(out, n, e);
+    emitter::core::inserted(e, bytes, chars)
+}
+
+// What a value says goes to the emitter.
+fn add_value(out: &mut [u8], n: usize, e: Emitter, v: Value) -> Emitter
+    requires { ⌜ Sized v × (n ≤ 2 ^ 40) × (length (now out) ≤ textStart n) × Holds e ⌝ }
+    ensures { λ r. ⌜ FeedsValue n v e (now (out .entry)) r (now (out .exit)) ⌝ }
+{
+    match v {
+        Value::Outside => e,
+        Value::Retain { n: k, to: _ } => add_retain(e, k),
+        Value::Delete { n: k, to: _ } => add_delete(out, n, e, k),
+        Value::Insert {
+            bytes,
+            chars,
+            to: _,
+        } => add_insert(out, n, e, bytes, chars),
+    }
+}
