@@ -20,6 +20,7 @@ use Rattle.edits.proofs.Building.{addAll-append}
 use Rattle.emitter.proofs.Growing.{fits-early}
 use Rattle.edits.proofs.Claims.{build-base}
 use Rattle.json_lists.specs.Form.{Sign, plus, minus, Item, number, string}
+use Rattle.json_lists.specs.InnerRuns.{capped}
 use Rattle.json_lists.specs.Calls.{opOf, opsOf}
 
 -- where the whole list passes no limit, its first items pass none
@@ -62,9 +63,6 @@ passes-by-number l m s n h = go (fits (opsOf (l ++ (number s n ∷ m)))) refl
 -- ---- numbers may be cut off at 32,769 while they are read
 
 -- an item whose number is cut off
-abbrev pub capped : Item → Item
-capped (number s n) = number s (min n 32769)
-capped (string t) = string t
 
 -- a number over the limit stands in a list
 record Over (l : List Item) : Type 0 where

@@ -1,5 +1,5 @@
 -- What the functions that read and write lists promise each other. Only contracts of inner functions cite this.
-use Prim.Native.Nat.{ℕ, _+_, _*_, _≤_, _<_, _-_}
+use Prim.Native.Nat.{ℕ, _+_, _*_, _≤_, _<_, _-_, min}
 use mathlib.Core.Path.{_≡_}
 use mathlib.Core.Bool.{Bool, true, false, cond, _&&_, _||_}
 use mathlib.Core.List.{List, [], _∷_}
@@ -8,7 +8,8 @@ use lib.ListN.{length, take, drop, getD}
 use Rattle.buffers.specs.Lists.{allOf}
 use Rattle.characters.specs.Form.{wellFormed}
 use Rattle.characters.specs.Chars.{numChars}
-use Rattle.json_lists.specs.Form.{Item, Place, digitValue, isEnd, reached, items}
+use Rattle.record.specs.Layout.{maxSize}
+use Rattle.json_lists.specs.Form.{Item, number, string, Place, digitValue, isEnd, reached, items}
 use Rattle.json_lists.specs.Grammar.{isRaw}
 
 -- ---- runs of bytes
@@ -43,6 +44,15 @@ width v = cond (ltb v 0x80) 1 (cond (ltb v 0x800) 2 (cond (ltb v 0x10000) 3 4))
 unfoldable pub extraBytes : List ℕ → ℕ
 extraBytes [] = 0
 extraBytes (b ∷ bs) = cond (ltb b 0x20) 5 (cond (eqb b 0x22 || eqb b 0x5C) 1 0) + extraBytes bs
+
+-- the first number over the limit of a record's sizes
+abbrev pub overLimit : ℕ
+overLimit = maxSize + 1
+
+-- an item whose number is held as that where it is more: the record is refused all the same
+abbrev pub capped : Item → Item
+capped (number s n) = number s (min n overLimit)
+capped (string t) = string t
 
 -- ---- how a list is read on
 

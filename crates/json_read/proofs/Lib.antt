@@ -1,3 +1,4 @@
 -- json_read
 pub mod Holding
 pub mod Feeding
+pub mod Listing

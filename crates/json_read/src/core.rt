@@ -9,7 +9,10 @@ ghost use lib.ListN.{length};
 ghost use Rattle.edits.specs.Op.{retain, delete};
 ghost use Rattle.record.specs.Layout.{textStart, maxSize};
 ghost use Rattle.emitter.specs.InnerEmit.{Under, withinLimits};
+ghost use Rattle.json_lists.specs.Form.{afterComma};
+ghost use Rattle.json_values.specs.InnerValues.{ValueFrom, NoSpace};
 ghost use Rattle.json_read.specs.InnerReading.{Holds, Feeds, FeedsRetain, FeedsText, Sized, FeedsValue, overText};
+ghost use Rattle.json_read.specs.InnerReading.{FollowsAt, ItemFollowed, ValuesRead};
 
 fn add_retain(e: Emitter, k: usize) -> Emitter
     requires { ⌜ (k ≤ 65536) × Holds e ⌝ }
@@ -78,5 +81,98 @@ fn add_value(out: &mut [u8], n: usize, e: Emitter, v: Value) -> Emitter
             chars,
             to: _,
         } => add_insert(out, n, e, bytes, chars),
+    }
+}
+
+const COMMA: u8 = 0x2C;
+
+const BEGIN_ARRAY: u8 = 0x5B;
+
+const END_ARRAY: u8 = 0x5D;
+
+// What follows a value: a comma, with the place of the next value; the end of the list, with the place behind it; or neither.
+pub enum Follows {
+    Outside,
+    Value(usize),
+    End(usize),
+}
+
+fn after_value(list: &[u8], at: usize) -> Follows
+    requires { ⌜ at ≤ length (now list) ⌝ }
+    ensures { λ r. ⌜ FollowsAt (now (list .entry)) at r ⌝ }
+{
+    let i = json_values::core::after_spaces(list, at);
+    if list.len() <= i {
+        return Follows::Outside;
+    }
+    let b = list[i];
+    if b == COMMA {
+        let to = json_values::core::after_spaces(list, i + 1);
+        return Follows::Value(to);
+    }
+    if b == END_ARRAY {
+        return Follows::End(i + 1);
+    }
+    Follows::Outside
+}
+
+// What follows the value that was scanned at `at`.
+fn behind(list: &[u8], at: usize, v: Value) -> Follows
+    requires { ⌜ ValueFrom afterComma (now list) at v ⌝ }
+    ensures { λ r. ⌜ ItemFollowed (now (list .entry)) at v r ⌝ }
+{
+    match v {
+        Value::Outside => Follows::Outside,
+        Value::Retain { n: _, to } => after_value(list, to),
+        Value::Delete { n: _, to } => after_value(list, to),
+        Value::Insert {
+            bytes: _,
+            chars: _,
+            to,
+        } => after_value(list, to),
+    }
+}
+
+// Whether values stood in the list up to its end, the place behind that, and what was emitted.
+pub struct Values {
+    pub found: bool,
+    pub at: usize,
+    pub e: Emitter,
+}
+
+// The values from `at` on.
+fn read_values(list: &[u8], at: usize, out: &mut [u8], n: usize) -> Values
+    requires { ⌜ (at ≤ length (now list)) × NoSpace (now list) at × (n ≤ 2 ^ 40) × (length (now out) ≤ textStart n) ⌝ }
+    ensures { λ r. ⌜ ValuesRead n (now (list .entry)) at (now (out .entry)) r (now (out .exit)) ⌝ }
+{
+    let mut e = emitter::core::new_emitter();
+    let mut i = at;
+    while i < list.len() {
+        let v = json_values::core::scan_value(list, i);
+        e = add_value(out, n, e, v);
+        match behind(list, i, v) {
+            Follows::Outside => {
+                return Values {
+                    found: false,
+                    at: i,
+                    e,
+                };
+            }
+            Follows::End(to) => {
+                return Values {
+                    found: true,
+                    at: to,
+                    e,
+                };
+            }
+            Follows::Value(to) => {
+                i = to;
+            }
+        }
+    }
+    Values {
+        found: false,
+        at: i,
+        e,
     }
 }

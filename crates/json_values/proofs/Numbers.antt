@@ -12,13 +12,13 @@ use Rattle.buffers.proofs.Tests.{both, holds, known}
 use Rattle.characters.specs.Form.{within}
 use Rattle.characters.proofs.Leads.{inside, under, over}
 use Rattle.json_lists.specs.Form.{Sign, isSpace, isDigit, digitValue, inNumber, Place}
-use Rattle.json_lists.specs.InnerRuns.{Run, Onward}
+use Rattle.json_lists.specs.InnerRuns.{Run, overLimit, Onward}
 use Rattle.json_lists.proofs.Ascii.{low-digit}
 use Rattle.json_lists.proofs.Limits.{capped-digit}
 use Rattle.json_lists.proofs.Steps.{onward-none, onward-then, at-byte, byte, next-digit}
 use Rattle.json_strings.proofs.Spans.{joined, empty, one, all-join}
 use Rattle.json_values.specs.declared.core.Digits.{Digits}
-use Rattle.json_values.specs.InnerValues.{overLimit, DigitsAt}
+use Rattle.json_values.specs.InnerValues.{DigitsAt}
 
 -- ---- white space
 

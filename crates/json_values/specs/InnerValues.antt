@@ -7,16 +7,11 @@ use lib.Dec.{T}
 use lib.ListN.{length, drop, getD}
 use Rattle.characters.specs.Form.{wellFormed}
 use Rattle.characters.specs.Chars.{numChars}
-use Rattle.record.specs.Layout.{maxSize}
 use Rattle.json_lists.specs.Form.{Sign, plus, minus, number, string, isSpace, isDigit, digitValue, Place, inNumber, afterValue}
-use Rattle.json_lists.specs.InnerRuns.{Onward, Passes, Fails}
+use Rattle.json_lists.specs.InnerRuns.{overLimit, Onward, Passes, Fails}
 use Rattle.json_values.specs.declared.core.Digits.{Digits}
 use Rattle.json_values.specs.declared.core.Value.{Value}
 use Rattle.json_values.specs.declared.core.Value.the-variants.{Outside, Retain, Delete, Insert}
-
--- the first number over the limit of a record's sizes
-abbrev pub overLimit : ℕ
-overLimit = maxSize + 1
 
 -- the number whose first digit stands at `at`: all of its digits are passed, and it is held as `overLimit` where it is more
 pub record DigitsAt (t : List ℕ) (at : ℕ) (r : Digits) : Type 0 where

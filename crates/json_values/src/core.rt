@@ -5,8 +5,8 @@ ghost use mathlib.Core.Path.{_≡_};
 ghost use Prim.Native.Nat.{_+_, _*_, _-_, _≤_, _<_, min};
 ghost use lib.ListN.{length, getD};
 ghost use Rattle.json_lists.specs.Form.{isSpace, afterMinus, afterComma};
-ghost use Rattle.json_lists.specs.InnerRuns.{Run};
-ghost use Rattle.json_values.specs.InnerValues.{overLimit, DigitsAt, ValueFrom, NoSpace, OtherByte};
+ghost use Rattle.json_lists.specs.InnerRuns.{Run, overLimit};
+ghost use Rattle.json_values.specs.InnerValues.{DigitsAt, ValueFrom, NoSpace, OtherByte};
 
 const QUOTATION_MARK: u8 = 0x22;
 

@@ -1,7 +1,7 @@
 use borrow.Author.Needs.{needs}
 use Prim.Native.Nat.{_-_, _≤_}
 use lib.ListN.{length}
-use Rattle.json_values.specs.InnerValues.{overLimit}
+use Rattle.json_lists.specs.InnerRuns.{overLimit}
 use Rattle.json_values.proofs.Numbers.{Counted, counted-first, counted-under, counted-over, counted-more, counted-whole}
 use Rattle.json_values.proofs.core.number.Statement.{statement}
 use Rattle.json_values.proofs.core.number.Tie as tie
