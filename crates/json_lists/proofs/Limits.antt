@@ -62,8 +62,6 @@ passes-by-number l m s n h = go (fits (opsOf (l ++ (number s n ∷ m)))) refl
 
 -- ---- numbers may be cut off at 32,769 while they are read
 
--- an item whose number is cut off
-
 -- a number over the limit stands in a list
 record Over (l : List Item) : Type 0 where
   before : List Item
@@ -96,15 +94,14 @@ pub deliver-over : (s : Seq) (out : List ℕ) → fits s ≡ false → deliver 0
 unfolding deliver
 deliver-over s out e = ap (λ t. writing (needs t 9 0) (encode s) out) e
 
--- the same is delivered where numbers are cut off
-pub capped-deliver : (l : List Item) (out : List ℕ) → deliver 0 (opsOf (map capped l)) out ≡ deliver 0 (opsOf l) out
-capped-deliver l out =
-    ⊎-elim (λ e. ap (λ r. deliver 0 (opsOf r) out) e)
+-- where a number is cut off the record is refused, and was to be
+pub capped-or-over : (l : List Item) → (map capped l ≡ l) ⊎ ((fits (opsOf (map capped l)) ≡ false) × (fits (opsOf l) ≡ false))
+capped-or-over l =
+    ⊎-elim inl
     (λ o.
     let e : map capped l ≡ map capped (o .before) ++ (number (o .sign) (min (o .value) 32769) ∷ map capped (o .behind)) = ap (map capped) (o .is) ∙ map-append capped (o .before) _ in
     let k = o .large in
-    deliver-over (opsOf (map capped l)) out (ap (λ r. fits (opsOf r)) e ∙ passes-by-number (map capped (o .before)) (map capped (o .behind)) (o .sign) (min (o .value) 32769) (omega arith))
-    ∙ sym (deliver-over (opsOf l) out (ap (λ r. fits (opsOf r)) (o .is) ∙ passes-by-number (o .before) (o .behind) (o .sign) (o .value) k)))
+    inr (ap (λ r. fits (opsOf r)) e ∙ passes-by-number (map capped (o .before)) (map capped (o .behind)) (o .sign) (min (o .value) 32769) (omega arith), ap (λ r. fits (opsOf r)) (o .is) ∙ passes-by-number (o .before) (o .behind) (o .sign) (o .value) k))
     (over-or-same l)
 
 -- one digit more of a number that is cut off

@@ -73,7 +73,7 @@ module _ {n : ℕ} {out0 : List ℕ} {acc : Seq} {e : Emitter} {o : List ℕ} (h
       }
 
 module _ (n : ℕ) (out0 : List ℕ) (acc : Seq) (e : Emitter) (o : List ℕ) (h : Held n out0 acc e o) where
-  over-is : withinLimits e ≡ false → fits (reverse acc) ≡ false
+  pub over-is : withinLimits e ≡ false → fits (reverse acc) ≡ false
   over-is w = go (h .is)
     where
       no : (b : Bool) → fits (reverse acc) ≡ b → Rep n out0 acc e o → b ≡ false

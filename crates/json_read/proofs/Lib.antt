@@ -2,3 +2,4 @@
 pub mod Holding
 pub mod Feeding
 pub mod Listing
+pub mod Opening

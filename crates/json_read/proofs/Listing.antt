@@ -169,10 +169,10 @@ module _ (n : ℕ) (t : List ℕ) (at : ℕ) (out0 : List ℕ) where
             (fed-item n v e o e′ o′ (x .item) f (x .means) .keeps out0 (addAll [] (map opOf (map capped (g .all)))) (g .emitted))
 
       module _ (r : Follows) (y : ItemFollowed t i v r) where
-        pub going-outside : r ≡ follows.Outside → (w : Values) → w .found ≡ false → ValuesRead n t at out0 w o′
+        pub going-outside : r ≡ follows.Outside → (w : Values) → w .found ≡ false → ValuesRead n t afterComma (drop at t) out0 w o′
         going-outside z w b = record { found = λ d. absurd (true≢false (sym d ∙ b)); fails = λ _. going-fails (rw z at y) }
 
-        pub going-end : {to : ℕ} → r ≡ follows.End to → (w : Values) → w .found ≡ true → w .at ≡ to → w .e ≡ e′ → ValuesRead n t at out0 w o′
+        pub going-end : {to : ℕ} → r ≡ follows.End to → (w : Values) → w .found ≡ true → w .at ≡ to → w .e ≡ e′ → ValuesRead n t afterComma (drop at t) out0 w o′
         going-end {to} z w b c d =
             let x : ItemTo t i v atEnd to = rw z at y in
             record {
@@ -199,5 +199,5 @@ module _ (n : ℕ) (t : List ℕ) (at : ℕ) (out0 : List ℕ) where
               emitted = with-op afterComma to (x .0);
             }
 
-    pub going-cut : length t ≤ i → (w : Values) → w .found ≡ false → ValuesRead n t at out0 w o
+    pub going-cut : length t ≤ i → (w : Values) → w .found ≡ false → ValuesRead n t afterComma (drop at t) out0 w o
     going-cut h w b = record { found = λ d. absurd (true≢false (sym d ∙ b)); fails = λ _. going-fails (rw (drop-of-length-le t h) (ended-fails afterComma refl)) }

@@ -16,15 +16,18 @@ use Rattle.record.specs.Layout.{maxSize}
 use Rattle.record.specs.Record.{fits}
 use Rattle.emitter.specs.declared.core.Emitter.{Emitter}
 use Rattle.emitter.specs.InnerEmit.{Under, Rep, Done, withinLimits}
-use Rattle.json_lists.specs.Form.{Sign, plus, minus, Item, number, string, Place, afterComma, afterValue, atEnd, reached, items}
+use Rattle.json_lists.specs.Form.{Sign, plus, minus, Item, number, string, Place, afterComma, afterValue, atStart, atEnd, reached, items, inForm}
 use Rattle.json_lists.specs.InnerRuns.{overLimit, capped, Onward, Passes, Fails}
-use Rattle.json_lists.specs.Calls.{opOf}
+use Rattle.json_lists.specs.Calls.{opOf, opsOf}
 use Rattle.json_values.specs.InnerValues.{NoSpace}
 use Rattle.json_values.specs.declared.core.Value.{Value}
 use Rattle.json_values.specs.declared.core.Value.the-variants.{Outside, Retain, Delete, Insert}
 use Rattle.json_read.specs.declared.core.Follows.{Follows}
 use Rattle.json_read.specs.declared.core.Follows.the-variants as follows
 use Rattle.json_read.specs.declared.core.Values.{Values}
+use Rattle.json_read.specs.declared.core.Opening.{Opening}
+use Rattle.json_read.specs.declared.core.Opening.the-variants as opening
+use Rattle.json_read.specs.declared.core.Reading.{Reading}
 
 -- the emitter e with the buffer o stands for the sequence `acc`; or that passes a limit, and so do the emitter's numbers
 pub record Held (n : ℕ) (out0 : List ℕ) (acc : Seq) (e : Emitter) (o : List ℕ) : Type 0 where
@@ -119,13 +122,35 @@ pub record PassesAll (l : List Item) (p : Place) (bs : List ℕ) (q : Place) (cs
   pub has : items p bs ≡ l ++ items q cs
   pub well : wellFormed bs ≡ wellFormed cs
 
--- the values from `at` to the end of the list are these, and the builders' sequence of them is held
-pub record ValuesTo (n : ℕ) (t : List ℕ) (at : ℕ) (out0 : List ℕ) (r : Values) (o : List ℕ) : Type 0 where
+-- the values from p to the end of the list are these, and the builders' sequence of them is emitted
+pub record ValuesTo (n : ℕ) (t : List ℕ) (p : Place) (bs out0 : List ℕ) (r : Values) (o : List ℕ) : Type 0 where
   pub all : List Item
-  pub passes : PassesAll all afterComma (drop at t) atEnd (drop (r .at) t)
+  pub passes : PassesAll all p bs atEnd (drop (r .at) t)
   pub below : r .at ≤ length t
   pub emitted : Held n out0 (addAll [] (map opOf (map capped all))) (r .e) o
 
-pub record ValuesRead (n : ℕ) (t : List ℕ) (at : ℕ) (out0 : List ℕ) (r : Values) (o : List ℕ) : Type 0 where
-  pub found : r .found ≡ true → ValuesTo n t at out0 r o
-  pub fails : r .found ≡ false → Fails afterComma (drop at t)
+pub record ValuesRead (n : ℕ) (t : List ℕ) (p : Place) (bs out0 : List ℕ) (r : Values) (o : List ℕ) : Type 0 where
+  pub found : r .found ≡ true → ValuesTo n t p bs out0 r o
+  pub fails : r .found ≡ false → Fails p bs
+
+-- the way from the start of the list to its first value, or to its end
+pub record OpensTo (t : List ℕ) (q : Place) (to : ℕ) : Type 0 where
+  pub below : to ≤ length t
+  pub onward : Onward atStart t q (drop to t)
+
+abbrev pub OpeningAt : List ℕ → Opening → Type 0
+OpeningAt t opening.Outside = Fails atStart t
+OpeningAt t (opening.Value to) = OpensTo t afterComma to × NoSpace t to
+OpeningAt t (opening.Empty to) = OpensTo t atEnd to
+
+-- the sequence s is written but for its text and the sizes; or it passes a limit, and so do the emitter's numbers
+pub record Finished (n : ℕ) (s : Seq) (out0 : List ℕ) (e : Emitter) (o : List ℕ) : Type 0 where
+  pub small : Under (2 ^ 40) e
+  pub is : Done n s out0 e o ⊎ ((fits s ≡ false) × (withinLimits e ≡ false))
+
+pub record FinishedBy (n : ℕ) (e : Emitter) (o : List ℕ) (e′ : Emitter) (o′ : List ℕ) : Type 0 where
+  pub done : (out0 : List ℕ) (acc : Seq) → Held n out0 acc e o → Finished n (reverse acc) out0 e′ o′
+
+pub record ListRead (n : ℕ) (t out0 : List ℕ) (r : Reading) (o : List ℕ) : Type 0 where
+  pub form : r .valid ≡ inForm t
+  pub emitted : r .valid ≡ true → Finished n (opsOf (items atStart t)) out0 (r .e) o

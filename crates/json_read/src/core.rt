@@ -5,14 +5,16 @@ use json_values::core::Value;
 use record::core::MAX_SIZE;
 ghost use mathlib.Core.Path.{_≡_};
 ghost use Prim.Native.Nat.{_≤_, _<_, _^_};
-ghost use lib.ListN.{length};
+ghost use mathlib.Core.Bool.{_&&_};
+ghost use lib.ListN.{length, drop};
+ghost use Rattle.characters.specs.Form.{wellFormed};
 ghost use Rattle.edits.specs.Op.{retain, delete};
 ghost use Rattle.record.specs.Layout.{textStart, maxSize};
 ghost use Rattle.emitter.specs.InnerEmit.{Under, withinLimits};
-ghost use Rattle.json_lists.specs.Form.{afterComma};
+ghost use Rattle.json_lists.specs.Form.{afterComma, atStart, atEnd, reached, isEnd};
 ghost use Rattle.json_values.specs.InnerValues.{ValueFrom, NoSpace};
 ghost use Rattle.json_read.specs.InnerReading.{Holds, Feeds, FeedsRetain, FeedsText, Sized, FeedsValue, overText};
-ghost use Rattle.json_read.specs.InnerReading.{FollowsAt, ItemFollowed, ValuesRead};
+ghost use Rattle.json_read.specs.InnerReading.{FollowsAt, ItemFollowed, ValuesRead, OpeningAt, FinishedBy, ListRead};
 
 fn add_retain(e: Emitter, k: usize) -> Emitter
     requires { ⌜ (k ≤ 65536) × Holds e ⌝ }
@@ -143,7 +145,7 @@ pub struct Values {
 // The values from `at` on.
 fn read_values(list: &[u8], at: usize, out: &mut [u8], n: usize) -> Values
     requires { ⌜ (at ≤ length (now list)) × NoSpace (now list) at × (n ≤ 2 ^ 40) × (length (now out) ≤ textStart n) ⌝ }
-    ensures { λ r. ⌜ ValuesRead n (now (list .entry)) at (now (out .entry)) r (now (out .exit)) ⌝ }
+    ensures { λ r. ⌜ ValuesRead n (now (list .entry)) afterComma (drop at (now (list .entry))) (now (out .entry)) r (now (out .exit)) ⌝ }
 {
     let mut e = emitter::core::new_emitter();
     let mut i = at;
@@ -174,5 +176,96 @@ fn read_values(list: &[u8], at: usize, out: &mut [u8], n: usize) -> Values
         found: false,
         at: i,
         e,
+    }
+}
+
+// What a list begins with: its bracket and the place of the first value, both brackets and the place behind them, or neither.
+pub enum Opening {
+    Outside,
+    Value(usize),
+    Empty(usize),
+}
+
+fn begins_with(list: &[u8]) -> Opening
+    ensures { λ r. ⌜ OpeningAt (now (list .entry)) r ⌝ }
+{
+    let i = json_values::core::after_spaces(list, 0);
+    if list.len() <= i {
+        return Opening::Outside;
+    }
+    if list[i] != BEGIN_ARRAY {
+        return Opening::Outside;
+    }
+    let to = json_values::core::after_spaces(list, i + 1);
+    if list.len() <= to {
+        return Opening::Outside;
+    }
+    if list[to] == END_ARRAY {
+        return Opening::Empty(to + 1);
+    }
+    Opening::Value(to)
+}
+
+// The values of the whole list.
+fn read_array(list: &[u8], out: &mut [u8], n: usize) -> Values
+    requires { ⌜ (n ≤ 2 ^ 40) × (length (now out) ≤ textStart n) ⌝ }
+    ensures { λ r. ⌜ ValuesRead n (now (list .entry)) atStart (now (list .entry)) (now (out .entry)) r (now (out .exit)) ⌝ }
+{
+    match begins_with(list) {
+        Opening::Outside => Values {
+            found: false,
+            at: 0,
+            e: emitter::core::new_emitter(),
+        },
+        Opening::Empty(at) => Values {
+            found: true,
+            at,
+            e: emitter::core::new_emitter(),
+        },
+        Opening::Value(at) => read_values(list, at, out, n),
+    }
+}
+
+// Whether nothing but white space stands from `at` on, behind the list's bracket.
+fn ends(list: &[u8], at: usize) -> bool
+    requires { ⌜ at ≤ length (now list) ⌝ }
+    ensures { λ r. ⌜ r ≡ (wellFormed (drop at (now (list .entry))) && isEnd (reached atEnd (drop at (now (list .entry))))) ⌝ }
+{
+    list.len() <= json_values::core::after_spaces(list, at)
+}
+
+// The pending group is written, unless a limit was passed.
+fn finish(out: &mut [u8], n: usize, e: Emitter) -> Emitter
+    requires { ⌜ (n ≤ 2 ^ 40) × Holds e ⌝ }
+    ensures { λ r. ⌜ FinishedBy n e (now (out .entry)) r (now (out .exit)) ⌝ }
+{
+    if !emitter::core::keeps_limits(e) {
+        return e;
+    }
+    emitter::core::finish(out, n, e)
+}
+
+// Whether bytes are a list of the form; and the sizes of the record of its values, of which all but the text is written.
+pub struct Reading {
+    pub valid: bool,
+    pub e: Emitter,
+}
+
+// A list, read into a buffer with places for n operations and none for text.
+pub fn read_list(list: &[u8], out: &mut [u8], n: usize) -> Reading
+    requires { ⌜ (n ≤ 2 ^ 40) × (length (now out) ≤ textStart n) ⌝ }
+    ensures { λ r. ⌜ ListRead n (now (list .entry)) (now (out .entry)) r (now (out .exit)) ⌝ }
+{
+    let v = read_array(list, out, n);
+    let e = v.e;
+    if !v.found {
+        return Reading { valid: false, e };
+    }
+    if !ends(list, v.at) {
+        return Reading { valid: false, e };
+    }
+    Reading {
+        valid: true,
+        e: finish(out, n, e),
     }
 }
