@@ -45,7 +45,7 @@ module _ {C : Type 0} where
   unfolding add
   add-length r o = let P : List (Op C) → Type 0 = λ u. length u ≤ length r + 1 in ifZero-elim P (size o) (λ _. omega arith) (λ _. put-length o r)
 
-  addAll-length : (r s : List (Op C)) → length (addAll r s) ≤ length r + length s
+  pub addAll-length : (r s : List (Op C)) → length (addAll r s) ≤ length r + length s
   unfolding addAll
   addAll-length r [] = omega arith
   addAll-length r (o ∷ s) = omega (arith, addAll-length (add r o) s, add-length r o)

@@ -1,0 +1,4 @@
+-- json_texts
+pub mod Texts
+pub mod Writes
+pub mod Moves

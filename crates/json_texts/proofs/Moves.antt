@@ -1,0 +1,338 @@
+-- Text copied, one part behind another.
+use Prim.Native.Nat.{ℕ, zero, suc, _+_, _-_, _≤_, _<_}
+use native.Mathlib.Omega.{arith}
+use mathlib.Core.Path.{_≡_, refl, sym, ap, ap₂, _∙_}
+use mathlib.Core.Logic.{⊎-elim}
+use mathlib.Core.Bool.{Bool, true, false, not, _&&_, false≢true, true≢false}
+use mathlib.Core.List.{List, [], _∷_, _++_, append-assoc, append-nil}
+use lib.Dec.{T, eqb, leb}
+use lib.ListN.{length, take, drop, getD, set, length-append, length-take, length-drop, take-append-drop, drop-of-length-le}
+use lib.Seq.{drop-drop}
+use borrow.Author.Tests.{not-false, eq-eqb}
+use Rattle.buffers.specs.Lists.{allOf}
+use Rattle.buffers.specs.InnerOver.{over}
+use Rattle.buffers.proofs.Over.{length-over, over-nil, over-join, over-at, put-in}
+use Rattle.buffers.proofs.Tests.{both, holds, known, le-and}
+use Rattle.characters.specs.declared.Lead.{Lead}
+use Rattle.characters.specs.declared.Lead.the-variants.{Bad, Of}
+use Rattle.characters.specs.Form.{within, leadOf, wellFormedFrom, wellFormed}
+use Rattle.characters.specs.Scalar.{encodeScalar}
+use Rattle.characters.proofs.Leads.{le-or-lt, within-bounds, sane, sane-lead}
+use Rattle.characters.proofs.Chars.{split}
+use Rattle.json_lists.specs.Form.{Place, atStart, inString, afterEscape, afterValue, isEnd, next, reached, items, inForm}
+use Rattle.json_lists.specs.Grammar.{isRaw}
+use Rattle.json_lists.proofs.Reading.{inside}
+use Rattle.json_lists.proofs.Ascii.{ascii-on}
+use Rattle.json_lists.proofs.Steps.{at-byte}
+use Rattle.json_strings.specs.InnerStrings.{isPlain}
+use Rattle.json_escapes.specs.declared.core.Escaped.{Escaped}
+use Rattle.json_escapes.specs.InnerEscapes.{EscapeAt}
+use Rattle.json_texts.specs.InnerTexts.{texts, ahead, Ready, Moved}
+use Rattle.json_texts.proofs.Texts.{held, raw-byte, quotation-mark, backslash, out-byte, out-on, mark-on}
+
+-- ---- well-formed text
+
+-- a byte below 80 begins a character of well-formed text
+starts : (t : List ℕ) (i : ℕ) (x : Lead) → T (sane x) → wellFormedFrom t x ≡ true → i < length t → getD t i 0 < 0x80 → wellFormed (drop i t) ≡ true
+starts [] i x s e h l = absurd (omega arith)
+starts (b ∷ t) i Bad s e h l = absurd (false≢true e)
+starts (b ∷ t) zero (Of zero lo hi) s e h l = e
+starts (b ∷ t) (suc i) (Of zero lo hi) s e h l = starts t i (leadOf b) (sane-lead b) e (omega arith) l
+starts (b ∷ t) zero (Of (suc n) lo hi) s e h l =
+    let (k, _) = within-bounds lo hi b (known (split (within lo hi b) (wellFormedFrom t (Of n 0x80 0xBF)) e .0)) in
+    let (m, _) = le-and 0x80 lo (leb hi 0xBF) .0 s in
+    absurd (omega arith)
+starts (b ∷ t) (suc i) (Of (suc n) lo hi) s e h l =
+    starts t i (Of n 0x80 0xBF) tt (split (within lo hi b) (wellFormedFrom t (Of n 0x80 0xBF)) e .1) (omega arith) l
+
+-- ---- positions of the list
+
+-- text that stands in the list from one position to another
+record Part (q s : Place) (list : List ℕ) (i k : ℕ) (xs : List ℕ) : Type 0 where
+  splits : ahead q list i ≡ xs ++ ahead s list k
+  ends : isEnd (reached s (drop k list)) ≡ true
+  above : i ≤ k
+  below : k ≤ length list
+
+-- bytes are left where a string goes on
+in-string : (list : List ℕ) (i : ℕ) → isEnd (reached (inString []) (drop i list)) ≡ true → i < length list
+unfolding reached
+in-string list i e =
+    ⊎-elim (λ h. absurd (false≢true (sym (ap (λ bs. isEnd (reached (inString []) bs)) (drop-of-length-le list h)) ∙ e))) (λ h. h) (le-or-lt (length list) i)
+
+module _ (list : List ℕ) (i : ℕ) (e : isEnd (reached (inString []) (drop i list)) ≡ true) where
+  -- a byte that stands for itself
+  raw-at : (getD list i 0 ≡ 0x22 → ⊥) → (getD list i 0 ≡ 0x5C → ⊥)
+      → (isEnd (reached (inString []) (drop (i + 1) list)) ≡ true) × (ahead (inString []) list i ≡ getD list i 0 ∷ ahead (inString []) list (i + 1))
+  unfolding ahead
+  raw-at n m =
+      let z = at-byte list i (in-string list i e) in
+      rw z (raw-byte (getD list i 0) (drop (i + 1) list) n m (rw z at e))
+
+  -- its quotation mark, and a backslash
+  mark-at : getD list i 0 ≡ 0x22 → Part (inString []) afterValue list i (i + 1) []
+  unfolding ahead
+  mark-at b =
+      let h = in-string list i e in
+      let z : drop i list ≡ 0x22 ∷ drop (i + 1) list = at-byte list i h ∙ ap (λ c. c ∷ drop (i + 1) list) b in
+      let (f, g) = quotation-mark (drop (i + 1) list) in
+      record { splits = rw z g; ends = sym f ∙ (rw z at e); above = omega arith; below = omega arith }
+
+  slash-at : getD list i 0 ≡ 0x5C → Part (inString []) (afterEscape []) list i (i + 1) []
+  unfolding ahead
+  slash-at b =
+      let h = in-string list i e in
+      let z : drop i list ≡ 0x5C ∷ drop (i + 1) list = at-byte list i h ∙ ap (λ c. c ∷ drop (i + 1) list) b in
+      let (f, g) = backslash (drop (i + 1) list) in
+      record { splits = rw z g; ends = sym f ∙ (rw z at e); above = omega arith; below = omega arith }
+
+-- plain bytes
+plain-raw : (b : ℕ) → T (isPlain b) → (b ≡ 0x22 → ⊥) × (b ≡ 0x5C → ⊥)
+unfolding isPlain isRaw
+plain-raw b h = (λ e. rw e at h, λ e. rw e at h)
+
+plains : (xs bs : List ℕ) → T (allOf isPlain xs) → isEnd (reached (inString []) (xs ++ bs)) ≡ true
+    → (isEnd (reached (inString []) bs) ≡ true) × (texts (items (inString []) (xs ++ bs)) ≡ xs ++ texts (items (inString []) bs))
+plains [] bs h e = (e, refl)
+plains (b ∷ xs) bs h e =
+    let (p, k) = both (isPlain b) (allOf isPlain xs) .0 h in
+    let (n, m) = plain-raw b p in
+    let (f, g) = raw-byte b (xs ++ bs) n m e in
+    let (f₁, g₁) = plains xs bs k f in
+    (f₁, g ∙ ap (λ l. b ∷ l) g₁)
+
+-- ---- steps
+
+module _ {p : Place} {list : List ℕ} {at : ℕ} {out : List ℕ} {to : ℕ} where
+  pub moved-none : Ready p list at out to → Moved p p list at out to at to out
+  moved-none r =
+      record {
+        text = [];
+        splits = refl;
+        laid = sym (over-nil to out);
+        behind = omega arith;
+        ends = r .ends;
+        above = omega arith;
+        below = r .there;
+        fits = omega (arith, r .room);
+        same = refl;
+      }
+
+  pub moved-then : {q s : Place} {i j k l : ℕ} {o o′ : List ℕ} → Moved p q list at out to i j o → Moved q s list i o j k l o′ → Moved p s list at out to k l o′
+  moved-then {q} {s} {i} {j} {k} {l} {o} {o′} m n =
+      record {
+        text = m .text ++ n .text;
+        splits = m .splits ∙ ap (λ x. m .text ++ x) (n .splits) ∙ sym (append-assoc (m .text) (n .text) (ahead s list k));
+        laid = n .laid ∙ ap₂ (λ x y. over x (n .text) y) (m .behind) (m .laid) ∙ over-join to (m .text) (n .text) out;
+        behind = simp length-append (omega arith);
+        ends = n .ends;
+        above = omega arith;
+        below = n .below;
+        fits = omega arith;
+        same = n .same ∙ m .same;
+      }
+
+  pub ready-then : {q : Place} {i j : ℕ} {o : List ℕ} → Moved p q list at out to i j o → Ready p list at out to → Ready q list i o j
+  ready-then {q} {i} {j} {o} m r =
+      record {
+        well = r .well;
+        ends = m .ends;
+        there = m .below;
+        room = omega (arith, ap length (m .splits) ∙ length-append (m .text) (ahead q list i));
+      }
+
+  module _ {q s : Place} {i j k : ℕ} {o xs : List ℕ} (r : Ready p list at out to) (m : Moved p q list at out to i j o) (t : Part q s list i k xs) where
+    room-part : j + length xs ≤ length o
+    room-part = omega (arith, ready-then m r .room, ap length (t .splits) ∙ length-append xs (ahead s list k))
+
+    moved-part : {l : ℕ} {o′ : List ℕ} → l ≡ j + length xs → o′ ≡ over j xs o → Moved p s list at out to k l o′
+    moved-part {l} {o′} b h =
+        moved-then m
+        (record {
+          text = xs;
+          splits = t .splits;
+          laid = h;
+          behind = b;
+          ends = t .ends;
+          above = t .above;
+          below = t .below;
+          fits = omega (arith, room-part);
+          same = ap length h ∙ length-over j xs o;
+        })
+
+  -- ---- in a string
+
+  module _ {i j : ℕ} {o : List ℕ} (r : Ready p list at out to) (m : Moved p (inString []) list at out to i j o) where
+    pub more-bytes : i < length list
+    more-bytes = in-string list i (m .ends)
+
+    module _ (n : getD list i 0 ≡ 0x22 → ⊥) (s : getD list i 0 ≡ 0x5C → ⊥) where
+      byte-at : Part (inString []) (inString []) list i (i + 1) (getD list i 0 ∷ [])
+      byte-at =
+          let (e, f) = raw-at list i (m .ends) n s in
+          record { splits = f; ends = e; above = omega arith; below = omega (arith, more-bytes) }
+
+      pub room-byte : j < length o
+      room-byte = omega (arith, room-part r m byte-at)
+
+      pub moved-byte : Moved p (inString []) list at out to (i + 1) (j + 1) (set o j (getD list i 0))
+      moved-byte = moved-part r m byte-at refl (put-in o j (getD list i 0))
+
+    module _ {b : Bool} (e : b ≡ allOf isPlain (take 8 (drop i list))) (n : not b ≡ false) (h : 8 ≤ length list - i) where
+      eight-at : Part (inString []) (inString []) list i (i + 8) (take 8 (drop i list))
+      unfolding ahead
+      eight-at =
+          let z = take-append-drop 8 (drop i list) in
+          let y = drop-drop 8 i list in
+          let (f, g) = rw y at (rw z at (plains (take 8 (drop i list)) (drop 8 (drop i list)) (known (sym e ∙ not-false b n)) (rw z (m .ends)))) in
+          record { splits = g; ends = f; above = omega arith; below = omega arith }
+
+      -- the part of the list that is copied
+      abbrev eight : List ℕ
+      eight = take (i + 8 - i) (drop i list)
+
+      eight-is : take 8 (drop i list) ≡ eight
+      eight-is = let z : 8 ≡ i + 8 - i = omega arith in ap (λ n. take n (drop i list)) z
+
+      eight-long : length eight ≡ 8
+      eight-long = simp (length-take, length-drop) (omega arith)
+
+      pub room-eight : j + length eight ≤ length o
+      room-eight = room-part r m (rw eight-is at eight-at)
+
+      pub moved-eight : {o′ : List ℕ} → o′ ≡ take j o ++ eight ++ drop (j + length eight) o → Moved p (inString []) list at out to (i + 8) (j + 8) o′
+      moved-eight g = moved-part r m (rw eight-is at eight-at) (omega (arith, eight-long)) (g ∙ sym (over-at j eight o room-eight))
+
+    -- its quotation mark
+    pub moved-mark : getD list i 0 ≡ 0x22 → Moved p afterValue list at out to (i + 1) j o
+    moved-mark e = moved-part r m (mark-at list i (m .ends) e) (omega arith) (sym (over-nil j o))
+
+-- ---- the parts of a string
+
+module _ {list : List ℕ} {at : ℕ} {out : List ℕ} {to : ℕ} (r : Ready (inString []) list at out to) where
+  pub first-byte : at < length list
+  first-byte = more-bytes r (moved-none r)
+
+  module _ (s : getD list at 0 ≡ 0x5C) where
+    slash-moved : Moved (inString []) (afterEscape []) list at out to (at + 1) to out
+    slash-moved = moved-part r (moved-none r) (slash-at list at (r .ends) s) (omega arith) (sym (over-nil to out))
+
+    pub escape-ready : Ready (afterEscape []) list (at + 1) out to
+    escape-ready = ready-then slash-moved r
+
+    pub escape-well : T (wellFormed (drop (at + 1) list))
+    escape-well =
+        let h = first-byte in
+        known
+        (sym (ascii-on 0x5C (drop (at + 1) list) (omega arith))
+        ∙ ap (λ b. wellFormed (b ∷ drop (at + 1) list)) (sym s)
+        ∙ ap wellFormed (sym (at-byte list at h))
+        ∙ starts list at (Of 0 0x80 0xBF) tt (holds (wellFormed list) (r .well)) h (omega arith))
+
+    module _ {i j : ℕ} {o : List ℕ} (m : Moved (afterEscape []) (inString []) list (at + 1) out to i j o) where
+      pub escape-then : Moved (inString []) (inString []) list at out to i j o
+      escape-then = moved-then slash-moved m
+
+  module _ (n : eqb (getD list at 0) 0x22 ≡ false) (s : getD list at 0 ≡ 0x5C → ⊥) where
+    no-mark : getD list at 0 ≡ 0x22 → ⊥
+    no-mark e = true≢false (sym (eq-eqb (getD list at 0) 0x22 e) ∙ n)
+
+    pub byte-room : to < length out
+    byte-room = room-byte r (moved-none r) no-mark s
+
+    byte-moved : Moved (inString []) (inString []) list at out to (at + 1) (to + 1) (set out to (getD list at 0))
+    byte-moved = moved-byte r (moved-none r) no-mark s
+
+    pub byte-ready : Ready (inString []) list (at + 1) (set out to (getD list at 0)) (to + 1)
+    byte-ready = ready-then byte-moved r
+
+    module _ {i j : ℕ} {o : List ℕ} (m : Moved (inString []) (inString []) list (at + 1) (set out to (getD list at 0)) (to + 1) i j o) where
+      pub byte-then : Moved (inString []) (inString []) list at out to i j o
+      byte-then = moved-then byte-moved m
+
+      pub byte-same : length o ≡ length out
+      byte-same = byte-then .same
+
+-- ---- escapes
+
+module _ {list : List ℕ} {at : ℕ} {out : List ℕ} {to : ℕ} (r : Ready (afterEscape []) list at out to) (w : T (wellFormed (drop at list)))
+    {x : Escaped} (z : EscapeAt afterEscape list at x) where
+  pub code-small : x .code < 0x110000
+  code-small =
+      ⊎-elim
+      (λ l. absurd (true≢false (ap₂ _&&_ (sym (holds (wellFormed (drop at list)) w)) (sym (r .ends)) ∙ z .fails (omega (arith, z .few)) [])))
+      (λ l. l)
+      (le-or-lt 0x110000 (x .code))
+
+  escape-at : Part (afterEscape []) (inString []) list at (x .to) (encodeScalar (x .code))
+  unfolding ahead
+  escape-at =
+      let o = z .onward code-small [] in
+      let (e, f) = held (encodeScalar (x .code)) (drop (x .to) list) (sym (ap isEnd (o .to)) ∙ r .ends) in
+      record { splits = ap texts (o .has) ∙ f; ends = e; above = omega (arith, z .wide code-small); below = z .there code-small }
+
+  pub room-scalar : to + length (encodeScalar (x .code)) ≤ length out
+  room-scalar = room-part r (moved-none r) escape-at
+
+  pub moved-scalar : {j : ℕ} {o : List ℕ} → o ≡ over to (encodeScalar (x .code)) out → j ≡ to + length (encodeScalar (x .code)) → Moved (afterEscape []) (inString []) list at out to (x .to) j o
+  moved-scalar h b = moved-part r (moved-none r) escape-at b h
+
+-- ---- the whole list
+
+-- the list is read to i, where no string goes on, and its texts so far are copied
+pub record Between (list out₀ : List ℕ) (at i to : ℕ) (out : List ℕ) : Type 0 where
+  pub place : Place
+  pub apart : inside place ≡ false
+  pub moved : Moved atStart place list 0 out₀ at i to out
+
+module _ {list out₀ : List ℕ} {at : ℕ} (f : T (inForm list)) (h : at + length (texts (items atStart list)) ≤ length out₀) where
+  begun : Ready atStart list 0 out₀ at
+  unfolding ahead inForm
+  begun =
+      let (w, e) = both (wellFormed list) (isEnd (reached atStart list)) .0 f in
+      record { well = w; ends = holds (isEnd (reached atStart list)) e; there = omega arith; room = h }
+
+  pub between-none : Between list out₀ at 0 at out₀
+  between-none = record { place = atStart; apart = refl; moved = moved-none begun }
+
+  module _ {i to : ℕ} {out : List ℕ} (b : Between list out₀ at i to out) where
+    -- all is read
+    pub all-copied : length list ≤ i → out ≡ over at (texts (items atStart list)) out₀
+    unfolding ahead items
+    all-copied l =
+        let m = b .moved in
+        let z : texts (items atStart list) ≡ m .text = m .splits ∙ rw (drop-of-length-le list l) (append-nil (m .text)) in
+        m .laid ∙ ap (λ t. over at t out₀) (sym z)
+
+    module _ (l : i < length list) where
+      apart-on : (getD list i 0 ≡ 0x22 → ⊥) → Part (b .place) (next (b .place) (getD list i 0)) list i (i + 1) []
+      unfolding ahead reached
+      apart-on n =
+          let z = at-byte list i l in
+          record { splits = rw z (out-on (getD list i 0) n (b .place) (drop (i + 1) list) (b .apart)); ends = rw z at (b .moved .ends); above = omega arith; below = omega arith }
+
+      -- a byte between strings
+      pub between-byte : (getD list i 0 ≡ 0x22 → ⊥) → Between list out₀ at (i + 1) to out
+      between-byte n =
+          record {
+            place = next (b .place) (getD list i 0);
+            apart = out-byte (getD list i 0) n (b .place) (b .apart) .0;
+            moved = moved-part begun (b .moved) (apart-on n) (omega arith) (sym (over-nil to out));
+          }
+
+      module _ (e : getD list i 0 ≡ 0x22) where
+        mark-begins : Part (b .place) (inString []) list i (i + 1) []
+        unfolding ahead
+        mark-begins =
+            let z : drop i list ≡ 0x22 ∷ drop (i + 1) list = at-byte list i l ∙ ap (λ c. c ∷ drop (i + 1) list) e in
+            let (g, k) = mark-on (b .place) (drop (i + 1) list) (b .apart) (rw z at (b .moved .ends)) in
+            record { splits = rw z k; ends = g; above = omega arith; below = omega arith }
+
+        string-moved : Moved atStart (inString []) list 0 out₀ at (i + 1) to out
+        string-moved = moved-part begun (b .moved) mark-begins (omega arith) (sym (over-nil to out))
+
+        pub string-ready : Ready (inString []) list (i + 1) out to
+        string-ready = ready-then string-moved begun
+
+        pub between-string : {k n : ℕ} {o : List ℕ} → Moved (inString []) afterValue list (i + 1) out to k n o → Between list out₀ at k n o
+        between-string m = record { place = afterValue; apart = refl; moved = moved-then string-moved m }

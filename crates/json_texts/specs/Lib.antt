@@ -1,0 +1,2 @@
+-- json_texts
+pub mod InnerTexts
