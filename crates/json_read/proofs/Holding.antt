@@ -130,7 +130,7 @@ module _ (n k : ℕ) (e : Emitter) (o : List ℕ) {v : Bool} (j : v ≡ withinLi
 
 -- ---- `add_insert`
 
-in-bytes-reverse : (s u : Seq) → map inBytes (reverseAux s u) ≡ reverseAux (map inBytes s) (map inBytes u)
+pub in-bytes-reverse : (s u : Seq) → map inBytes (reverseAux s u) ≡ reverseAux (map inBytes s) (map inBytes u)
 in-bytes-reverse [] u = refl
 in-bytes-reverse (o ∷ s) u = in-bytes-reverse s (o ∷ u)
 
