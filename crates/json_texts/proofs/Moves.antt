@@ -1,26 +1,23 @@
 -- Text copied, one part behind another.
-use Prim.Native.Nat.{ℕ, zero, suc, _+_, _-_, _≤_, _<_}
+use Prim.Native.Nat.{ℕ, _+_, _-_, _≤_, _<_}
 use native.Mathlib.Omega.{arith}
 use mathlib.Core.Path.{_≡_, refl, sym, ap, ap₂, _∙_}
 use mathlib.Core.Logic.{⊎-elim}
-use mathlib.Core.Bool.{Bool, true, false, not, _&&_, false≢true, true≢false}
+use mathlib.Core.Bool.{Bool, false, not, _&&_, true≢false}
 use mathlib.Core.List.{List, [], _∷_, _++_, append-assoc, append-nil}
-use lib.Dec.{T, eqb, leb}
+use lib.Dec.{T, eqb}
 use lib.ListN.{length, take, drop, getD, set, length-append, length-take, length-drop, take-append-drop, drop-of-length-le}
 use lib.Seq.{drop-drop}
 use borrow.Author.Tests.{not-false, eq-eqb}
 use Rattle.buffers.specs.Lists.{allOf}
 use Rattle.buffers.specs.InnerOver.{over}
 use Rattle.buffers.proofs.Over.{length-over, over-nil, over-join, over-at, put-in}
-use Rattle.buffers.proofs.Tests.{both, holds, known, le-and}
-use Rattle.characters.specs.declared.Lead.{Lead}
-use Rattle.characters.specs.declared.Lead.the-variants.{Bad, Of}
-use Rattle.characters.specs.Form.{within, leadOf, wellFormedFrom, wellFormed}
+use Rattle.buffers.proofs.Tests.{both, holds, known}
+use Rattle.characters.specs.declared.Lead.the-variants.{Of}
+use Rattle.characters.specs.Form.{wellFormed}
 use Rattle.characters.specs.Scalar.{encodeScalar}
-use Rattle.characters.proofs.Leads.{le-or-lt, within-bounds, sane, sane-lead}
-use Rattle.characters.proofs.Chars.{split}
+use Rattle.characters.proofs.Leads.{le-or-lt}
 use Rattle.json_lists.specs.Form.{Place, atStart, inString, afterEscape, afterValue, isEnd, next, reached, items, inForm}
-use Rattle.json_lists.specs.Grammar.{isRaw}
 use Rattle.json_lists.proofs.Reading.{inside}
 use Rattle.json_lists.proofs.Ascii.{ascii-on}
 use Rattle.json_lists.proofs.Steps.{at-byte}
@@ -28,78 +25,8 @@ use Rattle.json_strings.specs.InnerStrings.{isPlain}
 use Rattle.json_escapes.specs.declared.core.Escaped.{Escaped}
 use Rattle.json_escapes.specs.InnerEscapes.{EscapeAt}
 use Rattle.json_texts.specs.InnerTexts.{texts, ahead, Ready, Moved}
-use Rattle.json_texts.proofs.Texts.{held, raw-byte, quotation-mark, backslash, out-byte, out-on, mark-on}
-
--- ---- well-formed text
-
--- a byte below 80 begins a character of well-formed text
-starts : (t : List ℕ) (i : ℕ) (x : Lead) → T (sane x) → wellFormedFrom t x ≡ true → i < length t → getD t i 0 < 0x80 → wellFormed (drop i t) ≡ true
-starts [] i x s e h l = absurd (omega arith)
-starts (b ∷ t) i Bad s e h l = absurd (false≢true e)
-starts (b ∷ t) zero (Of zero lo hi) s e h l = e
-starts (b ∷ t) (suc i) (Of zero lo hi) s e h l = starts t i (leadOf b) (sane-lead b) e (omega arith) l
-starts (b ∷ t) zero (Of (suc n) lo hi) s e h l =
-    let (k, _) = within-bounds lo hi b (known (split (within lo hi b) (wellFormedFrom t (Of n 0x80 0xBF)) e .0)) in
-    let (m, _) = le-and 0x80 lo (leb hi 0xBF) .0 s in
-    absurd (omega arith)
-starts (b ∷ t) (suc i) (Of (suc n) lo hi) s e h l =
-    starts t i (Of n 0x80 0xBF) tt (split (within lo hi b) (wellFormedFrom t (Of n 0x80 0xBF)) e .1) (omega arith) l
-
--- ---- positions of the list
-
--- text that stands in the list from one position to another
-record Part (q s : Place) (list : List ℕ) (i k : ℕ) (xs : List ℕ) : Type 0 where
-  splits : ahead q list i ≡ xs ++ ahead s list k
-  ends : isEnd (reached s (drop k list)) ≡ true
-  above : i ≤ k
-  below : k ≤ length list
-
--- bytes are left where a string goes on
-in-string : (list : List ℕ) (i : ℕ) → isEnd (reached (inString []) (drop i list)) ≡ true → i < length list
-unfolding reached
-in-string list i e =
-    ⊎-elim (λ h. absurd (false≢true (sym (ap (λ bs. isEnd (reached (inString []) bs)) (drop-of-length-le list h)) ∙ e))) (λ h. h) (le-or-lt (length list) i)
-
-module _ (list : List ℕ) (i : ℕ) (e : isEnd (reached (inString []) (drop i list)) ≡ true) where
-  -- a byte that stands for itself
-  raw-at : (getD list i 0 ≡ 0x22 → ⊥) → (getD list i 0 ≡ 0x5C → ⊥)
-      → (isEnd (reached (inString []) (drop (i + 1) list)) ≡ true) × (ahead (inString []) list i ≡ getD list i 0 ∷ ahead (inString []) list (i + 1))
-  unfolding ahead
-  raw-at n m =
-      let z = at-byte list i (in-string list i e) in
-      rw z (raw-byte (getD list i 0) (drop (i + 1) list) n m (rw z at e))
-
-  -- its quotation mark, and a backslash
-  mark-at : getD list i 0 ≡ 0x22 → Part (inString []) afterValue list i (i + 1) []
-  unfolding ahead
-  mark-at b =
-      let h = in-string list i e in
-      let z : drop i list ≡ 0x22 ∷ drop (i + 1) list = at-byte list i h ∙ ap (λ c. c ∷ drop (i + 1) list) b in
-      let (f, g) = quotation-mark (drop (i + 1) list) in
-      record { splits = rw z g; ends = sym f ∙ (rw z at e); above = omega arith; below = omega arith }
-
-  slash-at : getD list i 0 ≡ 0x5C → Part (inString []) (afterEscape []) list i (i + 1) []
-  unfolding ahead
-  slash-at b =
-      let h = in-string list i e in
-      let z : drop i list ≡ 0x5C ∷ drop (i + 1) list = at-byte list i h ∙ ap (λ c. c ∷ drop (i + 1) list) b in
-      let (f, g) = backslash (drop (i + 1) list) in
-      record { splits = rw z g; ends = sym f ∙ (rw z at e); above = omega arith; below = omega arith }
-
--- plain bytes
-plain-raw : (b : ℕ) → T (isPlain b) → (b ≡ 0x22 → ⊥) × (b ≡ 0x5C → ⊥)
-unfolding isPlain isRaw
-plain-raw b h = (λ e. rw e at h, λ e. rw e at h)
-
-plains : (xs bs : List ℕ) → T (allOf isPlain xs) → isEnd (reached (inString []) (xs ++ bs)) ≡ true
-    → (isEnd (reached (inString []) bs) ≡ true) × (texts (items (inString []) (xs ++ bs)) ≡ xs ++ texts (items (inString []) bs))
-plains [] bs h e = (e, refl)
-plains (b ∷ xs) bs h e =
-    let (p, k) = both (isPlain b) (allOf isPlain xs) .0 h in
-    let (n, m) = plain-raw b p in
-    let (f, g) = raw-byte b (xs ++ bs) n m e in
-    let (f₁, g₁) = plains xs bs k f in
-    (f₁, g ∙ ap (λ l. b ∷ l) g₁)
+use Rattle.json_texts.proofs.Texts.{held, out-byte, out-on, mark-on}
+use Rattle.json_texts.proofs.Positions.{starts, Part, in-string, raw-at, mark-at, slash-at, plains}
 
 -- ---- steps
 
@@ -118,7 +45,8 @@ module _ {p : Place} {list : List ℕ} {at : ℕ} {out : List ℕ} {to : ℕ} wh
         same = refl;
       }
 
-  pub moved-then : {q s : Place} {i j k l : ℕ} {o o′ : List ℕ} → Moved p q list at out to i j o → Moved q s list i o j k l o′ → Moved p s list at out to k l o′
+  pub moved-then : {q s : Place} {i j k l : ℕ} {o o′ : List ℕ}
+      → Moved p q list at out to i j o → Moved q s list i o j k l o′ → Moved p s list at out to k l o′
   moved-then {q} {s} {i} {j} {k} {l} {o} {o′} m n =
       record {
         text = m .text ++ n .text;
@@ -141,7 +69,8 @@ module _ {p : Place} {list : List ℕ} {at : ℕ} {out : List ℕ} {to : ℕ} wh
         room = omega (arith, ap length (m .splits) ∙ length-append (m .text) (ahead q list i));
       }
 
-  module _ {q s : Place} {i j k : ℕ} {o xs : List ℕ} (r : Ready p list at out to) (m : Moved p q list at out to i j o) (t : Part q s list i k xs) where
+  module _ {q s : Place} {i j k : ℕ} {o xs : List ℕ}
+      (r : Ready p list at out to) (m : Moved p q list at out to i j o) (t : Part q s list i k xs) where
     room-part : j + length xs ≤ length o
     room-part = omega (arith, ready-then m r .room, ap length (t .splits) ∙ length-append xs (ahead s list k))
 
@@ -184,7 +113,8 @@ module _ {p : Place} {list : List ℕ} {at : ℕ} {out : List ℕ} {to : ℕ} wh
       eight-at =
           let z = take-append-drop 8 (drop i list) in
           let y = drop-drop 8 i list in
-          let (f, g) = rw y at (rw z at (plains (take 8 (drop i list)) (drop 8 (drop i list)) (known (sym e ∙ not-false b n)) (rw z (m .ends)))) in
+          let x = plains (take 8 (drop i list)) (drop 8 (drop i list)) (known (sym e ∙ not-false b n)) (rw z (m .ends)) in
+          let (f, g) = rw y at (rw z at x) in
           record { splits = g; ends = f; above = omega arith; below = omega arith }
 
       -- the part of the list that is copied
@@ -200,7 +130,8 @@ module _ {p : Place} {list : List ℕ} {at : ℕ} {out : List ℕ} {to : ℕ} wh
       pub room-eight : j + length eight ≤ length o
       room-eight = room-part r m (rw eight-is at eight-at)
 
-      pub moved-eight : {o′ : List ℕ} → o′ ≡ take j o ++ eight ++ drop (j + length eight) o → Moved p (inString []) list at out to (i + 8) (j + 8) o′
+      pub moved-eight : {o′ : List ℕ} → o′ ≡ take j o ++ eight ++ drop (j + length eight) o
+          → Moved p (inString []) list at out to (i + 8) (j + 8) o′
       moved-eight g = moved-part r m (rw eight-is at eight-at) (omega (arith, eight-long)) (g ∙ sym (over-at j eight o room-eight))
 
     -- its quotation mark
@@ -260,7 +191,8 @@ module _ {list : List ℕ} {at : ℕ} {out : List ℕ} {to : ℕ} (r : Ready (af
   pub code-small : x .code < 0x110000
   code-small =
       ⊎-elim
-      (λ l. absurd (true≢false (ap₂ _&&_ (sym (holds (wellFormed (drop at list)) w)) (sym (r .ends)) ∙ z .fails (omega (arith, z .few)) [])))
+      (λ l. absurd
+      (true≢false (ap₂ _&&_ (sym (holds (wellFormed (drop at list)) w)) (sym (r .ends)) ∙ z .fails (omega (arith, z .few)) [])))
       (λ l. l)
       (le-or-lt 0x110000 (x .code))
 
@@ -274,7 +206,8 @@ module _ {list : List ℕ} {at : ℕ} {out : List ℕ} {to : ℕ} (r : Ready (af
   pub room-scalar : to + length (encodeScalar (x .code)) ≤ length out
   room-scalar = room-part r (moved-none r) escape-at
 
-  pub moved-scalar : {j : ℕ} {o : List ℕ} → o ≡ over to (encodeScalar (x .code)) out → j ≡ to + length (encodeScalar (x .code)) → Moved (afterEscape []) (inString []) list at out to (x .to) j o
+  pub moved-scalar : {j : ℕ} {o : List ℕ} → o ≡ over to (encodeScalar (x .code)) out → j ≡ to + length (encodeScalar (x .code))
+      → Moved (afterEscape []) (inString []) list at out to (x .to) j o
   moved-scalar h b = moved-part r (moved-none r) escape-at b h
 
 -- ---- the whole list
@@ -309,7 +242,12 @@ module _ {list out₀ : List ℕ} {at : ℕ} (f : T (inForm list)) (h : at + len
       unfolding ahead reached
       apart-on n =
           let z = at-byte list i l in
-          record { splits = rw z (out-on (getD list i 0) n (b .place) (drop (i + 1) list) (b .apart)); ends = rw z at (b .moved .ends); above = omega arith; below = omega arith }
+          record {
+            splits = rw z (out-on (getD list i 0) n (b .place) (drop (i + 1) list) (b .apart));
+            ends = rw z at (b .moved .ends);
+            above = omega arith;
+            below = omega arith;
+          }
 
       -- a byte between strings
       pub between-byte : (getD list i 0 ≡ 0x22 → ⊥) → Between list out₀ at (i + 1) to out

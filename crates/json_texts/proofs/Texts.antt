@@ -1,14 +1,13 @@
 -- The texts that are still to be copied, from one position of a list to the next.
-use Prim.Native.Nat.{ℕ, zero, suc, _+_, _*_, _≤_, _<_}
-use native.Mathlib.Omega.{arith}
-use mathlib.Core.Path.{_≡_, refl, sym, ap, ap₂, _∙_}
-use mathlib.Core.Bool.{Bool, true, false, cond, not, _&&_, _||_, false≢true, true≢false}
+use Prim.Native.Nat.{ℕ, zero, suc, _+_, _*_}
+use mathlib.Core.Path.{_≡_, refl, sym, ap, _∙_}
+use mathlib.Core.Bool.{Bool, true, false, cond, _||_, false≢true, true≢false}
 use mathlib.Core.List.{List, [], _∷_, _++_, append-assoc, append-nil}
 use mathlib.Core.Option.{Option, none, some}
 use mathlib.Core.Logic.{_⊎_, inl, inr, ⊎-elim}
 use lib.Dec.{T, ltb, eqb}
 use borrow.Author.Tests.{ne-eqb}
-use Rattle.json_lists.specs.Form.{Sign, Item, number, string, isSpace, isDigit, isDigit1-9, isHex, hexValue, isHigh, isLow, paired}
+use Rattle.json_lists.specs.Form.{Sign, Item, number, string, isSpace, isDigit, isDigit1-9, isHex, hexValue, isHigh, isLow}
 use Rattle.json_lists.specs.Form.{Place, atStart, afterBracket, afterComma, afterMinus, inNumber, inString, afterEscape}
 use Rattle.json_lists.specs.Form.{inUnicode, afterHigh, afterHighEscape, afterValue, atEnd, outside, isEnd}
 use Rattle.json_lists.specs.Form.{begins, follows as after, named, counted, next, ends, reached, items}
@@ -68,7 +67,8 @@ module _ (s : List ℕ) where
   longer-next afterComma b h = absurd h
   longer-next afterMinus b h = absurd h
   longer-next (inNumber g n) b h = absurd h
-  longer-next (inString t) b h = either (eqb b 0x22) _ _ refl (either (eqb b 0x5C) _ _ refl (either (ltb b 0x20) _ _ refl (text-then t (b ∷ []))))
+  longer-next (inString t) b h =
+      either (eqb b 0x22) _ _ refl (either (eqb b 0x5C) _ _ refl (either (ltb b 0x20) _ _ refl (text-then t (b ∷ []))))
   longer-next (afterEscape t) b h =
       either (eqb b 0x22 || eqb b 0x5C || eqb b 0x2F) _ _ (text-then t (b ∷ []))
       (either (eqb b 0x62) _ _ (text-then t (0x08 ∷ []))
@@ -117,13 +117,15 @@ module _ (s : List ℕ) where
   counted-stays high (suc due) v t = λ _. stays
 
   string-stays : (t u : List ℕ) (x y z : Bool) → (cond x afterValue (cond y (afterEscape t) (cond z outside (inString u))) ≡ outside → ⊥)
-      → texts (cond x (string (s ++ t) ∷ []) []) ++ front (cond x afterValue (cond y (afterEscape t) (cond z outside (inString u)))) ≡ s ++ texts (cond x (string t ∷ []) [])
+      → texts (cond x (string (s ++ t) ∷ []) []) ++ front (cond x afterValue (cond y (afterEscape t) (cond z outside (inString u))))
+      ≡ s ++ texts (cond x (string t ∷ []) [])
   string-stays t u true y z h = simp append-nil
   string-stays t u false true z h = stays
   string-stays t u false false true h = absurd (h refl)
   string-stays t u false false false h = stays
 
-  fate : (p : Place) (b : ℕ) → T (inside p) → (next p b ≡ outside → ⊥) → texts (ends (longer s p) b) ++ front (next p b) ≡ s ++ texts (ends p b)
+  fate : (p : Place) (b : ℕ) → T (inside p) → (next p b ≡ outside → ⊥)
+      → texts (ends (longer s p) b) ++ front (next p b) ≡ s ++ texts (ends p b)
   unfolding next ends
   fate atStart b h = absurd h
   fate afterBracket b h = absurd h
@@ -138,7 +140,8 @@ module _ (s : List ℕ) where
       (λ _. cond-elim Stays (eqb b 0x6E) (λ _ _. stays)
       (λ _. cond-elim Stays (eqb b 0x72) (λ _ _. stays)
       (λ _. cond-elim Stays (eqb b 0x74) (λ _ _. stays) (λ _. cond-elim Stays (eqb b 0x75) (λ _ _. stays) (λ _ h. absurd (h refl))))))))
-  fate (inUnicode high due v t) b h = cond-elim Stays (isHex b) (λ _. counted-stays high due (v * 16 + hexValue b) t) (λ _ h. absurd (h refl))
+  fate (inUnicode high due v t) b h =
+      cond-elim Stays (isHex b) (λ _. counted-stays high due (v * 16 + hexValue b) t) (λ _ h. absurd (h refl))
   fate (afterHigh high t) b h = cond-elim Stays (eqb b 0x5C) (λ _ _. stays) (λ _ h. absurd (h refl))
   fate (afterHighEscape high t) b h = cond-elim Stays (eqb b 0x75) (λ _ _. stays) (λ _ h. absurd (h refl))
   fate afterValue b h = absurd h
@@ -149,7 +152,8 @@ module _ (s : List ℕ) where
   abbrev Follows : Place → List ℕ → List ℕ → Type 0
   Follows p bs t = (isEnd (reached p bs) ≡ true) × (texts (items (longer s p) bs) ≡ t ++ texts (items p bs))
 
-  follows-front : (p : Place) (bs : List ℕ) → isEnd (reached (longer s p) bs) ≡ true → (T (inside p) → Follows p bs s) → Follows p bs (front p)
+  follows-front : (p : Place) (bs : List ℕ) → isEnd (reached (longer s p) bs) ≡ true → (T (inside p) → Follows p bs s)
+      → Follows p bs (front p)
   follows-front atStart bs e ih = (e, refl)
   follows-front afterBracket bs e ih = (e, refl)
   follows-front afterComma bs e ih = (e, refl)
@@ -197,17 +201,22 @@ raw-byte b bs n m e =
     rw (ne-eqb b 0x22 n, ne-eqb b 0x5C m) (go (ltb b 0x20) (rw (ne-eqb b 0x22 n, ne-eqb b 0x5C m) at e))
   where
     go : (x : Bool) → isEnd (reached (cond x outside (inString (b ∷ []))) bs) ≡ true
-        → (isEnd (reached (inString []) bs) ≡ true) × (texts (items (cond x outside (inString (b ∷ []))) bs) ≡ b ∷ texts (items (inString []) bs))
+        → (isEnd (reached (inString []) bs) ≡ true)
+        × (texts (items (cond x outside (inString (b ∷ []))) bs) ≡ b ∷ texts (items (inString []) bs))
     go true k = absurd (not-outside outside bs k refl)
     go false k = held (b ∷ []) bs k
 
 -- its quotation mark
-pub quotation-mark : (bs : List ℕ) → (isEnd (reached (inString []) (0x22 ∷ bs)) ≡ isEnd (reached afterValue bs)) × (texts (items (inString []) (0x22 ∷ bs)) ≡ texts (items afterValue bs))
+pub quotation-mark : (bs : List ℕ)
+    → (isEnd (reached (inString []) (0x22 ∷ bs)) ≡ isEnd (reached afterValue bs))
+    × (texts (items (inString []) (0x22 ∷ bs)) ≡ texts (items afterValue bs))
 unfolding reached items
 quotation-mark bs = (refl, refl)
 
 -- the backslash of an escape
-pub backslash : (bs : List ℕ) → (isEnd (reached (inString []) (0x5C ∷ bs)) ≡ isEnd (reached (afterEscape []) bs)) × (texts (items (inString []) (0x5C ∷ bs)) ≡ texts (items (afterEscape []) bs))
+pub backslash : (bs : List ℕ)
+    → (isEnd (reached (inString []) (0x5C ∷ bs)) ≡ isEnd (reached (afterEscape []) bs))
+    × (texts (items (inString []) (0x5C ∷ bs)) ≡ texts (items (afterEscape []) bs))
 unfolding reached items
 backslash bs = (refl, refl)
 
@@ -221,7 +230,9 @@ module _ (b : ℕ) (n : b ≡ 0x22 → ⊥) where
   out-begins = rw (ne-eqb b 0x22 n) (cond-elim Out (eqb b 0x2D) (λ _. refl) (λ _. cond-elim Out (isDigit1-9 b) (λ _. refl) (λ _. refl)))
 
   out-follows : Out (after b)
-  out-follows = cond-elim Out (isSpace b) (λ _. refl) (λ _. cond-elim Out (eqb b 0x2C) (λ _. refl) (λ _. cond-elim Out (eqb b 0x5D) (λ _. refl) (λ _. refl)))
+  out-follows =
+      cond-elim Out (isSpace b) (λ _. refl)
+      (λ _. cond-elim Out (eqb b 0x2C) (λ _. refl) (λ _. cond-elim Out (eqb b 0x5D) (λ _. refl) (λ _. refl)))
 
   no-text : (x : Bool) (g : Sign) (m : ℕ) → texts (cond x [] (number g m ∷ [])) ≡ []
   no-text true g m = refl
@@ -271,4 +282,7 @@ unfolding reached items
 mark-on p bs o e =
     let (w, t) = mark-begins p o in
     let s = texts-join (ends p 0x22) (items (next p 0x22) bs) ∙ ap (λ l. l ++ texts (items (next p 0x22) bs)) t in
-    ⊎-elim (λ i. (sym (ap (λ q. isEnd (reached q bs)) i) ∙ e, s ∙ ap (λ q. texts (items q bs)) i)) (λ i. absurd (not-outside (next p 0x22) bs e i)) w
+    ⊎-elim
+    (λ i. (sym (ap (λ q. isEnd (reached q bs)) i) ∙ e, s ∙ ap (λ q. texts (items q bs)) i))
+    (λ i. absurd (not-outside (next p 0x22) bs e i))
+    w

@@ -1,14 +1,12 @@
 -- The bytes of a scalar value, written one behind another.
-use Prim.Native.Nat.{ℕ, suc, _+_, _/_, _%_, _≤_, _<_}
+use Prim.Native.Nat.{ℕ, _+_, _/_, _%_, _≤_, _<_}
 use native.Mathlib.Omega.{arith}
 use mathlib.Core.Path.{_≡_, refl, sym, ap, _∙_}
 use mathlib.Core.List.{List, [], _∷_, _++_}
-use lib.ListN.{length, take, drop, getD, set, length-drop}
-use lib.Seq.{take-suc, getD-drop, length-take-le}
+use lib.ListN.{length, set}
 use Rattle.buffers.specs.InnerOver.{over}
 use Rattle.buffers.proofs.Over.{over-join, put-in}
 use Rattle.characters.specs.Scalar.{encodeScalar}
-use Rattle.json_lists.proofs.Steps.{at-byte}
 use Rattle.characters.proofs.Codes.{encode-1, encode-2, encode-3, encode-4}
 
 -- one byte behind others
@@ -38,7 +36,8 @@ module _ (o : List ℕ) (at v : ℕ) where
   set-3 l h = rw (encode-3 v l (omega arith)) (three-set o at _ _ _)
 
   pub set-4 : 0x10000 ≤ v
-      → set (set (set (set o at (0xF0 + v / 262144)) (at + 1) (0x80 + v / 4096 % 64)) (at + 2) (0x80 + v / 64 % 64)) (at + 3) (0x80 + v % 64)
+      → set (set (set (set o at (0xF0 + v / 262144)) (at + 1) (0x80 + v / 4096 % 64)) (at + 2) (0x80 + v / 64 % 64))
+      (at + 3) (0x80 + v % 64)
       ≡ over at (encodeScalar v) o
   set-4 l = rw (encode-4 v l) (four-set o at _ _ _ _)
 

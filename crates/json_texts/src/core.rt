@@ -1,11 +1,11 @@
-// The texts of a list's strings, copied one behind another. The list is known to be of the form, so nothing is refused, and it is gone
-// through once.
+// The texts of a list's strings are copied one behind another. The list is known to be of the form, so nothing is refused, and one pass
+// goes over it: bytes that stand for themselves are searched for the next that doesn't and copied at the same time.
 ghost use mathlib.Core.Path.{_≡_};
+ghost use mathlib.Core.Bool.{false};
 ghost use mathlib.Core.List.{[]};
 ghost use Prim.Native.Nat.{_+_, _≤_, _<_};
 ghost use lib.Dec.{T, eqb};
-ghost use mathlib.Core.Bool.{false};
-ghost use lib.ListN.{length, take, drop, getD};
+ghost use lib.ListN.{length, drop, getD};
 ghost use Rattle.buffers.specs.InnerOver.{over};
 ghost use Rattle.characters.specs.Form.{wellFormed};
 ghost use Rattle.characters.specs.Scalar.{encodeScalar};
@@ -16,7 +16,7 @@ const QUOTATION_MARK: u8 = 0x22;
 
 const BACKSLASH: u8 = 0x5C;
 
-// The bytes of a scalar value that has two, three or four.
+// Each of these writes a scalar value that has so many bytes.
 fn two(out: &mut [u8], at: usize, code: usize)
     requires { ⌜ (0x80 ≤ code) × (code < 0x800) × (at + 2 ≤ length (now out)) ⌝ }
     ensures { λ _. ⌜ now (out .exit) ≡ over at (encodeScalar code) (now (out .entry)) ⌝ }
@@ -44,7 +44,7 @@ fn four(out: &mut [u8], at: usize, code: usize)
     out[at + 3] = (0x80 + code % 64) as u8;
 }
 
-// The bytes of a scalar value, written at `at`; the place behind them.
+// Writes the bytes of a scalar value, and gives the place behind them.
 fn write_scalar(out: &mut [u8], at: usize, code: usize) -> usize
     requires { ⌜ (code < 0x110000) × (at + length (encodeScalar code) ≤ length (now out)) ⌝ }
     ensures { λ r. ⌜ (now (out .exit) ≡ over at (encodeScalar code) (now (out .entry))) × (r ≡ at + length (encodeScalar code)) ⌝ }
@@ -66,12 +66,12 @@ fn write_scalar(out: &mut [u8], at: usize, code: usize) -> usize
 }
 
 // How far the list is read, and how far the output is filled.
-pub struct Copied {
-    pub from: usize,
-    pub to: usize,
+struct Copied {
+    from: usize,
+    to: usize,
 }
 
-// Plain ASCII of a string, eight bytes at a time.
+// Copies plain ASCII of a string, eight bytes at a time, as far as it goes on.
 fn copy_eights(list: &[u8], at: usize, out: &mut [u8], to: usize) -> Copied
     requires { ⌜ Ready (inString []) (now list) at (now out) to ⌝ }
     ensures { λ r. ⌜ Moved (inString []) (inString []) (now (list .entry)) at (now (out .entry)) to (r .from) (r .to) (now (out .exit)) ⌝ }
@@ -89,7 +89,7 @@ fn copy_eights(list: &[u8], at: usize, out: &mut [u8], to: usize) -> Copied
     Copied { from: i, to: j }
 }
 
-// Up to seven bytes of a string that stand for themselves, one at a time.
+// Copies up to seven bytes that stand for themselves, one at a time. From 80 up a byte of a string always does.
 fn copy_singles(list: &[u8], at: usize, out: &mut [u8], to: usize) -> Copied
     requires { ⌜ Ready (inString []) (now list) at (now out) to ⌝ }
     ensures { λ r. ⌜ Moved (inString []) (inString []) (now (list .entry)) at (now (out .entry)) to (r .from) (r .to) (now (out .exit)) ⌝ }
@@ -111,7 +111,7 @@ fn copy_singles(list: &[u8], at: usize, out: &mut [u8], to: usize) -> Copied
     Copied { from: i, to: j }
 }
 
-// Bytes that stand for themselves: plain ASCII eight at a time, then a few others.
+// Copies bytes that stand for themselves: plain ASCII eight at a time, then a few others.
 fn copy_run(list: &[u8], at: usize, out: &mut [u8], to: usize) -> Copied
     requires { ⌜ Ready (inString []) (now list) at (now out) to ⌝ }
     ensures { λ r. ⌜ Moved (inString []) (inString []) (now (list .entry)) at (now (out .entry)) to (r .from) (r .to) (now (out .exit)) ⌝ }
@@ -120,7 +120,7 @@ fn copy_run(list: &[u8], at: usize, out: &mut [u8], to: usize) -> Copied
     copy_singles(list, c.from, out, c.to)
 }
 
-// The character of an escape whose backslash stands before `at`.
+// Writes the character that an escape names, whose backslash stands before `at`.
 fn copy_escape(list: &[u8], at: usize, out: &mut [u8], to: usize) -> Copied
     requires { ⌜ Ready (afterEscape []) (now list) at (now out) to × T (wellFormed (drop at (now list))) ⌝ }
     ensures { λ r. ⌜ Moved (afterEscape []) (inString []) (now (list .entry)) at (now (out .entry)) to (r .from) (r .to)
@@ -134,7 +134,7 @@ fn copy_escape(list: &[u8], at: usize, out: &mut [u8], to: usize) -> Copied
     }
 }
 
-// A part of a string, before its quotation mark: an escape, or a byte and those behind it that stand for themselves too.
+// Copies what stands at `at`, before the end of a string: an escape, or a byte and others behind it that stand for themselves.
 fn copy_part(list: &[u8], at: usize, out: &mut [u8], to: usize) -> Copied
     requires { ⌜ Ready (inString []) (now list) at (now out) to × (eqb (getD (now list) at 0) 0x22 ≡ false) ⌝ }
     ensures { λ r. ⌜ Moved (inString []) (inString []) (now (list .entry)) at (now (out .entry)) to (r .from) (r .to) (now (out .exit))
@@ -148,7 +148,7 @@ fn copy_part(list: &[u8], at: usize, out: &mut [u8], to: usize) -> Copied
     copy_run(list, at + 1, out, to + 1)
 }
 
-// A string, behind its quotation mark.
+// Copies the string whose first quotation mark stands before `at`.
 fn copy_string(list: &[u8], at: usize, out: &mut [u8], to: usize) -> Copied
     requires { ⌜ Ready (inString []) (now list) at (now out) to ⌝ }
     ensures { λ r. ⌜ Moved (inString []) afterValue (now (list .entry)) at (now (out .entry)) to (r .from) (r .to) (now (out .exit)) ⌝ }
@@ -163,7 +163,7 @@ fn copy_string(list: &[u8], at: usize, out: &mut [u8], to: usize) -> Copied
     Copied { from: i + 1, to: j }
 }
 
-// The texts of all strings of a list of the form, one behind another, at `at`.
+// Copies the texts of all strings of a list to `at`, one behind another. Where no string goes on, a quotation mark begins one.
 pub fn copy_texts(list: &[u8], out: &mut [u8], at: usize)
     requires { ⌜ T (inForm (now list)) × (at + length (texts (items atStart (now list))) ≤ length (now out)) ⌝ }
     ensures { λ _. ⌜ now (out .exit) ≡ over at (texts (items atStart (now (list .entry)))) (now (out .entry)) ⌝ }

@@ -56,7 +56,13 @@ loop-less c = search needs
 loop-again : tie.Need-loop-again Inv-loop μ-loop
 loop-again c =
     let l = c .before .before .before .before .before .before in
-    moved-eight (l .before .before .before .before .before .pre) (l .before .before .loop .inv) (l .plain-eight .ensures) (c .before .before .before .before .before .if1 .left) (l .before .loop-test .taken) (c .before .before .copy-few .ensures)
+    moved-eight
+    (l .before .before .before .before .before .pre)
+    (l .before .before .loop .inv)
+    (l .plain-eight .ensures)
+    (c .before .before .before .before .before .if1 .left)
+    (l .before .loop-test .taken)
+    (c .before .before .copy-few .ensures)
 
 same-length-2 : tie.Need-same-length-2 Inv-loop μ-loop
 same-length-2 c = search needs
