@@ -31,6 +31,7 @@ use Rattle.json_texts.proofs.Positions.{starts, Part, in-string, raw-at
 -- ---- steps
 
 module _ {p : Place} {list : List ℕ} {at : ℕ} {out : List ℕ} {to : ℕ} where
+  -- nothing is copied yet
   pub moved-none : Ready p list at out to → Moved p p list at out to at to out
   moved-none r =
       record {
@@ -45,6 +46,7 @@ module _ {p : Place} {list : List ℕ} {at : ℕ} {out : List ℕ} {to : ℕ} wh
         same = refl;
       }
 
+  -- one stretch behind another
   pub moved-then : {q s : Place} {i j k l : ℕ} {o o′ : List ℕ}
       → Moved p q list at out to i j o → Moved q s list i o j k l o′ → Moved p s list at out to k l o′
   moved-then {q} {s} {i} {j} {k} {l} {o} {o′} m n =
@@ -60,6 +62,7 @@ module _ {p : Place} {list : List ℕ} {at : ℕ} {out : List ℕ} {to : ℕ} wh
         same = n .same ∙ m .same;
       }
 
+  -- what follows may be copied, too
   pub ready-then : {q : Place} {i j : ℕ} {o : List ℕ} → Moved p q list at out to i j o → Ready p list at out to → Ready q list i o j
   ready-then {q} {i} {j} {o} m r =
       record {
@@ -69,6 +72,7 @@ module _ {p : Place} {list : List ℕ} {at : ℕ} {out : List ℕ} {to : ℕ} wh
         room = omega (arith, ap length (m .splits) ∙ length-append (m .text) (ahead q list i));
       }
 
+  -- the text of a part of the list, laid over the buffer
   module _ {q s : Place} {i j k : ℕ} {o xs : List ℕ}
       (r : Ready p list at out to) (m : Moved p q list at out to i j o) (t : Part q s list i k xs) where
     room-part : j + length xs ≤ length o
@@ -95,6 +99,7 @@ module _ {p : Place} {list : List ℕ} {at : ℕ} {out : List ℕ} {to : ℕ} wh
     pub more-bytes : i < length list
     more-bytes = in-string list i (m .ends)
 
+    -- a byte that stands for itself
     module _ (n : getD list i 0 ≡ 0x22 → ⊥) (s : getD list i 0 ≡ 0x5C → ⊥) where
       byte-at : Part (inString []) (inString []) list i (i + 1) (getD list i 0 ∷ [])
       byte-at =
@@ -107,6 +112,7 @@ module _ {p : Place} {list : List ℕ} {at : ℕ} {out : List ℕ} {to : ℕ} wh
       pub moved-byte : Moved p (inString []) list at out to (i + 1) (j + 1) (set o j (getD list i 0))
       moved-byte = moved-part r m byte-at refl (put-in o j (getD list i 0))
 
+    -- eight plain bytes
     module _ {b : Bool} (e : b ≡ allOf isPlain (take 8 (drop i list))) (n : not b ≡ false) (h : 8 ≤ length list - i) where
       eight-at : Part (inString []) (inString []) list i (i + 8) (take 8 (drop i list))
       unfolding ahead
@@ -144,6 +150,7 @@ module _ {list : List ℕ} {at : ℕ} {out : List ℕ} {to : ℕ} (r : Ready (in
   pub first-byte : at < length list
   first-byte = more-bytes r (moved-none r)
 
+  -- an escape
   module _ (s : getD list at 0 ≡ 0x5C) where
     slash-moved : Moved (inString []) (afterEscape []) list at out to (at + 1) to out
     slash-moved = moved-part r (moved-none r) (slash-at list at (r .ends) s) (omega arith) (sym (over-nil to out))
@@ -164,6 +171,7 @@ module _ {list : List ℕ} {at : ℕ} {out : List ℕ} {to : ℕ} (r : Ready (in
       pub escape-then : Moved (inString []) (inString []) list at out to i j o
       escape-then = moved-then slash-moved m
 
+  -- a byte, and what is copied behind it
   module _ (n : eqb (getD list at 0) 0x22 ≡ false) (s : getD list at 0 ≡ 0x5C → ⊥) where
     no-mark : getD list at 0 ≡ 0x22 → ⊥
     no-mark e = true≢false (sym (eq-eqb (getD list at 0) 0x22 e) ∙ n)
@@ -188,6 +196,7 @@ module _ {list : List ℕ} {at : ℕ} {out : List ℕ} {to : ℕ} (r : Ready (in
 
 module _ {list : List ℕ} {at : ℕ} {out : List ℕ} {to : ℕ} (r : Ready (afterEscape []) list at out to) (w : T (wellFormed (drop at list)))
     {x : Escaped} (z : EscapeAt afterEscape list at x) where
+  -- a list of the form has no escape that names nothing
   pub code-small : x .code < 0x110000
   code-small =
       ⊎-elim
