@@ -12,12 +12,13 @@ use lib.Seq.{getD-drop}
 use Rattle.buffers.specs.Lists.{allOf}
 use Rattle.buffers.proofs.Tests.{known}
 use Rattle.characters.specs.Chars.{numChars}
-use Rattle.characters.proofs.Chars.{num-le}
+use Rattle.characters.proofs.Chars.{num-le, split}
 use Rattle.edits.specs.Op.{total, base, Op, retain}
 use Rattle.edits.specs.Built.{chained}
 use Rattle.edits.specs.Sequence.{Seq}
-use Rattle.answers.specs.Answer.{refused, success, number, factOf, noopOf, unlessRefused}
+use Rattle.answers.specs.Answer.{refused, success, number, factOf, noopOf, unlessRefused, needs}
 use Rattle.answers.specs.declared.Refusal.{Refusal}
+use Rattle.answers.specs.declared.Refusal.the-variants as refusal
 use Rattle.answers.specs.declared.Fact.{Fact}
 use Rattle.answers.specs.declared.Fact.the-variants as fact
 use Rattle.answers.specs.declared.Noop.the-variants as noop
@@ -33,12 +34,16 @@ use Rattle.entries.specs.InnerTally.{HasEntries}
 use Rattle.tally.specs.declared.core.Entries.{Entries}
 use Rattle.tally.specs.declared.core.Entries.the-variants.{Unsound, Of}
 use Rattle.tally.specs.declared.core.Sums.{Sums}
-use Rattle.tally.specs.InnerSums.{sumsOf, entriesOf}
-use Rattle.tally.proofs.Summing.{found, Found}
+use Rattle.tally.specs.InnerSums.{keeps, sumsOf, entriesOf}
+use Rattle.tally.proofs.Summing.{found, Found, target-found}
 use Rattle.inserts.specs.declared.core.Inserted.{Inserted}
 use Rattle.inserts.specs.declared.core.Inserted.the-variants.{IllFormed, Chars}
 use Rattle.inserts.specs.InnerTexts.{insertedOf, Sound, Reached}
 use Rattle.inserts.proofs.Texts.{reached-room, Reach, reach}
+use Rattle.operation.specs.declared.core.Totals.{Totals}
+use Rattle.operation.specs.declared.core.Entered.{Entered}
+use Rattle.operation.specs.declared.core.Entered.the-variants as entered
+use Rattle.operation.specs.InnerEntered.{totalsOf, enteredOf}
 
 -- which enum's case is found by a test
 unsound : (b : Bool) (x : Sums) (e : Entries) → e ≡ cond b (Of x) Unsound → e ≡ Unsound → b ≡ false
@@ -73,14 +78,10 @@ pub record Agreed (r : List ℕ) (n t g : ℕ) : Type 0 where
   pub short : t ≤ maxSize
   pub small : g < 2 ^ 32
 
-pub links : (r : List ℕ) (e : Entries) → e ≡ entriesOf r → (q : Sums) → e ≡ Of q → q .ordered ≡ chained (byteOps r)
-unfolding entriesOf
-links r e p q u = ap (λ x. x .ordered) (sym (summing (allOf soundEntry (entries r)) (sumsOf r) q e p u .1)) ∙ found r .ordered
-
 module _ (r : List ℕ) (a : Bool) (pa : a ≡ inLimits r) where
-  pub check-1 : not a ≡ true → refused 1 ≡ checkCall r
-  unfolding checkCall recordFault
-  check-1 h = rw (sym pa ∙ not-true a h)
+  pub entered-1 : not a ≡ true → entered.Refused refusal.Size ≡ enteredOf r
+  unfolding enteredOf
+  entered-1 h = rw (sym pa ∙ not-true a h)
 
   module _ (h : not a ≡ false) where
     abbrev limited : inLimits r ≡ true
@@ -97,9 +98,9 @@ module _ (r : List ℕ) (a : Bool) (pa : a ≡ inLimits r) where
       has-entries = record { count-is = omega (arith, bounds); few = omega (arith, bounds); there = omega (arith, bounds) }
 
     module _ (t : ℕ) (pt : t ≡ textBytesOf r) (e : Entries) (pe : e ≡ entriesOf r) where
-      pub check-2 : e ≡ Unsound → refused 2 ≡ checkCall r
-      unfolding checkCall recordFault sound entriesOf
-      check-2 u = rw (limited, unsound (allOf soundEntry (entries r)) (sumsOf r) e pe u)
+      pub entered-2 : e ≡ Unsound → entered.Refused refusal.Entry ≡ enteredOf r
+      unfolding enteredOf sound entriesOf
+      entered-2 u = rw (limited, unsound (allOf soundEntry (entries r)) (sumsOf r) e pe u)
 
       module _ (q : Sums) (pq : e ≡ Of q) where
         given : (allOf soundEntry (entries r) ≡ true) × (sumsOf r ≡ q)
@@ -109,56 +110,127 @@ module _ (r : List ℕ) (a : Bool) (pa : a ≡ inLimits r) where
         sums : Found r q
         sums = rw (given .1) at (found r)
 
-        pub check-2′ : (q .inserts ≡ t → ⊥) → refused 2 ≡ checkCall r
-        unfolding checkCall recordFault sound
-        check-2′ u = rw (limited, given .0, ne-eqb (insertBytes (entries r)) (textBytesOf r) (λ z. u (sums .inserts ∙ z ∙ sym pt)))
+        pub entered-2′ : (q .inserts ≡ t → ⊥) → entered.Refused refusal.Entry ≡ enteredOf r
+        unfolding enteredOf sound
+        entered-2′ u = rw (limited, given .0, ne-eqb (insertBytes (entries r)) (textBytesOf r) (λ z. u (sums .inserts ∙ z ∙ sym pt)))
 
-        module _ (st : q .inserts ≡ t) where
-          adds-up : insertBytes (entries r) ≡ textBytesOf r
-          adds-up = sym (sums .inserts) ∙ st ∙ pt
+        pub entered-0 : (n : ℕ) → n ≡ opCountOf r → q .inserts ≡ t → entered.Of (record { ops = n; text = t; ordered = q .ordered; base = q .base; kept = q .kept }) ≡ enteredOf r
+        unfolding enteredOf sound totalsOf sumsOf
+        entered-0 n pn st =
+            let x = sym (given .1) in
+            rw (limited, given .0, eq-eqb (insertBytes (entries r)) (textBytesOf r) (sym (sums .inserts) ∙ st ∙ pt))
+            (λ i. entered.Of (record { ops = pn i; text = pt i; ordered = x i .ordered; base = x i .base; kept = x i .kept }))
 
-          is-sound : sound r ≡ true
-          unfolding sound
-          is-sound = rw (given .0, eq-eqb (insertBytes (entries r)) (textBytesOf r) adds-up)
+-- where the entries are refused, the record is
+module _ (r : List ℕ) (e : Entered) (pe : e ≡ enteredOf r) where
+  pub check-2 : (x : Refusal) → e ≡ entered.Refused x → refused (number x) ≡ checkCall r
+  unfolding enteredOf checkCall recordFault
+  check-2 x q = go (inLimits r) (sound r) (sym q ∙ pe)
+    where
+      go : (a b : Bool) → entered.Refused x ≡ cond a (cond b (entered.Of (totalsOf r)) (entered.Refused refusal.Entry)) (entered.Refused refusal.Size)
+          → refused (number x)
+          ≡ unlessRefused (needs a 1 (needs b 2 (needs (allOf wellInserted (byteOps r)) 3 (needs (chained (byteOps r)) 4 (needs (adds r) 5 0))))) refused (success (sizeOf r ∷ []))
+      go true true h = absurd (let z : _≡_ {A = ℕ} 0 1 = cc h in omega arith)
+      go true false h = let z : x ≡ refusal.Entry = cc h in ap (λ y. refused (number y)) z
+      go false b h = let z : x ≡ refusal.Size = cc h in ap (λ y. refused (number y)) z
 
-          pub sounds : Sound r
-          sounds = record { few = bounds .ops; short = bounds .text-bytes; room = bounds .whole; entries-sound = known (given .0); adds-up = adds-up }
+  pub of-entered : (t : Totals) → e ≡ entered.Of t → entered.Of t ≡ enteredOf r
+  of-entered t q = sym q ∙ pe
 
-          module _ (o : Inserted) (po : o ≡ insertedOf r) where
-            pub check-3 : o ≡ IllFormed → refused 3 ≡ checkCall r
-            unfolding checkCall recordFault insertedOf
-            check-3 u = rw (limited, is-sound, ill (allOf wellInserted (byteOps r)) (numChars (textOf r)) o po u)
+-- neither 1 nor 2 is found
+record Totalled (r : List ℕ) (t : Totals) : Type 0 where
+  pub in-limits : inLimits r ≡ true
+  pub is-sound : sound r ≡ true
+  pub same : t ≡ totalsOf r
 
-            module _ (c : ℕ) (pc : o ≡ Chars c) where
-              texts : (allOf wellInserted (byteOps r) ≡ true) × (numChars (textOf r) ≡ c)
-              unfolding insertedOf
-              texts = formed (allOf wellInserted (byteOps r)) (numChars (textOf r)) c o po pc
+module _ (r : List ℕ) (t : Totals) (pt : entered.Of t ≡ enteredOf r) where
+  totalled : Totalled r t
+  unfolding enteredOf
+  totalled = go (inLimits r) (sound r) refl refl pt
+    where
+      go : (a b : Bool) → inLimits r ≡ a → sound r ≡ b → entered.Of t ≡ cond a (cond b (entered.Of (totalsOf r)) (entered.Refused refusal.Entry)) (entered.Refused refusal.Size) → Totalled r t
+      go true true p q h = record { in-limits = p; is-sound = q; same = cc h }
+      go true false p q h = absurd (let z : _≡_ {A = ℕ} 0 1 = cc h in omega arith)
+      go false b p q h = absurd (let z : _≡_ {A = ℕ} 0 1 = cc h in omega arith)
 
-              pub check-4 : not (q .ordered) ≡ true → refused 4 ≡ checkCall r
-              unfolding checkCall recordFault
-              check-4 u = rw (limited, is-sound, texts .0, sym (sums .ordered) ∙ not-true (q .ordered) u)
+  in-bounds : InLimits r
+  in-bounds = limits r .0 (known (totalled .in-limits))
 
-              module _ (ml : not (q .ordered) ≡ false) (b′ : ℕ) (pb : b′ ≡ baseOf r) where
-                pub check-5 : (q .base ≡ b′ → ⊥) → refused 5 ≡ checkCall r
-                unfolding checkCall recordFault adds
-                check-5 u = rw (limited, is-sound, texts .0, sym (sums .ordered) ∙ not-false (q .ordered) ml, ne-eqb (base (byteOps r)) (baseOf r) (λ z. u (sums .base-is ∙ z ∙ sym pb)))
+  pub totals-header : 8 ≤ length r
+  totals-header = in-bounds .header
 
-                pub agreed : (n : ℕ) → n ≡ opCountOf r → q .base ≡ b′ → Agreed r n t (q .kept + c)
-                unfolding textOf
-                agreed n pn mb =
-                    record {
-                      in-limits = limited;
-                      is-sound = is-sound;
-                      texts = texts .0;
-                      chain = sym (sums .ordered) ∙ not-false (q .ordered) ml;
-                      base-is = sym (sums .base-is) ∙ mb ∙ pb;
-                      target-is = rw (texts .1) at (sums .target-is adds-up);
-                      ops = pn;
-                      text-bytes = pt;
-                      few = omega (arith, bounds);
-                      short = omega (arith, bounds);
-                      small = omega (arith, sums .less, bounds, texts .1, num-le (textOf r), length-take (textBytesOf r) (drop (textStart (opCountOf r)) r));
-                    }
+  pub totals-ops : t .ops ≡ opCountOf r
+  unfolding totalsOf
+  totals-ops = ap (λ x. x .ops) (totalled .same)
+
+  pub totals-text : t .text ≡ textBytesOf r
+  unfolding totalsOf
+  totals-text = ap (λ x. x .text) (totalled .same)
+
+  pub totals-ordered : t .ordered ≡ chained (byteOps r)
+  unfolding totalsOf
+  totals-ordered = ap (λ x. x .ordered) (totalled .same)
+
+  pub totals-few : t .ops ≤ maxOps
+  totals-few = omega (arith, in-bounds, totals-ops)
+
+  totals-base : t .base ≡ base (byteOps r)
+  unfolding totalsOf
+  totals-base = ap (λ x. x .base) (totalled .same)
+
+  totals-kept : t .kept ≡ total keeps (byteOps r)
+  unfolding totalsOf
+  totals-kept = ap (λ x. x .kept) (totalled .same)
+
+  kept-less : t .kept ≤ t .base
+  unfolding sumsOf
+  kept-less = let l : total keeps (byteOps r) ≤ base (byteOps r) = found r .less in omega (arith, totals-kept, totals-base)
+
+  entries-well : (allOf soundEntry (entries r) ≡ true) × (insertBytes (entries r) ≡ textBytesOf r)
+  unfolding sound
+  entries-well = let (x, y) = split (allOf soundEntry (entries r)) (eqb (insertBytes (entries r)) (textBytesOf r)) (totalled .is-sound) in (x, eqb-true (insertBytes (entries r)) (textBytesOf r) y)
+
+  pub totals-sound : Sound r
+  totals-sound = record { few = in-bounds .ops; short = in-bounds .text-bytes; room = in-bounds .whole; entries-sound = known (entries-well .0); adds-up = entries-well .1 }
+
+  module _ (o : Inserted) (po : o ≡ insertedOf r) where
+    pub check-3 : o ≡ IllFormed → refused 3 ≡ checkCall r
+    unfolding checkCall recordFault insertedOf
+    check-3 u = rw (totalled .in-limits, totalled .is-sound, ill (allOf wellInserted (byteOps r)) (numChars (textOf r)) o po u)
+
+    module _ (c : ℕ) (pc : o ≡ Chars c) where
+      texts : (allOf wellInserted (byteOps r) ≡ true) × (numChars (textOf r) ≡ c)
+      unfolding insertedOf
+      texts = formed (allOf wellInserted (byteOps r)) (numChars (textOf r)) c o po pc
+
+      pub check-4 : not (t .ordered) ≡ true → refused 4 ≡ checkCall r
+      unfolding checkCall recordFault
+      check-4 u = rw (totalled .in-limits, totalled .is-sound, texts .0, sym totals-ordered ∙ not-true (t .ordered) u)
+
+      module _ (ml : not (t .ordered) ≡ false) (b′ : ℕ) (pb : b′ ≡ baseOf r) where
+        pub check-5 : (t .base ≡ b′ → ⊥) → refused 5 ≡ checkCall r
+        unfolding checkCall recordFault adds
+        check-5 u = rw (totalled .in-limits, totalled .is-sound, texts .0, sym totals-ordered ∙ not-false (t .ordered) ml, ne-eqb (base (byteOps r)) (baseOf r) (λ z. u (totals-base ∙ z ∙ sym pb)))
+
+        pub agreed : t .base ≡ b′ → Agreed r (t .ops) (t .text) (t .kept + c)
+        unfolding textOf
+        agreed mb =
+            record {
+              in-limits = totalled .in-limits;
+              is-sound = totalled .is-sound;
+              texts = texts .0;
+              chain = sym totals-ordered ∙ not-false (t .ordered) ml;
+              base-is = sym totals-base ∙ mb ∙ pb;
+              target-is = ap (λ k. t .kept + k) (sym (texts .1)) ∙ ap (λ k. k + numChars (textOf r)) totals-kept ∙ target-found r (entries-well .1);
+              ops = totals-ops;
+              text-bytes = totals-text;
+              few = totals-few;
+              short = omega (arith, in-bounds, totals-text);
+              small = omega (arith, kept-less, in-bounds, texts .1, num-le (textOf r), length-take (textBytesOf r) (drop (textStart (opCountOf r)) r));
+            }
+
+pub entered-sound : (r : List ℕ) (e : Entered) → e ≡ enteredOf r → (t : Totals) → e ≡ entered.Of t → Sound r
+entered-sound r e p t q = totals-sound r t (of-entered r e p t q)
 
 module _ (r : List ℕ) (n t g : ℕ) (a : Agreed r n t g) (g′ : ℕ) (pg : g′ ≡ targetOf r) where
   pub check-5′ : (g ≡ g′ → ⊥) → refused 5 ≡ checkCall r

@@ -1,15 +1,11 @@
 // A sequence of operations as a byte record: checked, and asked for its lengths, its effect and its text.
 use answers::Fact;
 use answers::Noop;
-use answers::Refusal;
-use record::core::HEADER;
+use core::Entered;
 use record::core::INSERT;
-use record::core::MAX_OPS;
-use record::core::MAX_SIZE;
 use record::core::RETAIN;
 ghost use mathlib.Core.Path.{_≡_};
 ghost use Rattle.answers.specs.Answer.{factOf, noopOf};
-ghost use Rattle.record.specs.Record.{inLimits};
 ghost use Rattle.record.specs.Calls.{checkCall, baseCall, targetCall, noopCall, textCall};
 
 pub mod core;
@@ -18,60 +14,13 @@ pub mod core;
 pub fn check(rec: &[u8]) -> Fact
     ensures { λ r. ⌜ factOf r ≡ checkCall (now (rec .entry)) ⌝ }
 {
-    if !in_limits(rec) {
-        return Fact::Refused(Refusal::Size);
+    match core::check_entries(rec) {
+        Entered::Refused(x) => Fact::Refused(x),
+        Entered::Of(t) => {
+            let inserted = inserts::core::inserted_chars(rec, t.ops, t.text, t.ordered);
+            core::check_sums(rec, t, inserted)
+        }
     }
-    let n = layout::core::op_count(rec);
-    let text = layout::core::text_bytes(rec);
-    let tally::core::Entries::Of(sums) = tally::core::sum_up(rec, n) else {
-        return Fact::Refused(Refusal::Entry);
-    };
-    if sums.inserts != text {
-        return Fact::Refused(Refusal::Entry);
-    }
-    let inserts::core::Inserted::Chars(chars) = inserts::core::inserted_chars(
-        rec,
-        n,
-        text,
-        sums.ordered,
-    ) else {
-        return Fact::Refused(Refusal::Utf8);
-    };
-    if !sums.ordered {
-        return Fact::Refused(Refusal::Neighbours);
-    }
-    if sums.base != layout::core::base(rec) {
-        return Fact::Refused(Refusal::Sums);
-    }
-    let target = sums.kept + chars;
-    if target != layout::core::target(rec) {
-        return Fact::Refused(Refusal::Sums);
-    }
-    Fact::Is(layout::core::text_start(n) + text)
-}
-
-// Refusal 1 is not found.
-fn in_limits(rec: &[u8]) -> bool
-    ensures { λ r. ⌜ r ≡ inLimits (now (rec .entry)) ⌝ }
-{
-    if rec.len() < HEADER {
-        return false;
-    }
-    let n = layout::core::op_count(rec);
-    if MAX_OPS < n {
-        return false;
-    }
-    let text = layout::core::text_bytes(rec);
-    if MAX_SIZE < text {
-        return false;
-    }
-    if MAX_SIZE < layout::core::base(rec) {
-        return false;
-    }
-    if MAX_SIZE < layout::core::target(rec) {
-        return false;
-    }
-    layout::core::text_start(n) + text <= rec.len()
 }
 
 // How many characters the text before the edit has.

@@ -4,8 +4,8 @@ use borrow.Author.Needs.{needs}
 use native.Mathlib.Omega.{arith}
 use Rattle.record.specs.Layout.{sizeOf}
 use Rattle.record.proofs.Faults.{limits-false, limits-last}
-use Rattle.operation.proofs.in_limits.Statement.{statement}
-use Rattle.operation.proofs.in_limits.Tie as tie
+use Rattle.operation.proofs.core.in_limits.Statement.{statement}
+use Rattle.operation.proofs.core.in_limits.Tie as tie
 
 returns : tie.Need-returns
 returns c = limits-false _ (λ l. omega arith)
