@@ -11,7 +11,7 @@ ghost use Rattle.record.specs.Layout.{opCountOf, textStart, textBytesOf};
 ghost use Rattle.inserts.specs.InnerTexts.{startWell, Sound, insertedOf, Reached};
 
 // Whether no insert begins with a continuation. Where all neighbours may stand so, none stands directly behind another.
-fn start_well(rec: &[u8], n: usize, ordered: bool) -> bool
+pub fn start_well(rec: &[u8], n: usize, ordered: bool) -> bool
     requires { ⌜ (n ≡ opCountOf (now rec)) × (ordered ≡ chained (byteOps (now rec))) × Sound (now rec) ⌝ }
     ensures { λ r. ⌜ r ≡ startWell (entries (now (rec .entry))) (drop (textStart n) (now (rec .entry))) ⌝ }
 {

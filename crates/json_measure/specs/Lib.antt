@@ -1,0 +1,2 @@
+-- json_measure
+pub mod InnerSizes

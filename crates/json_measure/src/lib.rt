@@ -1,0 +1,3 @@
+// A record is checked, and its list is measured.
+
+pub mod core;
