@@ -1,0 +1,4 @@
+-- json_write
+pub mod Numbers
+pub mod Values
+pub mod Lists

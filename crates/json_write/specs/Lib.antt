@@ -1,0 +1,2 @@
+-- json_write
+pub mod InnerWriting

@@ -1,0 +1,100 @@
+-- Texts, with what is escaped in them.
+use Prim.Native.Nat.{ℕ, suc, _+_, _/_, _%_, _≤_, _<_}
+use native.Mathlib.Omega.{arith}
+use mathlib.Core.Path.{_≡_, refl, sym, ap, ap₂, _∙_}
+use mathlib.Core.Bool.{Bool, true, false, _||_}
+use mathlib.Core.List.{List, [], _∷_, _++_}
+use lib.Dec.{eqb}
+use lib.ListN.{length, set, getD, take, drop, length-drop}
+use lib.Seq.{take-suc, length-take-le, getD-drop}
+use borrow.Author.Tests.{lt-ltb, le-ltb, eq-eqb, ne-eqb}
+use Rattle.buffers.specs.InnerOver.{over}
+use Rattle.buffers.proofs.Over.{over-nil, put-in}
+use Rattle.json_lists.specs.Written.{hexDigit, escaped}
+use Rattle.json_write_text.specs.InnerPutting.{Puts}
+use Rattle.json_write_text.proofs.Putting.{laid-more}
+
+-- ---- hexadecimal digits
+
+pub digit-low : (n : ℕ) → n < 10 → 0x30 + n ≡ hexDigit n
+unfolding hexDigit
+digit-low n h = rw (lt-ltb n 10 h)
+
+pub digit-high : (n : ℕ) → 10 ≤ n → 0x57 + n ≡ hexDigit n
+unfolding hexDigit
+digit-high n h = rw (le-ltb n 10 h)
+
+-- ---- one byte
+
+module _ (b : ℕ) where
+  pub backslash-mark : b ≡ 0x22 → true ≡ (eqb b 0x22 || eqb b 0x5C)
+  backslash-mark h = rw (eq-eqb b 0x22 h)
+
+  pub backslash-other : (b ≡ 0x22 → ⊥) → eqb b 0x5C ≡ (eqb b 0x22 || eqb b 0x5C)
+  backslash-other h = rw (ne-eqb b 0x22 h)
+
+  code-is : b < 0x20 → escaped b ≡ 0x5C ∷ 0x75 ∷ 0x30 ∷ 0x30 ∷ hexDigit (b / 16) ∷ hexDigit (b % 16) ∷ []
+  unfolding escaped
+  code-is h = rw (ne-eqb b 0x22 (λ e. omega arith), ne-eqb b 0x5C (λ e. omega arith), lt-ltb b 0x20 h)
+
+  module _ (t : Bool) (p : t ≡ (eqb b 0x22 || eqb b 0x5C)) where
+    mark-is : t ≡ true → escaped b ≡ 0x5C ∷ b ∷ []
+    unfolding escaped
+    mark-is e = rw (sym p ∙ e)
+
+    self-is : 0x20 ≤ b → t ≡ false → escaped b ≡ b ∷ []
+    unfolding escaped
+    self-is h e = rw (sym p ∙ e, le-ltb b 0x20 h)
+
+  module _ (o : List ℕ) (at : ℕ) where
+    pub code-room : b < 0x20 → at + length (escaped b) ≤ length o → at + 6 ≤ length o
+    code-room h r = omega (arith, ap length (code-is h))
+
+    -- `\u00` and the two digits
+    pub code-puts : (x y : ℕ) → b < 0x20 → x ≡ hexDigit (b / 16) → y ≡ hexDigit (b % 16)
+        → Puts at (escaped b) o (at + 6) (set (set (set (set (set (set o at 0x5C) (at + 1) 0x75) (at + 2) 0x30) (at + 3) 0x30) (at + 4) x) (at + 5) y)
+    code-puts x y h p q =
+        let e : 0x5C ∷ 0x75 ∷ 0x30 ∷ 0x30 ∷ x ∷ y ∷ [] ≡ escaped b = (λ i. 0x5C ∷ 0x75 ∷ 0x30 ∷ 0x30 ∷ p i ∷ q i ∷ []) ∙ sym (code-is h) in
+        let c = laid-more at 2 _ o (laid-more at 1 _ o (put-in o at 0x5C) refl 0x75) refl 0x30 in
+        let d = laid-more at 5 _ o (laid-more at 4 _ o (laid-more at 3 _ o c refl 0x30) refl x) refl y in
+        record { ends = ap (λ l. at + length l) e; wrote = d ∙ ap (λ l. over at l o) e }
+
+    module _ (t : Bool) (p : t ≡ (eqb b 0x22 || eqb b 0x5C)) where
+      pub mark-room : t ≡ true → at + length (escaped b) ≤ length o → at + 2 ≤ length o
+      mark-room e r = omega (arith, ap length (mark-is t p e))
+
+      pub mark-puts : t ≡ true → Puts at (escaped b) o (at + 2) (set (set o at 0x5C) (at + 1) b)
+      mark-puts e =
+          let f = sym (mark-is t p e) in
+          record { ends = ap (λ l. at + length l) f; wrote = laid-more at 1 _ o (put-in o at 0x5C) refl b ∙ ap (λ l. over at l o) f }
+
+      pub self-room : 0x20 ≤ b → t ≡ false → at + length (escaped b) ≤ length o → at + 1 ≤ length o
+      self-room h e r = omega (arith, ap length (self-is t p h e))
+
+      pub self-puts : 0x20 ≤ b → t ≡ false → Puts at (escaped b) o (at + 1) (set o at b)
+      self-puts h e =
+          let f = sym (self-is t p h e) in
+          record { ends = ap (λ l. at + length l) f; wrote = put-in o at b ∙ ap (λ l. over at l o) f }
+
+-- ---- eight bytes
+
+module _ (o : List ℕ) (at : ℕ) (s : List ℕ) (from : ℕ) where
+  copied-more : (k : ℕ) {o₁ : List ℕ} → from + k < length s → o₁ ≡ over at (take k (drop from s)) o → set o₁ (at + k) (getD s (from + k) 0) ≡ over at (take (suc k) (drop from s)) o
+  copied-more k h p =
+      let l : k < length (drop from s) = simp length-drop (omega arith) in
+      laid-more at k (take k (drop from s)) o p (length-take-le k (drop from s) (omega arith)) (getD s (from + k) 0)
+      ∙ ap (λ b. over at (take k (drop from s) ++ (b ∷ [])) o) (sym (getD-drop from s k 0))
+      ∙ ap (λ l. over at l o) (sym (take-suc (drop from s) k 0 l))
+
+  copied-one : from < length s → set o at (getD s from 0) ≡ over at (take 1 (drop from s)) o
+  copied-one h =
+      let x : at ≡ at + 0 = omega arith in
+      let y : from ≡ from + 0 = omega arith in
+      ap₂ (λ i j. set o i (getD s j 0)) x y ∙ copied-more 0 (omega arith) (sym (over-nil at o))
+
+  pub copied-eight : from + 8 ≤ length s
+      → set (set (set (set (set (set (set (set o at (getD s from 0)) (at + 1) (getD s (from + 1) 0)) (at + 2) (getD s (from + 2) 0)) (at + 3) (getD s (from + 3) 0)) (at + 4) (getD s (from + 4) 0)) (at + 5) (getD s (from + 5) 0)) (at + 6) (getD s (from + 6) 0)) (at + 7) (getD s (from + 7) 0)
+      ≡ over at (take 8 (drop from s)) o
+  copied-eight h =
+      let x = copied-more 3 (omega arith) (copied-more 2 (omega arith) (copied-more 1 (omega arith) (copied-one (omega arith)))) in
+      copied-more 7 (omega arith) (copied-more 6 (omega arith) (copied-more 5 (omega arith) (copied-more 4 (omega arith) x)))

@@ -1,0 +1,2 @@
+-- json_write_text
+pub mod InnerPutting
