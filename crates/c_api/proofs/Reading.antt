@@ -5,6 +5,7 @@ use native.Mathlib.Omega.{arith}
 use mathlib.Core.Bool.{true}
 use lib.Dec.{leb, T, leb→le, eqb}
 use borrow.Author.Tests.{le-leb, lt-leb}
+use mathlib.Core.Option.{Option, none as nothing, some}
 use mathlib.Core.List.{[], _∷_, List}
 use lib.ListN.{length}
 use Rattle.buffers.specs.Buffers.{atFront}
@@ -28,6 +29,9 @@ use Rattle.record.specs.Record.{ops, recordFault, encode, fits}
 use Rattle.record.specs.Calls.{checkCall, baseCall, targetCall, noEffect, noopCall}
 use Rattle.record.proofs.Faults.{InLimits, limits, faultless}
 use Rattle.operational_transform.specs.Calls.{transformCall, recordsFault, textFault, deliver, retainCall, deleteCall, insertCall, applyCall, invertCall, composeCall}
+use Rattle.json_lists.specs.Form.{Item, read}
+use Rattle.json_lists.specs.Written.{written as listOf}
+use Rattle.json_lists.specs.Calls.{opsOf, made, fromJsonCall, toJsonCall}
 use Rattle.log.specs.Log.{startOf, revisions}
 use Rattle.log.specs.Open.{openCall}
 use Rattle.session.specs.Session.{acceptCall, summaryFault, summaryCall, played, playFault, playCall}
@@ -159,6 +163,18 @@ module _ (o : List ℕ) (h : length o < 2 ^ 63) where
     pub compose-read : (s : List ℕ) → let a = composeCall r s o .answer in readOne (packed a) ≡ a
     unfolding composeCall
     compose-read s = delivered (orElse (recordsFault r s) (needs (eqb (targetOf r) (baseOf s)) 8 0)) (compose (ops r) (ops s))
+
+  pub from-json-read : (list : List ℕ) → let a = fromJsonCall list o .answer in readOne (packed a) ≡ a
+  unfolding fromJsonCall
+  from-json-read list = go (read list)
+    where
+      go : (l : Option (List Item)) → let a = made l o .answer in readOne (packed a) ≡ a
+      go nothing = written 11 [] o h
+      go (some l) = delivered 0 (opsOf l)
+
+  pub to-json-read : (r : List ℕ) → let a = toJsonCall r o .answer in readOne (packed a) ≡ a
+  unfolding toJsonCall
+  to-json-read r = written (recordFault r) (listOf (ops r)) o h
 
   pub open-read : (n : ℕ) → let a = openCall n o .answer in readOne (packed a) ≡ a
   unfolding openCall

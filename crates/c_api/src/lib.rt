@@ -7,6 +7,7 @@ ghost use Rattle.characters.specs.Chars.{numChars};
 ghost use Rattle.record.specs.Calls.{checkCall, baseCall, targetCall, noopCall, textCall, textFrom};
 ghost use Rattle.walker.specs.Walk.{stepCall};
 ghost use Rattle.operational_transform.specs.Calls.{retainCall, deleteCall, insertCall, applyCall, invertCall, composeCall, transformCall};
+ghost use Rattle.json_lists.specs.Calls.{fromJsonCall, toJsonCall};
 ghost use Rattle.log.specs.Open.{openCall};
 ghost use Rattle.session.specs.Session.{acceptCall, summaryCall, playCall};
 ghost use Rattle.packing.specs.Numbers.{packed, stepNumber, part};
@@ -102,6 +103,24 @@ pub extern "C" fn ot_insert(rec: &[u8], text: &[u8], out: &mut [u8]) -> u64
         × (now (out .exit) ≡ insertCall (now (rec .entry)) (now (text .entry)) (now (out .entry)) .out) ⌝ }
 {
     packing::core::written(builders::insert(rec, text, out))
+}
+
+// ---- lists from the browser
+
+#[no_mangle]
+pub extern "C" fn ot_from_json(list: &[u8], out: &mut [u8]) -> u64
+    ensures { λ r. ⌜ (r ≡ packed (fromJsonCall (now (list .entry)) (now (out .entry)) .answer))
+        × (now (out .exit) ≡ fromJsonCall (now (list .entry)) (now (out .entry)) .out) ⌝ }
+{
+    packing::core::written(json::from_json(list, out))
+}
+
+#[no_mangle]
+pub extern "C" fn ot_to_json(rec: &[u8], out: &mut [u8]) -> u64
+    ensures { λ r. ⌜ (r ≡ packed (toJsonCall (now (rec .entry)) (now (out .entry)) .answer))
+        × (now (out .exit) ≡ toJsonCall (now (rec .entry)) (now (out .entry)) .out) ⌝ }
+{
+    packing::core::written(json::to_json(rec, out))
 }
 
 // ---- records and texts

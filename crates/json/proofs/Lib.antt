@@ -1,2 +1,3 @@
 -- json
 pub mod Placing
+pub mod Writing

@@ -3,6 +3,7 @@
 use answers::Refusal;
 use answers::Written;
 use emitter::core::Emitter;
+use json_measure::core::Measured;
 use record::core::HEADER;
 use record::core::MAX_OPS;
 use record::core::OP_BYTES;
@@ -14,7 +15,7 @@ ghost use Rattle.answers.specs.InnerGiven.{Gives};
 ghost use Rattle.record.specs.Layout.{textStart, maxOps};
 ghost use Rattle.emitter.specs.InnerEmit.{Writes};
 ghost use Rattle.json_lists.specs.Form.{atStart, items};
-ghost use Rattle.json_lists.specs.Calls.{opsOf, fromJsonCall};
+ghost use Rattle.json_lists.specs.Calls.{opsOf, fromJsonCall, toJsonCall};
 ghost use Rattle.json.specs.InnerStages.{Placeable, Enough, smallOps};
 
 // The record of a list, whose operations stand in a stage with places for `slots` of them: its text, its operations and its sizes.
@@ -78,4 +79,28 @@ pub fn from_json(list: &[u8], out: &mut [u8]) -> Written
         return in_large_stage(list, out);
     }
     in_small_stage(list, out)
+}
+
+// The answer of `to_json`.
+fn write_measured(rec: &[u8], out: &mut [u8]) -> Written
+    ensures { λ r. ⌜ Gives (toJsonCall (now (rec .entry)) (now (out .entry))) r (now (out .exit)) ⌝ }
+{
+    match json_measure::core::measure(rec) {
+        Measured::Refused(x) => Written::Refused(x),
+        Measured::Of { ops, bytes } => {
+            if out.len() < bytes {
+                return Written::Refused(Refusal::Room);
+            }
+            json_write::core::write_list(out, rec, ops);
+            Written::Bytes(bytes)
+        }
+    }
+}
+
+// The list of a record; its own refusal where it has one, and 10 where the list has no room.
+pub fn to_json(rec: &[u8], out: &mut [u8]) -> Written
+    ensures { λ r. ⌜ (writtenOf r ≡ toJsonCall (now (rec .entry)) (now (out .entry)) .answer)
+        × (now (out .exit) ≡ toJsonCall (now (rec .entry)) (now (out .entry)) .out) ⌝ }
+{
+    write_measured(rec, out)
 }
