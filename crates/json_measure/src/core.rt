@@ -122,7 +122,7 @@ fn frame_bytes(kind: u8, count: usize) -> usize
     digits(count) + 1
 }
 
-// The same of all n values.
+// How many bytes all n values have without the inserts' texts.
 fn frames(rec: &[u8], n: usize) -> usize
     requires { ⌜ HasEntries (now rec) n ⌝ }
     ensures { λ r. ⌜ (r ≡ sumOf entryFrame (now (rec .entry)) n) × (r ≤ 6 * n) ⌝ }
@@ -138,7 +138,7 @@ fn frames(rec: &[u8], n: usize) -> usize
     sum
 }
 
-// The brackets, and the commas between n values.
+// How many brackets and commas a list of n values has.
 fn marks(n: usize) -> usize
     requires { ⌜ n ≤ maxOps ⌝ }
     ensures { λ r. ⌜ (r ≡ marksOf n) × (r ≤ n + 2) ⌝ }
@@ -152,7 +152,7 @@ pub enum Measured {
     Of { ops: usize, bytes: usize },
 }
 
-// The check from the inserted texts on.
+// The check from the inserted texts on, and the list measured.
 fn measure_texts(rec: &[u8], t: Totals) -> Measured
     requires { ⌜ Entered.Of t ≡ enteredOf (now rec) ⌝ }
     ensures { λ r. ⌜ measuredOf r ≡ measureCall (now (rec .entry)) ⌝ }
@@ -170,10 +170,11 @@ fn measure_texts(rec: &[u8], t: Totals) -> Measured
     }
 }
 
+// A record is checked, and its list is measured. (`&rec[..]`: as in `operation::check`.)
 pub fn measure(rec: &[u8]) -> Measured
     ensures { λ r. ⌜ measuredOf r ≡ measureCall (now (rec .entry)) ⌝ }
 {
-    match operation::core::check_entries(rec) {
+    match operation::core::check_entries(&rec[..]) {
         Entered::Refused(x) => Measured::Refused(x),
         Entered::Of(t) => measure_texts(rec, t),
     }

@@ -2,14 +2,20 @@
 use Prim.Native.Nat.{ℕ, suc, _+_, _/_, _%_, _≤_, _<_}
 use native.Mathlib.Omega.{arith}
 use mathlib.Core.Path.{_≡_, refl, sym, ap, ap₂, _∙_}
-use mathlib.Core.Bool.{Bool, true, false, _||_}
+use mathlib.Core.Bool.{Bool, true, false, cond, not, _&&_, _||_, and-true}
 use mathlib.Core.List.{List, [], _∷_, _++_}
-use lib.Dec.{eqb}
+use lib.Bits.{bitOr}
+use lib.Dec.{ltb, eqb}
 use lib.ListN.{length, set, getD, take, drop, length-drop}
-use lib.Seq.{take-suc, length-take-le, getD-drop}
+use lib.Seq.{take-suc, take-add, drop-drop, length-take-le, getD-drop}
 use borrow.Author.Tests.{lt-ltb, le-ltb, eq-eqb, ne-eqb}
+use Rattle.buffers.specs.Lists.{allOf}
 use Rattle.buffers.specs.InnerOver.{over}
 use Rattle.buffers.proofs.Over.{over-nil, put-in}
+use Rattle.characters.proofs.Bits.{or-zero}
+use Rattle.characters.proofs.Chars.{all-append}
+use Rattle.characters.proofs.Walk.{next}
+use Rattle.json_lists.specs.Grammar.{isRaw}
 use Rattle.json_lists.specs.Written.{hexDigit, escaped}
 use Rattle.json_write_text.specs.InnerPutting.{Puts}
 use Rattle.json_write_text.proofs.Putting.{laid-more}
@@ -98,3 +104,52 @@ module _ (o : List ℕ) (at : ℕ) (s : List ℕ) (from : ℕ) where
   copied-eight h =
       let x = copied-more 3 (omega arith) (copied-more 2 (omega arith) (copied-more 1 (omega arith) (copied-one (omega arith)))) in
       copied-more 7 (omega arith) (copied-more 6 (omega arith) (copied-more 5 (omega arith) (copied-more 4 (omega arith) x)))
+
+-- ---- bytes that stand for themselves
+
+module _ (b x y z : ℕ) (p : x ≡ cond (ltb b 0x20) 1 0) (q : y ≡ cond (eqb b 0x22) 1 0) (r : z ≡ cond (eqb b 0x5C) 1 0) where
+  pub special-none : eqb (x + y + z) 0 ≡ isRaw b
+  unfolding isRaw
+  special-none = rw (p, q, r) (go (eqb b 0x22) (eqb b 0x5C) (ltb b 0x20))
+    where
+      go : (e f g : Bool) → eqb (cond g 1 0 + cond e 1 0 + cond f 1 0) 0 ≡ (not e && (not f && not g))
+      go true true true = refl
+      go true true false = refl
+      go true false true = refl
+      go true false false = refl
+      go false true true = refl
+      go false true false = refl
+      go false false true = refl
+      go false false false = refl
+
+-- x is 0 exactly where all of the bytes do
+record Raws (x : ℕ) (bs : List ℕ) : Type 0 where
+  pub is : eqb x 0 ≡ allOf isRaw bs
+
+module _ (t : List ℕ) where
+  raw-one : (at : ℕ) {x : ℕ} → at < length t → eqb x 0 ≡ isRaw (getD t at 0) → Raws x (take 1 (drop at t))
+  raw-one at h p = record { is = p ∙ sym (and-true (isRaw (getD t at 0))) ∙ ap (λ l. allOf isRaw (take 1 l)) (sym (next t at h)) }
+
+  -- two parts next to each other
+  raw-join : (at n m j : ℕ) {x y : ℕ} → j ≡ at + n → Raws x (take n (drop at t)) → Raws y (take m (drop j t)) → Raws (bitOr x y) (take (n + m) (drop at t))
+  raw-join at n m j {x} {y} e p q =
+      record {
+        is =
+            or-zero x y
+            ∙ ap₂ _&&_ (p .is) (q .is ∙ ap (λ i. allOf isRaw (take m (drop i t))) e ∙ ap (λ l. allOf isRaw (take m l)) (sym (drop-drop n at t)))
+            ∙ sym (all-append isRaw (take n (drop at t)) (take m (drop n (drop at t))))
+            ∙ ap (allOf isRaw) (sym (take-add n m (drop at t)));
+      }
+
+  raw-two : (at j x y : ℕ) → j ≡ at + 1 → at + 2 ≤ length t → eqb x 0 ≡ isRaw (getD t at 0) → eqb y 0 ≡ isRaw (getD t j 0) → Raws (bitOr x y) (take 2 (drop at t))
+  raw-two at j x y e h p q = raw-join at 1 1 j e (raw-one at {x = x} (omega arith) p) (raw-one j {x = y} (omega arith) q)
+
+  pub raws-eight : (at a b c d e f g h : ℕ) → at + 8 ≤ length t
+      → eqb a 0 ≡ isRaw (getD t at 0) → eqb b 0 ≡ isRaw (getD t (at + 1) 0) → eqb c 0 ≡ isRaw (getD t (at + 2) 0) → eqb d 0 ≡ isRaw (getD t (at + 3) 0)
+      → eqb e 0 ≡ isRaw (getD t (at + 4) 0) → eqb f 0 ≡ isRaw (getD t (at + 5) 0) → eqb g 0 ≡ isRaw (getD t (at + 6) 0) → eqb h 0 ≡ isRaw (getD t (at + 7) 0)
+      → eqb (bitOr (bitOr (bitOr a b) (bitOr c d)) (bitOr (bitOr e f) (bitOr g h))) 0 ≡ allOf isRaw (take 8 (drop at t))
+  raws-eight at a b c d e f g h l pa pb pc pd pe pf pg ph =
+      raw-join at 4 4 (at + 4) refl
+      (raw-join at 2 2 (at + 2) refl (raw-two at (at + 1) a b refl (omega arith) pa pb) (raw-two (at + 2) (at + 3) c d (omega arith) (omega arith) pc pd))
+      (raw-join (at + 4) 2 2 (at + 6) (omega arith) (raw-two (at + 4) (at + 5) e f (omega arith) (omega arith) pe pf) (raw-two (at + 6) (at + 7) g h (omega arith) (omega arith) pg ph))
+      .is

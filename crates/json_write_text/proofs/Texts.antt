@@ -4,17 +4,15 @@ use native.Mathlib.Omega.{arith}
 use mathlib.Core.Path.{_≡_, sym, ap, _∙_}
 use mathlib.Core.Bool.{Bool, true}
 use mathlib.Core.List.{List, [], _∷_, _++_, append-nil}
-use lib.Dec.{T, ltb}
 use lib.ListN.{length, set, getD, take, drop, length-append, length-drop, length-set}
 use lib.Seq.{take-add, drop-drop, length-take-le}
 use Rattle.buffers.specs.Lists.{allOf}
 use Rattle.buffers.specs.InnerOver.{over}
-use Rattle.buffers.proofs.Tests.{both, known}
+use Rattle.buffers.proofs.Tests.{known}
 use Rattle.characters.proofs.Walk.{next}
 use Rattle.json_lists.specs.Grammar.{isRaw}
 use Rattle.json_lists.specs.Written.{escaped, escapedAll}
 use Rattle.json_lists.proofs.Lengths.{escapedAll-append, plain-extra}
-use Rattle.json_strings.specs.InnerStrings.{isPlain}
 use Rattle.json_write_text.specs.InnerPutting.{Puts, Goes, quoted}
 use Rattle.json_write_text.proofs.Putting.{puts-one, puts-join, puts-long, goes-start, goes-on, goes-end, goes-last}
 
@@ -70,17 +68,10 @@ module _ (o : List ℕ) (at : ℕ) (s : List ℕ) (from to : ℕ) (o₁ : List �
 
 -- ---- eight bytes
 
-plain-raw : (u : List ℕ) → T (allOf isPlain u) → T (allOf isRaw u)
-unfolding isPlain
-plain-raw [] h = tt
-plain-raw (b ∷ u) h =
-    let (p, q) = both (isPlain b) (allOf isPlain u) .0 h in
-    both (isRaw b) (allOf isRaw u) .1 (both (isRaw b) (ltb b 0x80) .0 p .0, plain-raw u q)
-
 module _ (o : List ℕ) (at : ℕ) (s : List ℕ) (from : ℕ) where
-  module _ (b : Bool) (p : b ≡ allOf isPlain (take 8 (drop from s))) (e : b ≡ true) (l : from + 8 ≤ length s) where
+  module _ (b : Bool) (p : b ≡ allOf isRaw (take 8 (drop from s))) (e : b ≡ true) (l : from + 8 ≤ length s) where
     themselves : escapedAll (take 8 (drop from s)) ≡ take 8 (drop from s)
-    themselves = plain-extra (take 8 (drop from s)) (plain-raw (take 8 (drop from s)) (known (sym p ∙ e)))
+    themselves = plain-extra (take 8 (drop from s)) (known (sym p ∙ e))
 
     eight-long : length (escapedAll (take 8 (drop from s))) ≡ 8
     eight-long = ap length themselves ∙ length-take-le 8 (drop from s) (simp length-drop (omega arith))

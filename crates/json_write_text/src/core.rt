@@ -1,11 +1,13 @@
 // An inserted text as a string of a list: between quotation marks, escaped where it must be, eight bytes at once where none must. Each byte
 // has its place in the output.
 ghost use mathlib.Core.Path.{_≡_};
-ghost use mathlib.Core.Bool.{_||_};
+ghost use mathlib.Core.Bool.{_||_, cond};
 ghost use Prim.Native.Nat.{_+_, _-_, _≤_, _<_};
 ghost use lib.Dec.{eqb};
 ghost use lib.ListN.{length, take, drop};
+ghost use Rattle.buffers.specs.Lists.{allOf};
 ghost use Rattle.buffers.specs.InnerOver.{over};
+ghost use Rattle.json_lists.specs.Grammar.{isRaw};
 ghost use Rattle.json_lists.specs.Written.{hexDigit, escaped, escapedAll};
 ghost use Rattle.json_write_text.specs.InnerPutting.{Puts, quoted};
 
@@ -100,12 +102,38 @@ fn copy_eight(out: &mut [u8], at: usize, rec: &[u8], from: usize)
     out[at + 7] = h;
 }
 
+// 1 where the condition holds, else 0.
+fn one_if(c: bool) -> u8
+    ensures { λ r. ⌜ (r ≡ cond c 1 0) × (r ≤ 1) ⌝ }
+{
+    if c { 1 } else { 0 }
+}
+
+// 0 where the byte stands for itself in a string.
+fn special(b: u8) -> u8
+    ensures { λ r. ⌜ eqb r 0 ≡ isRaw b ⌝ }
+{
+    one_if(b < 0x20) + one_if(b == QUOTATION_MARK) + one_if(b == BACKSLASH)
+}
+
+// Whether eight bytes stand for themselves. It is branch-free, so that the compiler vectorises it.
+fn raw_eight(rec: &[u8], at: usize) -> bool
+    requires { ⌜ at + 8 ≤ length (now rec) ⌝ }
+    ensures { λ r. ⌜ r ≡ allOf isRaw (take 8 (drop at (now (rec .entry)))) ⌝ }
+{
+    let a = special(rec[at]) | special(rec[at + 1]);
+    let b = special(rec[at + 2]) | special(rec[at + 3]);
+    let c = special(rec[at + 4]) | special(rec[at + 5]);
+    let d = special(rec[at + 6]) | special(rec[at + 7]);
+    (a | b) | (c | d) == 0
+}
+
 // Eight bytes of a text, at once where they stand for themselves: the place behind them.
 fn write_eight(out: &mut [u8], at: usize, rec: &[u8], from: usize) -> usize
     requires { ⌜ (from + 8 ≤ length (now rec)) × (at + length (escapedAll (take 8 (drop from (now rec)))) ≤ length (now out)) ⌝ }
     ensures { λ r. ⌜ Puts at (escapedAll (take 8 (drop from (now (rec .entry))))) (now (out .entry)) r (now (out .exit)) ⌝ }
 {
-    if json_strings::core::plain_eight(rec, from) {
+    if raw_eight(rec, from) {
         copy_eight(out, at, rec, from);
         return at + 8;
     }

@@ -10,11 +10,12 @@ ghost use Rattle.record.specs.Calls.{checkCall, baseCall, targetCall, noopCall,
 
 pub mod core;
 
-// How many bytes the record has, or the lowest of the refusals 1 to 5 that is found in it.
+// How many bytes the record has, or the lowest of the refusals 1 to 5 that is found in it. (`&rec[..]`: a slice that is handed on as it
+// came is copied sixteen bytes at a time, and the copy waits for the two words that were just stored.)
 pub fn check(rec: &[u8]) -> Fact
     ensures { λ r. ⌜ factOf r ≡ checkCall (now (rec .entry)) ⌝ }
 {
-    match core::check_entries(rec) {
+    match core::check_entries(&rec[..]) {
         Entered::Refused(x) => Fact::Refused(x),
         Entered::Of(t) => {
             let inserted = inserts::core::inserted_chars(rec, t.ops, t.text, t.ordered);

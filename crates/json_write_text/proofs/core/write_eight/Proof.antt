@@ -3,8 +3,8 @@ use borrow.Author.Needs.{needs}
 use Rattle.json_write_text.proofs.core.write_eight.Statement.{statement}
 use Rattle.json_write_text.proofs.core.write_eight.Tie as tie
 
-plain-eight-requires : tie.Need-plain-eight-requires
-plain-eight-requires c κs = search needs
+raw-eight-requires : tie.Need-raw-eight-requires
+raw-eight-requires c κs = search needs
 
 copy-eight-requires : tie.Need-copy-eight-requires
 copy-eight-requires c κs = (search eight-room, search needs)
@@ -34,7 +34,7 @@ pub write-eight-spec : {M : Type 1} → statement M
 write-eight-spec =
     tie.close
     (tie.spec
-    plain-eight-requires
+    raw-eight-requires
     copy-eight-requires
     add-result
     same-length
