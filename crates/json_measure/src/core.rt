@@ -7,6 +7,7 @@ use operation::core::Entered;
 use operation::core::Totals;
 use record::core::INSERT;
 use record::core::RETAIN;
+use tally::core::Entries;
 ghost use mathlib.Core.Path.{_≡_};
 ghost use Prim.Native.Nat.{_+_, _*_, _≤_, _<_};
 ghost use lib.ListN.{length};
@@ -170,11 +171,35 @@ fn measure_texts(rec: &[u8], t: Totals) -> Measured
     }
 }
 
-// A record is checked, and its list is measured. (`&rec[..]`: as in `operation::check`.)
+// `operation::core::check_entries`, with the entries summed up one by one.
+fn check_entries(rec: &[u8]) -> Entered
+    ensures { λ r. ⌜ r ≡ enteredOf (now (rec .entry)) ⌝ }
+{
+    if !operation::core::in_limits(rec) {
+        return Entered::Refused(Refusal::Size);
+    }
+    let n = layout::core::op_count(rec);
+    let text = layout::core::text_bytes(rec);
+    let Entries::Of(sums) = tally::core::sum_up_by_entry(rec, n) else {
+        return Entered::Refused(Refusal::Entry);
+    };
+    if sums.inserts != text {
+        return Entered::Refused(Refusal::Entry);
+    }
+    Entered::Of(Totals {
+        ops: n,
+        text,
+        ordered: sums.ordered,
+        base: sums.base,
+        kept: sums.kept,
+    })
+}
+
+// A record is checked, and its list is measured.
 pub fn measure(rec: &[u8]) -> Measured
     ensures { λ r. ⌜ measuredOf r ≡ measureCall (now (rec .entry)) ⌝ }
 {
-    match operation::core::check_entries(&rec[..]) {
+    match check_entries(rec) {
         Entered::Refused(x) => Measured::Refused(x),
         Entered::Of(t) => measure_texts(rec, t),
     }

@@ -16,7 +16,7 @@ ghost use Rattle.inserts.specs.InnerTexts.{insertedOf};
 ghost use Rattle.operation.specs.InnerEntered.{enteredOf};
 
 // Refusal 1 is not found.
-fn in_limits(rec: &[u8]) -> bool
+pub fn in_limits(rec: &[u8]) -> bool
     ensures { λ r. ⌜ r ≡ inLimits (now (rec .entry)) ⌝ }
 {
     if rec.len() < HEADER {
@@ -55,7 +55,7 @@ pub enum Entered {
     Of(Totals),
 }
 
-// The check, but for the inserted texts and what comes after them.
+// The check, but for the inserted texts and what comes after them. (Only `check` calls it, so that it is inlined there.)
 pub fn check_entries(rec: &[u8]) -> Entered
     ensures { λ r. ⌜ r ≡ enteredOf (now (rec .entry)) ⌝ }
 {

@@ -178,3 +178,21 @@ pub fn sum_up(rec: &[u8], n: usize) -> Entries
         kept: t.kept as usize,
     })
 }
+
+// `sum_up`, entry by entry. (A second caller of `sum_up` would have the compiler no longer inline it into the check, which every call
+// begins with.)
+pub fn sum_up_by_entry(rec: &[u8], n: usize) -> Entries
+    requires { ⌜ HasEntries (now rec) n ⌝ }
+    ensures { λ r. ⌜ r ≡ entriesOf (now (rec .entry)) ⌝ }
+{
+    let t = entries::core::tally_wide(rec, n);
+    if t.invalid != 0 {
+        return Entries::Unsound;
+    }
+    Entries::Of(Sums {
+        inserts: t.inserts as usize,
+        ordered: t.clashes == 0,
+        base: (t.all - t.inserts) as usize,
+        kept: t.kept as usize,
+    })
+}
