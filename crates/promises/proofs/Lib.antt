@@ -1,2 +1,3 @@
 -- promises
 pub mod Promises
+pub mod Requests

@@ -163,11 +163,11 @@ fn tally_all(rec: &[u8], n: usize) -> Tally
     }
 }
 
-pub fn sum_up(rec: &[u8], n: usize) -> Entries
-    requires { ⌜ HasEntries (now rec) n ⌝ }
+// What the tally of n entries comes to. (The record is what the contract speaks of.)
+fn sums_of(rec: &[u8], n: usize, t: Tally) -> Entries
+    requires { ⌜ HasEntries (now rec) n × Tallied (now rec) n t ⌝ }
     ensures { λ r. ⌜ r ≡ entriesOf (now (rec .entry)) ⌝ }
 {
-    let t = tally_all(rec, n);
     if t.invalid != 0 {
         return Entries::Unsound;
     }
@@ -179,6 +179,14 @@ pub fn sum_up(rec: &[u8], n: usize) -> Entries
     })
 }
 
+pub fn sum_up(rec: &[u8], n: usize) -> Entries
+    requires { ⌜ HasEntries (now rec) n ⌝ }
+    ensures { λ r. ⌜ r ≡ entriesOf (now (rec .entry)) ⌝ }
+{
+    let t = tally_all(rec, n);
+    sums_of(rec, n, t)
+}
+
 // `sum_up`, entry by entry. (A second caller of `sum_up` would have the compiler no longer inline it into the check, which every call
 // begins with.)
 pub fn sum_up_by_entry(rec: &[u8], n: usize) -> Entries
@@ -186,13 +194,5 @@ pub fn sum_up_by_entry(rec: &[u8], n: usize) -> Entries
     ensures { λ r. ⌜ r ≡ entriesOf (now (rec .entry)) ⌝ }
 {
     let t = entries::core::tally_wide(rec, n);
-    if t.invalid != 0 {
-        return Entries::Unsound;
-    }
-    Entries::Of(Sums {
-        inserts: t.inserts as usize,
-        ordered: t.clashes == 0,
-        base: (t.all - t.inserts) as usize,
-        kept: t.kept as usize,
-    })
+    sums_of(rec, n, t)
 }

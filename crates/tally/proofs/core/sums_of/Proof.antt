@@ -1,10 +1,7 @@
 use borrow.Author.Needs.{needs}
 use Rattle.tally.proofs.Summing.{sums-unsound, sums-found}
-use Rattle.tally.proofs.core.sum_up.Statement.{statement}
-use Rattle.tally.proofs.core.sum_up.Tie as tie
-
-tally-all-requires : tie.Need-tally-all-requires
-tally-all-requires c κs = search needs
+use Rattle.tally.proofs.core.sums_of.Statement.{statement}
+use Rattle.tally.proofs.core.sums_of.Tie as tie
 
 returns : tie.Need-returns
 returns c = search sums-unsound
@@ -24,6 +21,5 @@ cast-t8 c = search needs
 returns-2 : tie.Need-returns-2
 returns-2 c = search sums-found
 
-pub sum-up-spec : {M : Type 1} → statement M
-sum-up-spec =
-    tie.close (tie.spec tally-all-requires returns cast-t5 sub-t6 cast-t7 cast-t8 returns-2)
+pub sums-of-spec : {M : Type 1} → statement M
+sums-of-spec = tie.close (tie.spec returns cast-t5 sub-t6 cast-t7 cast-t8 returns-2)

@@ -1,0 +1,59 @@
+-- The headline theorems of document 02, each under one name, in its order. The definitions that they speak of stand in the specs of
+-- the crates that are named in the `use` lines; their proofs stand where the last line of each leads.
+use Prim.Native.Nat.{ℕ, _≤_}
+use mathlib.Core.Path.{_≡_}
+use mathlib.Core.Logic.{_↔_}
+use mathlib.Core.List.{List, [], _∷_}
+use mathlib.Core.Option.{none, some}
+use lib.Dec.{T}
+use lib.ListN.{length, take}
+use Rattle.buffers.specs.Buffers.{atFront}
+use Rattle.characters.specs.Form.{wellFormed}
+use Rattle.edits.specs.Built.{Built}
+use Rattle.edits.specs.Sequence.{Seq}
+use Rattle.answers.specs.Answer.{success, refused, succeeds}
+use Rattle.answers.specs.Output.{Out}
+use Rattle.record.specs.Layout.{sizeOf, maxRecord}
+use Rattle.record.specs.Record.{ops, recordFault}
+use Rattle.record.proofs.Records.{Bytes}
+use Rattle.record.proofs.Unread.{Alike}
+use Rattle.json_lists.specs.Form.{Item, atStart, read}
+use Rattle.json_lists.specs.Grammar.{isRaw, JsonText}
+use Rattle.json_lists.specs.Written.{escaped, written}
+use Rattle.json_lists.specs.Calls.{fromJsonCall, toJsonCall}
+use Rattle.json_lists.proofs.Reading.{tight}
+use Rattle.json_lists.proofs.Builders.{run, Agrees, StopsAtNine, by-builders, nine-for-one}
+use Rattle.json_lists.proofs.Escapes.{ByNumber, only-raw, control-escaped}
+use Rattle.json_lists.proofs.Theorems as lists
+use Rattle.json_lists.proofs.Unread as unread
+
+-- ---- M-100, lists from the browser
+
+-- A list is read exactly where it is UTF-8 that RFC 8259's rules derive, as the items that they give it,
+pub list-is-grammar : (list : List ℕ) (l : List Item) → (read list ≡ some l) ↔ (T (wellFormed list) × JsonText list l)
+list-is-grammar = lists.reads-grammar
+
+-- and 11 is the answer exactly where it isn't.
+pub list-eleven : (list out : List ℕ) → (fromJsonCall list out .answer ≡ refused 11) ↔ (read list ≡ none)
+list-eleven = lists.eleven
+
+-- "Read such a list through the builders": on their own calls, one after another, each given room for every record,
+pub list-by-builders : (list : List ℕ) (l : List Item) (room : List ℕ) → read list ≡ some l → maxRecord ≤ length room → (out : List ℕ) → Agrees (run l room) (fromJsonCall list out) out
+list-by-builders = by-builders
+
+-- and 9 for the list is 9 for one of them.
+pub list-nine : (list room out : List ℕ) → maxRecord ≤ length room → fromJsonCall list out .answer ≡ refused 9 → StopsAtNine list room
+list-nine = nine-for-one
+
+-- "Reading a written list returns the same record, for every record."
+pub list-comes-back : (rec buffer out : List ℕ) → Bytes rec → recordFault rec ≡ 0 → length (written (ops rec)) ≤ length buffer → sizeOf rec ≤ length out
+    → fromJsonCall (take (length (written (ops rec))) (toJsonCall rec buffer .out)) out ≡ record { answer = success (sizeOf rec ∷ []); out = atFront (take (sizeOf rec) rec) out }
+list-comes-back = lists.comes-back-whole
+
+-- "Write one without white space": none outside of strings,
+pub list-tight : (s : Seq) → Built s → T (tight atStart (written s))
+list-tight = lists.no-white-space
+
+-- "escaping only" what needs it, codes below 20 hexadecimal by their number.
+pub list-escapes : (b : ℕ) → (escaped b ≡ b ∷ []) ↔ T (isRaw b)
+list-escapes = only-raw
