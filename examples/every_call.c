@@ -81,6 +81,8 @@ static void accepted(uint64_t answer, struct buffer *log, struct buffer *out) {
 int main(void) {
     static const struct buffer empty = {8, {0}};
     static const struct buffer text = {6, "T\xC3\xBCr 1"}, umlaut = {2, "\xC3\xA4"}, half = {1, "\xC3"}, digits = {2, "22"};
+    static const struct buffer list = {20, "[ 4, -1, \"2\\u0032\" ]"}, pair = {20, "[\"\\\"\\ud83D\\uDE00\\t\"]"};
+    static const struct buffer zero = {6, "[4, 0]"}, far = {7, "[32769]"}, single = {10, "[\"\\ud83d\"]"};
     static struct buffer kept, cut, first, second, undo, x, y, z, log;
 
     one("ot_well_formed", ot_well_formed(IN(text)));
@@ -95,6 +97,18 @@ int main(void) {
     wrote("ot_insert", ot_insert(IN(kept), IN(umlaut), OUT(second)), &second);
     wrote("ot_retain", ot_retain(IN(kept), 32764, OUT(x)), &x);
     wrote("ot_insert", ot_insert(IN(kept), IN(half), OUT(x)), &x);
+
+    /* The first edit as a browser may send it; a text with a quotation mark, a character above U+FFFF and a tab. */
+    wrote("ot_from_json", ot_from_json(IN(list), OUT(x)), &x);
+    wrote("ot_to_json", ot_to_json(IN(x), OUT(y)), &y);
+    wrote("ot_from_json", ot_from_json(IN(pair), OUT(x)), &x);
+    wrote("ot_to_json", ot_to_json(IN(x), OUT(y)), &y);
+    wrote("ot_from_json", ot_from_json(IN(zero), OUT(y)), &y);
+    wrote("ot_from_json", ot_from_json(IN(single), OUT(y)), &y);
+    wrote("ot_from_json", ot_from_json(IN(far), OUT(y)), &y);
+    wrote("ot_from_json", ot_from_json(IN(list), filled(&y), first.len - 1), &y);
+    wrote("ot_to_json", ot_to_json(first.bytes, first.len - 1, OUT(y)), &y);
+    wrote("ot_to_json", ot_to_json(IN(first), filled(&y), 10), &y);
 
     one("ot_check", ot_check(IN(first)));
     one("ot_check", ot_check(first.bytes, first.len - 1));

@@ -9,7 +9,7 @@
    never NULL, not even where that number is 0. Every buffer is the caller's: the library keeps no pointer after a call, asks for
    no memory and has no state of its own, so that calls on different buffers may run on different threads at once. A buffer that
    is written to (not const) overlaps no other argument of the same call; two const ones may overlap. Bytes behind a record's
-   or a log's own contents aren't read, so a buffer may be longer than what stands in it.
+   or a log's own contents aren't read, so a buffer may be longer than what stands in it. A text or a list has all bytes given.
 
    Results stand at the front of their buffer, and bytes behind them are untouched. A refused call changes nothing,
    the scratch buffers of ot_play apart.
@@ -31,7 +31,7 @@
 extern "C" {
 #endif
 
-/* Why a call is refused. Operands are checked in order: records, text, log, then the rest. */
+/* Why a call is refused. Operands are checked in order: records or a list, text, log, then the rest. */
 enum ot_refusal {
     OT_BAD_SIZE = 1,       /* an edit's buffer is too short for it, or it has over 1,024 operations or another size over 32,768 */
     OT_BAD_ENTRY = 2,      /* an edit has an unknown kind or a count of 0, or its insert counts don't add up to its text */
@@ -42,14 +42,17 @@ enum ot_refusal {
     OT_NO_REVISION = 7,    /* the revision named is greater than the log's count */
     OT_LENGTHS_DIFFER = 8, /* the edit wasn't made for this text, this revision or this other edit: the lengths differ */
     OT_OVER_LIMIT = 9,     /* the result would pass a limit: 1,024 operations, 32,768 of another size, 256 revisions */
-    OT_NO_ROOM = 10        /* an output, a scratch buffer or the rest of the log's buffer is too short; nothing was written */
+    OT_NO_ROOM = 10,       /* an output, a scratch buffer or the rest of the log's buffer is too short; nothing was written */
+    OT_BAD_JSON = 11       /* the bytes are no list of the form that ot_from_json reads */
 };
 
-/* Sizes in bytes that always suffice: for an edit, a log, all counterparts of one ot_accept, a text after an edit. */
+/* Sizes in bytes that always suffice: for an edit, a log, all counterparts of one ot_accept, a text after an edit, the list that
+   ot_to_json writes. */
 #define OT_RECORD_MAX 35848
 #define OT_LOG_MAX (4 + 256 * 35848)
 #define OT_COUNTERPARTS_MAX (255 * 35848)
 #define OT_TEXT_MAX 131072
+#define OT_JSON_MAX 203778
 
 /* Reading an answer. */
 #define OT_REFUSED(answer) ((int)((uint64_t)(answer) >> 63))
@@ -89,6 +92,18 @@ uint64_t ot_insert_text(const uint8_t *rec, size_t rec_len, uint64_t k);
 uint64_t ot_retain(const uint8_t *rec, size_t rec_len, uint64_t n, uint8_t *out, size_t out_len);
 uint64_t ot_delete(const uint8_t *rec, size_t rec_len, uint64_t n, uint8_t *out, size_t out_len);
 uint64_t ot_insert(const uint8_t *rec, size_t rec_len, const uint8_t *text, size_t text_len, uint8_t *out, size_t out_len);
+
+/* ---- an edit as a JSON list (RFC 8259), as a browser sends and takes it: a positive whole number retains, a negative one
+   deletes, a string inserts; how many bytes were written */
+
+/* The edit of a list, one value after another through the builders. White space, all escapes and numbers of any length are read.
+   OT_BAD_JSON, before any other refusal, where the bytes are anything else: also for ill-formed UTF-8, a 0, a fraction, an
+   exponent or a lone surrogate. */
+uint64_t ot_from_json(const uint8_t *list, size_t list_len, uint8_t *out, size_t out_len);
+
+/* The list of an edit, which ot_from_json reads as the same record. It has no white space; a quotation mark, a backslash and the
+   codes below 20 hexadecimal are escaped, and nothing else is. */
+uint64_t ot_to_json(const uint8_t *rec, size_t rec_len, uint8_t *out, size_t out_len);
 
 /* ---- edits and texts: how many bytes were written */
 
