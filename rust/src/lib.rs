@@ -10,6 +10,9 @@ pub const RECORD: usize = 8 + 3 * 1024 + 32_768;
 pub const LOG: usize = 4 + 256 * RECORD;
 pub const COUNTERPARTS: usize = 255 * RECORD;
 
+/// A record's list has no more bytes than this: two brackets, at most seven bytes for each operation and six for each byte of text.
+pub const JSON: usize = 2 + 7 * 1024 + 6 * 32_768;
+
 /// The record of the sequence that does nothing to the empty text; the builders begin with it.
 pub const EMPTY: [u8; 8] = [0; 8];
 
@@ -26,6 +29,8 @@ mod sys {
         pub fn ot_retain(rec: *const u8, rec_len: usize, n: u64, out: *mut u8, out_len: usize) -> u64;
         pub fn ot_delete(rec: *const u8, rec_len: usize, n: u64, out: *mut u8, out_len: usize) -> u64;
         pub fn ot_insert(rec: *const u8, rec_len: usize, text: *const u8, text_len: usize, out: *mut u8, out_len: usize) -> u64;
+        pub fn ot_from_json(list: *const u8, list_len: usize, out: *mut u8, out_len: usize) -> u64;
+        pub fn ot_to_json(rec: *const u8, rec_len: usize, out: *mut u8, out_len: usize) -> u64;
         pub fn ot_apply(rec: *const u8, rec_len: usize, text: *const u8, text_len: usize, out: *mut u8, out_len: usize) -> u64;
         pub fn ot_invert(rec: *const u8, rec_len: usize, text: *const u8, text_len: usize, out: *mut u8, out_len: usize) -> u64;
         pub fn ot_compose(a: *const u8, a_len: usize, b: *const u8, b_len: usize, out: *mut u8, out_len: usize) -> u64;
@@ -78,9 +83,10 @@ pub enum Refusal {
     IncompatibleLengths,
     Limit,
     Room,
+    Json,
 }
 
-const REFUSALS: [(Refusal, &str); 10] = [
+const REFUSALS: [(Refusal, &str); 11] = [
     (Refusal::Size, "the record is cut off, or states a size over its limit"),
     (Refusal::Entry, "an operation has an unknown kind or the count 0, or the inserts don't add up to the text"),
     (Refusal::Utf8, "a text isn't well-formed UTF-8"),
@@ -91,10 +97,11 @@ const REFUSALS: [(Refusal, &str); 10] = [
     (Refusal::IncompatibleLengths, "incompatible lengths"),
     (Refusal::Limit, "the result would pass a limit"),
     (Refusal::Room, "a buffer is too short for what goes into it"),
+    (Refusal::Json, "the bytes are no JSON list of whole numbers other than 0 and strings"),
 ];
 
 impl Refusal {
-    /// 1 to 10.
+    /// 1 to 11.
     pub fn number(self) -> u8 {
         self as u8 + 1
     }
@@ -187,6 +194,17 @@ pub fn delete(rec: &[u8], n: u64, out: &mut [u8]) -> Result<usize, Refusal> {
 
 pub fn insert(rec: &[u8], text: &[u8], out: &mut [u8]) -> Result<usize, Refusal> {
     one(unsafe { sys::ot_insert(rec.as_ptr(), rec.len(), text.as_ptr(), text.len(), out.as_mut_ptr(), out.len()) })
+}
+
+/// The edit of a JSON list, which all the bytes are: a positive whole number retains, a negative one deletes, a string inserts.
+/// [`Refusal::Json`], before any other refusal, where they are anything else.
+pub fn from_json(list: &[u8], out: &mut [u8]) -> Result<usize, Refusal> {
+    one(unsafe { sys::ot_from_json(list.as_ptr(), list.len(), out.as_mut_ptr(), out.len()) })
+}
+
+/// The list of an edit, without white space, which [`from_json`] reads as the same record.
+pub fn to_json(rec: &[u8], out: &mut [u8]) -> Result<usize, Refusal> {
+    one(unsafe { sys::ot_to_json(rec.as_ptr(), rec.len(), out.as_mut_ptr(), out.len()) })
 }
 
 /// The text after the edit.
@@ -292,6 +310,23 @@ mod tests {
         assert_eq!((base_len(&rec), target_len(&rec), is_noop(&rec)), (Ok(2), Ok(2), Ok(false)));
         assert_eq!(check(&rec), Ok(rec.len()));
         assert_eq!(check(&rec[..rec.len() - 1]), Err(Refusal::Size));
+    }
+
+    #[test]
+    fn a_list_is_read_and_written() {
+        let rec = built(&[('r', 4, ""), ('d', 1, ""), ('i', 0, "\"\u{1F600}\t")]);
+        let mut out = vec![0; RECORD];
+        assert_eq!(from_json(b" [4 , -1,\"\\u0022\",\"\\uD83D\\ude00\\t\"]\n", &mut out), Ok(rec.len()));
+        assert_eq!(out[..rec.len()], rec[..]);
+        let mut list = vec![0; JSON];
+        let n = to_json(&rec, &mut list).unwrap();
+        assert_eq!(std::str::from_utf8(&list[..n]).unwrap(), "[4,\"\\\"\u{1F600}\\u0009\",-1]");
+        assert_eq!(from_json(&list[..n + 1], &mut out), Err(Refusal::Json));
+        assert_eq!(from_json(b"[32769]", &mut out), Err(Refusal::Limit));
+        assert_eq!(from_json(b"[32769,0]", &mut out), Err(Refusal::Json));
+        assert_eq!(from_json(b"[]", &mut out[..7]), Err(Refusal::Room));
+        assert_eq!(to_json(&rec, &mut list[..n - 1]), Err(Refusal::Room));
+        assert_eq!(to_json(&rec[..7], &mut list), Err(Refusal::Size));
     }
 
     #[test]

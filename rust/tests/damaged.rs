@@ -1,5 +1,5 @@
-// Random bytes, damaged records and damaged logs into every function. Each buffer ends where a page begins that may not be
-// touched, and has bytes before it that must stay: a read or a write outside ends the test.
+// Random bytes, damaged records, damaged logs and damaged lists into every function. Each buffer ends where a page begins that may
+// not be touched, and has bytes before it that must stay: a read or a write outside ends the test.
 mod common;
 
 use common::{damaged, Random};
@@ -192,4 +192,181 @@ fn nothing_outside_a_result_changes() {
     }
     println!("{calls} calls on damaged input; {went} went through; nothing outside a result changed");
     assert!(went > calls / 20);
+}
+
+// A list of so many values, with white space and escapes: most strings are short, and some have many characters. Numbers in a long
+// list are small, so that some of these pass no limit.
+fn list(random: &mut Random, values: usize) -> Vec<u8> {
+    fn space(list: &mut Vec<u8>, random: &mut Random) {
+        while random.below(4) == 0 {
+            list.push(b" \t\n\r"[random.below(4)]);
+        }
+    }
+    let mut list = Vec::new();
+    space(&mut list, random);
+    list.push(b'[');
+    for k in 0..values {
+        if k > 0 {
+            list.push(b',');
+        }
+        space(&mut list, random);
+        match random.below(4) {
+            0 => {
+                let most = if values < 50 { [9, 300, 40_000, 1 << 40][random.below(4)] } else { 20 };
+                list.extend(format!("{}", 1 + random.below(most)).bytes());
+            }
+            1 => list.extend(format!("-{}", 1 + random.below(20)).bytes()),
+            _ => {
+                list.push(b'"');
+                let most = if random.below(50 + values) == 0 { 4000 } else { 20 };
+                for _ in 0..random.below(most) {
+                    match random.below(8) {
+                        0 => list.extend(format!("\\u{:04x}", random.below(0xD800)).bytes()),
+                        1 => {
+                            let (high, low) = (0xD800 + random.below(0x400), 0xDC00 + random.below(0x400));
+                            list.extend(format!("\\u{high:04X}\\u{low:04x}").bytes());
+                        }
+                        2 => list.extend([b'\\', b"\"\\/bfnrt"[random.below(8)]]),
+                        _ => list.extend(random.letter().to_string().bytes()),
+                    }
+                }
+                list.push(b'"');
+            }
+        }
+        space(&mut list, random);
+    }
+    list.push(b']');
+    space(&mut list, random);
+    list
+}
+
+// A copy of a list with some bytes changed, dropped, doubled, put in, exchanged or cut off.
+fn damaged_list(list: &[u8], random: &mut Random) -> Vec<u8> {
+    const SIGNS: &[u8] = b"[]{},:-+.\"\\/0123456789eEtfnu \t\n\r\x00\x1F\x7F\x80\xBF\xC0\xC3\xE0\xED\xEF\xBB\xF0\xF4\xFF";
+    let mut bytes = list.to_vec();
+    for _ in 0..1 + random.below(2) {
+        if bytes.is_empty() {
+            return bytes;
+        }
+        let i = random.below(bytes.len());
+        let b = if random.below(2) == 0 { SIGNS[random.below(SIGNS.len())] } else { random.next() as u8 };
+        match random.below(6) {
+            0 => bytes[i] = b,
+            1 => drop(bytes.remove(i)),
+            2 => bytes.insert(i, bytes[i]),
+            3 => bytes.insert(i, b),
+            4 => {
+                let j = random.below(bytes.len());
+                bytes.swap(i, j);
+            }
+            _ => bytes.truncate(i),
+        }
+    }
+    bytes
+}
+
+// What is read, what is written to, and how many calls there were.
+struct Lent {
+    read: Pages,
+    written: Pages,
+    calls: u64,
+    went: u64,
+}
+
+impl Lent {
+    // One call with so much room: its answer and what it wrote.
+    fn call(
+        &mut self,
+        call: fn(&[u8], &mut [u8]) -> Result<usize, Refusal>,
+        bytes: &[u8],
+        room: usize,
+    ) -> Result<Vec<u8>, Refusal> {
+        let before = vec![0x11; room];
+        let (read, out) = (self.read.lend(bytes) as &[u8], self.written.lend(&before));
+        let got = call(read, out);
+        settled(&before, out, got);
+        assert_eq!(read, bytes);
+        let written = got.map(|n| out[..n].to_vec());
+        self.read.before_untouched(bytes.len());
+        self.written.before_untouched(room);
+        self.calls += 1;
+        self.went += got.is_ok() as u64;
+        written
+    }
+
+    // The same with all the room there can be need of, with just enough, with more, with less by one, with less, and with none: the
+    // answer is the same but for 10, which is given exactly where there is too little. A refusal is the same with any room.
+    fn with_every_room(
+        &mut self,
+        call: fn(&[u8], &mut [u8]) -> Result<usize, Refusal>,
+        bytes: &[u8],
+        most: usize,
+        random: &mut Random,
+    ) -> Result<Vec<u8>, Refusal> {
+        let got = self.call(call, bytes, most);
+        match &got {
+            Ok(written) => {
+                let n = written.len();
+                assert_eq!(self.call(call, bytes, n), got);
+                assert_eq!(self.call(call, bytes, (n + 1 + random.below(40)).min(most)), got);
+                for room in [n - 1, random.below(n), 0] {
+                    assert_eq!(self.call(call, bytes, room), Err(Refusal::Room));
+                }
+            }
+            Err(_) => {
+                for room in [0, random.below(60), random.below(most)] {
+                    assert_eq!(self.call(call, bytes, room), got);
+                }
+            }
+        }
+        got
+    }
+}
+
+#[test]
+fn lists_are_read_and_written_inside_their_buffers() {
+    let mut random = Random(100);
+    let mut lent = Lent { read: Pages::new(60), written: Pages::new(60), calls: 0, went: 0 };
+    let mut refused = [0u64; 3];
+    for round in 0..60_000u64 {
+        let values = match round % 401 {
+            0 => 500 + random.below(2_500),
+            n if n % 20 == 1 => random.below(100),
+            _ => random.below(8),
+        };
+        let whole = list(&mut random, values);
+        let bytes = match round % 4 {
+            0 => whole,
+            1 => whole[..random.below(whole.len())].to_vec(),
+            2 => damaged_list(&whole, &mut random),
+            _ if random.below(2) == 0 => damaged_list(&damaged_list(&whole, &mut random), &mut random),
+            _ => (0..random.below(40)).map(|_| random.next() as u8).collect(),
+        };
+        match lent.with_every_room(ot::from_json, &bytes, ot::RECORD, &mut random) {
+            Ok(rec) => {
+                assert_eq!(ot::check(&rec), Ok(rec.len()));
+                let written = lent.with_every_room(ot::to_json, &rec, ot::JSON, &mut random).unwrap();
+                assert_eq!(lent.call(ot::from_json, &written, rec.len()).as_ref(), Ok(&rec));
+                let cut = random.below(written.len());
+                assert_eq!(lent.call(ot::from_json, &written[..cut], ot::RECORD), Err(Refusal::Json));
+                let broken = damaged(&rec, &mut random);
+                let got = lent.with_every_room(ot::to_json, &broken, ot::JSON, &mut random);
+                assert_eq!(got.err(), ot::check(&broken).err());
+            }
+            Err(Refusal::Limit) => refused[0] += 1,
+            Err(Refusal::Json) => refused[1] += 1,
+            Err(refusal) => panic!("{refusal}"),
+        }
+        let noise: Vec<u8> = (0..random.below(40)).map(|_| if random.below(12) == 0 { random.next() as u8 } else { 0 }).collect();
+        let got = lent.with_every_room(ot::to_json, &noise, ot::JSON, &mut random);
+        refused[2] += got.is_err() as u64;
+        assert_eq!(got.err(), ot::check(&noise).err());
+    }
+    let Lent { calls, went, .. } = lent;
+    println!(
+        "{calls} calls on lists and records, damaged ones among them; {went} went through; of the lists {} passed a limit and {} \
+         were no list; of the records that were noise {} were refused; nothing outside a result changed",
+        refused[0], refused[1], refused[2]
+    );
+    assert!(went > calls / 20 && refused[0] > 100);
 }
