@@ -45,6 +45,9 @@ pub fn after_spaces(list: &[u8], at: usize) -> usize
     i
 }
 
+// The first number over the limit of a record's sizes.
+const OVER_LIMIT: usize = MAX_SIZE + 1;
+
 // A number with one digit more. A number over the limit is held as the first one over it: the record is refused all the same.
 fn with_digit(value: usize, digit: usize) -> usize
     requires { ⌜ (value ≤ overLimit) × (digit ≤ 9) ⌝ }
@@ -52,7 +55,7 @@ fn with_digit(value: usize, digit: usize) -> usize
 {
     let more = value * 10 + digit;
     if MAX_SIZE < more {
-        return MAX_SIZE + 1;
+        return OVER_LIMIT;
     }
     more
 }
