@@ -45,34 +45,51 @@ function window(call, argument) {
 // How many values a list has, and with which kind it begins.
 const SIZES = [['1, a number', 1, 0], ['1, a string', 1, 1], ['10', 10, 0], ['100', 100, 0], ['1000', 1000, 0]];
 
+// Strings of 4,000 characters, as they stand in a list: no cells of the mean.
+const LONG = {
+    ASCII: 'nicht gelistet. ',
+    German: 'Ger\u00e4te sperren. ',
+    Cyrillic: '\u043d\u0435 \u0443\u043a\u0430\u0437\u0430\u043d\u043e\u0435 ',
+    Japanese: '\u8a31\u53ef\u3055\u308c\u3066\u3044\u306a\u3044\u6a5f\u5668',
+    'escapes \\n': '\\n',
+    'escapes \\u00e4': '\\u00e4',
+};
+
+function long(part) {
+    return `["${part.repeat(4000 / JSON.parse(`"${part}"`).length)}"]`;
+}
+
+// A row for each call.
+function both(size, kind, list, cell) {
+    const bytes = Buffer.from(list);
+    const value = JSON.parse(list);
+    const { want, ops } = fromJson(bytes);
+    const written = Buffer.byteLength(toJson(ops));
+    const best = () => ({ size, kind, cell, bytes: bytes.length, ours: Infinity, theirs: Infinity, decoded: Infinity });
+    return [
+        {
+            ...best(),
+            call: 'from_json',
+            time: [TIME_FROM_JSON, bytes, want.length],
+            plain: [JSON.parse, list],
+            whole: [(b) => JSON.parse(b.toString()), bytes],
+        },
+        {
+            ...best(),
+            call: 'to_json',
+            time: [TIME_TO_JSON, want, written],
+            plain: [JSON.stringify, value],
+            whole: [(v) => Buffer.from(JSON.stringify(v)), value],
+        },
+    ];
+}
+
 function rows() {
-    const found = [];
-    for (const mixed of [false, true]) {
-        for (const [size, n, first] of SIZES) {
-            const value = values(n, mixed, first);
-            const list = JSON.stringify(value);
-            const bytes = Buffer.from(list);
-            const { want, ops } = fromJson(bytes);
-            if (Buffer.from(toJson(ops)).compare(bytes) !== 0) throw new Error('the list is another when it is written again');
-            const best = { ours: Infinity, theirs: Infinity, decoded: Infinity };
-            const shared = { size, kind: mixed ? 'mixed' : 'ASCII', bytes: bytes.length, ...best };
-            found.push({
-                ...shared,
-                call: 'from_json',
-                time: [TIME_FROM_JSON, bytes, want.length],
-                plain: [JSON.parse, list],
-                whole: [(b) => JSON.parse(b.toString()), bytes],
-            });
-            found.push({
-                ...shared,
-                call: 'to_json',
-                time: [TIME_TO_JSON, want, bytes.length],
-                plain: [JSON.stringify, value],
-                whole: [(v) => Buffer.from(JSON.stringify(v)), value],
-            });
-        }
-    }
-    return found;
+    const kinds = ['ASCII', 'mixed'];
+    const cells = kinds.flatMap((kind) => SIZES.flatMap(([size, n, first]) => {
+        return both(size, kind, JSON.stringify(values(n, kind === 'mixed', first)), true);
+    }));
+    return [...cells, ...Object.keys(LONG).flatMap((kind) => both('one string', kind, long(LONG[kind]), false))];
 }
 
 function show(ns) {
@@ -106,9 +123,10 @@ async function main() {
         }
         console.log('');
     }
-    const mean = (of) => Math.exp(all.reduce((sum, row) => sum + Math.log(row.ours / row[of]), 0) / all.length);
-    const over = all.filter((row) => row.ours >= row.theirs).length;
-    console.log(`${all.length} cells, ${over} of them not below 1; geometric mean of the ratios ${mean('theirs').toFixed(3)}, ` +
+    const cells = all.filter((row) => row.cell);
+    const mean = (of) => Math.exp(cells.reduce((sum, row) => sum + Math.log(row.ours / row[of]), 0) / cells.length);
+    const over = cells.filter((row) => row.ours >= row.theirs).length;
+    console.log(`${cells.length} cells, ${over} of them not below 1; geometric mean of the ratios ${mean('theirs').toFixed(3)}, ` +
         `with the bytes ${mean('decoded').toFixed(3)}`);
 }
 

@@ -1,5 +1,5 @@
 //! The speed of every call beside the original's, on the same inputs in one run: nanoseconds for a call, best of several windows.
-//! Prints the tables of docs/SPEED.md.
+//! Prints the tables of docs/SPEED.md, and those of docs/SPEED-HISTORY.md that are of the same run.
 
 #[cfg(original)]
 extern crate bytecount;
