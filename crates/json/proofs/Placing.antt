@@ -1,9 +1,8 @@
 -- A list's record: what is read, judged and put together is what the call gives.
-use Prim.Native.Nat.{ℕ, zero, suc, _+_, _*_, _≤_, _<_, _^_, min}
-use native.Mathlib.Nat.{le-trans}
+use Prim.Native.Nat.{ℕ, _+_, _≤_, _^_}
 use native.Mathlib.Omega.{arith}
-use mathlib.Core.Path.{_≡_, refl, sym, ap, ap₂, _∙_}
-use mathlib.Core.Bool.{Bool, true, false, not, cond, true≢false}
+use mathlib.Core.Path.{_≡_, refl, sym, ap, _∙_}
+use mathlib.Core.Bool.{Bool, true, false, not, cond}
 use mathlib.Core.Logic.{_⊎_, inl, inr}
 use mathlib.Core.List.{List, [], _∷_, _++_, map, reverse, append-assoc, append-nil}
 use mathlib.Core.Option.{none, some}
@@ -13,13 +12,10 @@ use borrow.Author.Tests.{not-true, not-false, leb-true}
 use Rattle.buffers.specs.Lists.{allOf}
 use Rattle.buffers.specs.InnerOver.{over}
 use Rattle.buffers.proofs.Tests.{both, known, holds}
-use Rattle.characters.specs.Text.{bytes, chars}
 use Rattle.characters.proofs.Texts.{bytes-chars}
-use Rattle.edits.specs.Op.{Op, insert, retain, delete}
 use Rattle.edits.specs.Build.{add, addAll, build}
 use Rattle.edits.specs.Sequence.{Seq}
-use Rattle.answers.specs.Answer.{writtenOf}
-use Rattle.answers.specs.Output.{Out, writing}
+use Rattle.answers.specs.Output.{writing}
 use Rattle.answers.specs.InnerGiven.{Gives}
 use Rattle.answers.specs.declared.Refusal.{Refusal}
 use Rattle.answers.specs.declared.Refusal.the-variants.{Json, Limit, Room}
@@ -29,7 +25,7 @@ use Rattle.record.specs.Layout.{textStart, maxOps}
 use Rattle.record.specs.Record.{inBytes, inserted, text, fits}
 use Rattle.places.specs.InnerOps.{relocatedOps}
 use Rattle.emitter.specs.declared.core.Emitter.{Emitter}
-use Rattle.emitter.specs.InnerEmit.{Under, Done, Writes, Marked, headed, sizeIn, withinLimits, limitsThenRoom}
+use Rattle.emitter.specs.InnerEmit.{Under, Done, Writes, headed, sizeIn, withinLimits, limitsThenRoom}
 use Rattle.emitter.proofs.Counting.{addAll-length}
 use Rattle.emitter.proofs.Delivering.{within-inside}
 use Rattle.emitter.proofs.Giving.{gives-refused, gives-written, gives-limit}

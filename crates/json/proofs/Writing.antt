@@ -7,7 +7,7 @@ use lib.ListN.{length}
 use borrow.Author.Tests.{le-leb, lt-leb}
 use Rattle.buffers.specs.InnerOver.{over}
 use Rattle.buffers.proofs.Over.{over-front}
-use Rattle.answers.specs.Answer.{Answer, success, refused, number, unlessRefused}
+use Rattle.answers.specs.Answer.{success, refused, number, unlessRefused}
 use Rattle.answers.specs.Output.{writing}
 use Rattle.answers.specs.InnerGiven.{Gives}
 use Rattle.answers.specs.declared.Refusal.{Refusal}

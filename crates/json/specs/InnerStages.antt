@@ -5,7 +5,6 @@ use mathlib.Core.List.{List}
 use lib.Dec.{T}
 use lib.ListN.{length}
 use Rattle.record.specs.Layout.{textStart, maxOps}
-use Rattle.record.specs.Record.{fits}
 use Rattle.emitter.specs.declared.core.Emitter.{Emitter}
 use Rattle.emitter.specs.InnerEmit.{Done, sizeIn}
 use Rattle.json_lists.specs.Form.{atStart, items, inForm}

@@ -2,17 +2,16 @@
 use Prim.Native.Nat.{ℕ, zero, suc, _+_, _*_, _-_, _≤_, _<_}
 use native.Mathlib.Numerals.{add-one}
 use native.Mathlib.Omega.{arith}
-use mathlib.Core.Path.{_≡_, refl, sym, ap, ap₂, _∙_}
-use mathlib.Core.Bool.{Bool, true, false, cond, true≢false}
-use mathlib.Core.List.{List, [], _∷_}
+use mathlib.Core.Path.{_≡_, refl, sym, ap, _∙_}
+use mathlib.Core.Bool.{Bool, true, false, cond}
+use mathlib.Core.List.{List, _∷_}
 use mathlib.Core.Option.{Option}
-use lib.Dec.{T, ltb}
 use lib.ListN.{length, drop, getD, drop-of-length-le}
 use borrow.Author.Tests.{lt-ltb, le-ltb}
 use Rattle.buffers.proofs.Tests.{known}
 use Rattle.characters.specs.Form.{within, wellFormed}
 use Rattle.characters.proofs.Leads.{inside, under, over}
-use Rattle.json_lists.specs.Form.{isHex, hexValue, Place, inUnicode, outside, counted, next, reached, items}
+use Rattle.json_lists.specs.Form.{isHex, hexValue, inUnicode, outside, counted, next, reached, items}
 use Rattle.json_lists.specs.InnerRuns.{Onward, Fails}
 use Rattle.json_lists.proofs.Strings.{hex-value}
 use Rattle.json_lists.proofs.Steps.{onward-none, onward-then, fails-then, ended-fails, next-outside-fails, at-byte, hex-step}

@@ -1,20 +1,20 @@
 -- What an escape names, case by case.
-use Prim.Native.Nat.{ℕ, suc, _+_, _*_, _-_, _≤_, _<_}
+use Prim.Native.Nat.{ℕ, _+_, _*_, _-_, _≤_, _<_}
 use native.Mathlib.Omega.{arith}
-use mathlib.Core.Path.{_≡_, refl, sym, ap, ap₂, _∙_}
-use mathlib.Core.Bool.{Bool, true, false, cond, not, _||_, _&&_, and-false}
+use mathlib.Core.Path.{_≡_, refl, sym, _∙_}
+use mathlib.Core.Bool.{Bool, true, false, cond, _||_, _&&_, and-false}
 use mathlib.Core.List.{List, [], _∷_, _++_}
 use mathlib.Core.Logic.{_⊎_, inl, inr, ⊎-elim}
 use mathlib.Core.Option.{none, some}
-use lib.Dec.{T, eqb, ltb, leb}
+use lib.Dec.{T, eqb, ltb}
 use lib.ListN.{length, drop, getD, drop-of-length-le, length-drop}
-use borrow.Author.Tests.{eq-eqb, ne-eqb, eqb-true, not-true, not-false, lt-ltb, le-ltb, le-leb, lt-leb}
-use Rattle.buffers.proofs.Tests.{known, holds}
-use Rattle.characters.specs.Form.{within, wellFormed}
+use borrow.Author.Tests.{ne-eqb, lt-ltb, le-ltb}
+use Rattle.buffers.proofs.Tests.{known}
+use Rattle.characters.specs.Form.{wellFormed}
 use Rattle.characters.specs.Scalar.{isScalar, encodeScalar}
 use Rattle.characters.proofs.Codes.{encode-1, scalar-low}
-use Rattle.characters.proofs.Leads.{le-or-lt, inside, under, over, within-bounds}
-use Rattle.json_lists.specs.Form.{isHigh, isLow, paired, Place, inString, afterEscape, inUnicode, afterHigh, afterHighEscape, outside, escapes, named, next, ends, reached, isEnd}
+use Rattle.characters.proofs.Leads.{le-or-lt, inside, under, over}
+use Rattle.json_lists.specs.Form.{isHigh, isLow, paired, Place, inString, afterEscape, inUnicode, afterHigh, afterHighEscape, outside, named, next, ends, reached, isEnd}
 use Rattle.json_lists.specs.InnerRuns.{width, Onward, Fails}
 use Rattle.json_lists.proofs.Ascii.{low-self}
 use Rattle.json_lists.proofs.Scalars.{named-scalar, paired-scalar}

@@ -1,11 +1,10 @@
 -- A string, scanned piece by piece.
 use Prim.Native.Nat.{ℕ, _+_, _-_, _≤_, _<_}
 use native.Mathlib.Omega.{arith}
-use mathlib.Core.Path.{_≡_, refl, sym, ap, ap₂, _∙_}
-use mathlib.Core.Bool.{Bool, true, false, not, _&&_}
-use mathlib.Core.List.{List, [], _∷_, _++_, append-assoc}
-use mathlib.Core.Logic.{_⊎_, inl, inr, ⊎-elim}
-use lib.Dec.{T, eqb, ltb}
+use mathlib.Core.Path.{_≡_, refl, _∙_}
+use mathlib.Core.Bool.{true}
+use mathlib.Core.List.{List, [], _++_}
+use mathlib.Core.Logic.{_⊎_, ⊎-elim}
 use lib.ListN.{length, take, drop, getD, drop-of-length-le, length-append, length-take, length-drop}
 use borrow.Author.Tests.{ne-eqb, le-ltb, lt-ltb}
 use Rattle.buffers.proofs.Tests.{known, holds}
@@ -14,7 +13,7 @@ use Rattle.characters.specs.Chars.{numChars}
 use Rattle.characters.specs.Scalar.{encodeScalar}
 use Rattle.characters.proofs.Chars.{num-append, num-le, well-append}
 use Rattle.characters.proofs.Leads.{le-or-lt}
-use Rattle.json_lists.specs.Form.{string, inString, afterEscape, outside, next, ends}
+use Rattle.json_lists.specs.Form.{inString, afterEscape, next, ends}
 use Rattle.json_lists.specs.Grammar.{isRaw}
 use Rattle.json_lists.specs.InnerRuns.{Plain, width, Onward, Fails}
 use Rattle.json_lists.proofs.Scalars.{encode-text, encode-chars, encode-length}

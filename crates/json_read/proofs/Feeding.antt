@@ -2,7 +2,7 @@
 use Prim.Native.Nat.{ℕ, _≤_}
 use mathlib.Core.Path.{_≡_}
 use mathlib.Core.List.{List}
-use Rattle.edits.specs.Op.{retain, delete}
+use Rattle.edits.specs.Op.{delete}
 use Rattle.emitter.specs.declared.core.Emitter.{Emitter}
 use Rattle.json_values.specs.declared.core.Value.{Value}
 use Rattle.json_values.specs.declared.core.Value.the-variants.{Outside, Retain, Delete, Insert}

@@ -1,12 +1,12 @@
 -- An emitter that takes operations only as long as no limit is passed.
-use Prim.Native.Nat.{ℕ, suc, _+_, _*_, _-_, _≤_, _<_, _^_}
+use Prim.Native.Nat.{ℕ, _+_, _*_, _-_, _≤_, _<_, _^_}
 use native.Mathlib.Nat.{le-refl}
 use native.Mathlib.Omega.{arith}
-use mathlib.Core.Path.{_≡_, refl, sym, ap, ap₂, _∙_}
-use mathlib.Core.Bool.{Bool, true, false, not, true≢false, false≢true}
+use mathlib.Core.Path.{_≡_, refl, sym, ap, _∙_}
+use mathlib.Core.Bool.{Bool, true, false, not, true≢false}
 use mathlib.Core.Logic.{_⊎_, inl, inr}
 use mathlib.Core.List.{List, [], _∷_, _++_, map, reverse, reverseAux}
-use lib.Dec.{T, leb}
+use lib.Dec.{T}
 use lib.Seq.{take-all}
 use lib.ListN.{length, take, drop, length-append, length-reverse}
 use borrow.Author.Tests.{not-true, not-false, le-leb}
@@ -17,20 +17,20 @@ use Rattle.characters.specs.Form.{wellFormed}
 use Rattle.characters.specs.Chars.{numChars}
 use Rattle.characters.specs.Text.{Char, bytes, chars}
 use Rattle.characters.proofs.Texts.{bytes-chars}
-use Rattle.edits.specs.Op.{Op, retain, insert, delete, takes, gives, base, target, size, ifZero}
+use Rattle.edits.specs.Op.{Op, retain, insert, delete, takes, gives, base, target, size}
 use Rattle.edits.specs.Build.{add, addAll}
 use Rattle.edits.specs.Sequence.{Seq}
 use Rattle.edits.proofs.Meaning.{ifZero-elim}
 use Rattle.record.specs.Layout.{maxOps, maxSize, textStart}
-use Rattle.record.specs.Record.{inBytes, inserted, text, fits}
-use Rattle.record.proofs.Sequences.{Limits, fits-limits}
+use Rattle.record.specs.Record.{inBytes, text, fits}
+use Rattle.record.proofs.Sequences.{fits-limits}
 use Rattle.emitter.specs.declared.core.Emitter.{Emitter}
 use Rattle.emitter.specs.InnerEmit.{Under, Rep, Adds, Retains, kept, group, textsOf, flushedOps, insertedBy, flushedIfClosed, withinLimits}
-use Rattle.emitter.proofs.Adding.{full, full-length, full-text, under-more, adds-inserts, adds-insert-none}
+use Rattle.emitter.proofs.Adding.{full-length, full-text, under-more, adds-inserts}
 use Rattle.emitter.proofs.Delivering.{within-inside, text-ahead, limits-text}
 use Rattle.emitter.proofs.Growing.{fits-early, total-reverse}
 use Rattle.emitter.proofs.Loops.{add-text, add-bytes}
-use Rattle.json_read.specs.InnerReading.{Held, Holds, Feeds, FeedsRetain, FeedsText, overText}
+use Rattle.json_read.specs.InnerReading.{Held, Feeds, FeedsRetain, FeedsText, overText}
 
 -- ---- an emitter's numbers and its sequence's limits
 

@@ -1,5 +1,5 @@
 -- A list, value by value.
-use Prim.Native.Nat.{ℕ, _+_, _-_, _≤_, _<_, _^_, min}
+use Prim.Native.Nat.{ℕ, _+_, _-_, _≤_, _<_, _^_}
 use native.Mathlib.Omega.{arith}
 use mathlib.Core.Path.{_≡_, refl, sym, ap, ap₂, _∙_}
 use mathlib.Core.Bool.{true, false, _&&_, true≢false}
@@ -7,17 +7,13 @@ use mathlib.Core.Logic.{inl}
 use mathlib.Core.List.{List, [], _∷_, _++_, map, map-append, append-assoc}
 use lib.ListN.{length, drop, getD, drop-of-length-le}
 use borrow.Author.Tests.{ne-eqb}
-use Rattle.characters.specs.Form.{wellFormed}
-use Rattle.characters.specs.Text.{chars}
 use Rattle.characters.proofs.Chars.{num-le}
-use Rattle.edits.specs.Op.{retain, insert, delete}
-use Rattle.edits.specs.Build.{add, addAll}
-use Rattle.edits.specs.Sequence.{Seq}
+use Rattle.edits.specs.Build.{addAll}
 use Rattle.edits.proofs.Building.{addAll-append}
 use Rattle.emitter.specs.declared.core.Emitter.{Emitter}
 use Rattle.emitter.specs.InnerEmit.{nothing}
 use Rattle.emitter.proofs.Adding.{rep-start, under-more, under-start}
-use Rattle.json_lists.specs.Form.{plus, minus, Item, number, string, isSpace, Place, afterComma, afterValue, atEnd, outside, next, ends, isEnd, reached, items}
+use Rattle.json_lists.specs.Form.{plus, minus, Item, number, string, isSpace, Place, afterComma, afterValue, atEnd, next, ends, isEnd, items}
 use Rattle.json_lists.specs.InnerRuns.{Run, capped, Onward, Passes, Fails}
 use Rattle.json_lists.specs.Calls.{opOf}
 use Rattle.json_lists.proofs.Steps.{onward-then, passes-on, fails-then, ended-fails, next-outside-fails, at-byte, byte, run-spaces}
@@ -27,7 +23,7 @@ use Rattle.json_values.specs.InnerValues.{NumberAt, InsertAt, ValueFrom, NoSpac
 use Rattle.json_read.specs.declared.core.Follows.{Follows}
 use Rattle.json_read.specs.declared.core.Follows.the-variants as follows
 use Rattle.json_read.specs.declared.core.Values.{Values}
-use Rattle.json_read.specs.InnerReading.{Held, Holds, Feeds, Sized, FeedsValue, Separates, FollowsAt, Means, ItemTo, ItemFollowed, PassesAll, ValuesTo, ValuesRead}
+use Rattle.json_read.specs.InnerReading.{Held, Holds, Feeds, Sized, FeedsValue, Separates, FollowsAt, Means, ItemTo, ItemFollowed, PassesAll, ValuesRead}
 
 -- ---- `after_value`
 

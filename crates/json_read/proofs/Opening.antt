@@ -5,20 +5,19 @@ use mathlib.Core.Path.{_≡_, refl, sym, ap, ap₂, _∙_}
 use mathlib.Core.Bool.{Bool, true, false, not, cond, _&&_, true≢false}
 use mathlib.Core.Logic.{_⊎_, inl, inr, ⊎-elim}
 use mathlib.Core.List.{List, [], _∷_, _++_, map, append-nil, reverse}
-use lib.Dec.{T, leb, eqb}
+use lib.Dec.{leb}
 use lib.ListN.{length, drop, getD, drop-of-length-le}
 use borrow.Author.Tests.{ne-eqb, not-true, not-false, le-leb, lt-leb}
-use Rattle.buffers.proofs.Tests.{holds, known}
 use Rattle.characters.specs.Form.{wellFormed}
 use Rattle.characters.proofs.Leads.{le-or-lt}
 use Rattle.edits.specs.Build.{addAll, build}
 use Rattle.edits.specs.Sequence.{Seq}
 use Rattle.record.specs.Record.{fits}
 use Rattle.emitter.specs.declared.core.Emitter.{Emitter}
-use Rattle.emitter.specs.InnerEmit.{nothing, Under, Rep, Done, Finishes, withinLimits}
+use Rattle.emitter.specs.InnerEmit.{nothing, Rep, Done, Finishes, withinLimits}
 use Rattle.emitter.proofs.Adding.{rep-start, under-more, under-start}
 use Rattle.emitter.proofs.Delivering.{sized-fits}
-use Rattle.json_lists.specs.Form.{Item, isSpace, Place, atStart, afterBracket, afterComma, atEnd, outside, next, ends, isEnd, reached, items, inForm}
+use Rattle.json_lists.specs.Form.{Item, isSpace, atStart, afterBracket, afterComma, atEnd, outside, next, ends, isEnd, reached, items, inForm}
 use Rattle.json_lists.specs.InnerRuns.{Run, capped, Onward, Fails}
 use Rattle.json_lists.specs.Calls.{opOf, opsOf}
 use Rattle.json_lists.proofs.Limits.{capped-or-over}
@@ -29,7 +28,7 @@ use Rattle.json_read.specs.declared.core.Opening.{Opening}
 use Rattle.json_read.specs.declared.core.Opening.the-variants as opening
 use Rattle.json_read.specs.declared.core.Values.{Values}
 use Rattle.json_read.specs.declared.core.Reading.{Reading}
-use Rattle.json_read.specs.InnerReading.{Held, Holds, PassesAll, ValuesTo, ValuesRead, OpensTo, OpeningAt, Finished, FinishedBy, ListRead}
+use Rattle.json_read.specs.InnerReading.{Holds, ValuesTo, ValuesRead, OpensTo, OpeningAt, Finished, FinishedBy, ListRead}
 use Rattle.json_read.proofs.Holding.{over-is}
 use Rattle.json_read.proofs.Listing.{run-no-space}
 

@@ -1,7 +1,7 @@
 -- What the functions that read a list promise each other. Only contracts of inner functions cite this.
 use Prim.Native.Nat.{ℕ, _≤_, _<_, _^_, _+_, min}
 use mathlib.Core.Path.{_≡_}
-use mathlib.Core.Bool.{Bool, true, false}
+use mathlib.Core.Bool.{true, false}
 use mathlib.Core.Logic.{_⊎_}
 use mathlib.Core.List.{List, [], _++_, map, reverse}
 use lib.Dec.{T}
@@ -73,7 +73,7 @@ overText e = record { ins = e .ins; del = e .del; ret = e .ret; ops = e .ops; te
 
 -- ---- the list
 
--- from p at `at` to q at `to` nothing but a structural character and white space stands
+-- behind a value, from `at` to `to`, stand only a structural character and white space, which lead to q
 pub record Separates (t : List ℕ) (at : ℕ) (q : Place) (to : ℕ) : Type 0 where
   pub above : at < to
   pub below : to ≤ length t

@@ -1,18 +1,17 @@
 -- Characters that need no escape, passed one stretch after another.
-use Prim.Native.Nat.{ℕ, zero, suc, _+_, _-_, _≤_, _<_}
+use Prim.Native.Nat.{ℕ, suc, _+_, _-_, _≤_, _<_}
 use native.Mathlib.Omega.{arith}
 use mathlib.Core.Path.{_≡_, refl, sym, ap, ap₂, _∙_}
-use mathlib.Core.Bool.{Bool, true, false, not, _&&_, true≢false, false≢true}
+use mathlib.Core.Bool.{Bool, true, false, not}
 use mathlib.Core.List.{List, [], _∷_, _++_, append-nil}
 use mathlib.Core.Logic.{⊎-elim}
-use lib.Dec.{T, ltb, eqb}
-use lib.ListN.{length, take, drop, getD, length-take, length-drop, length-append}
-use lib.Seq.{take-add, drop-drop, getD-drop}
+use lib.Dec.{T, ltb}
+use lib.ListN.{length, take, drop, getD, length-take, length-drop}
+use lib.Seq.{take-add, drop-drop}
 use borrow.Author.Tests.{not-true, not-false, ne-eqb, le-ltb, ltb-true, ltb-false}
 use Rattle.buffers.specs.Lists.{allOf}
 use Rattle.buffers.proofs.Tests.{both, holds, known}
-use Rattle.characters.specs.declared.Lead.the-variants.{Of}
-use Rattle.characters.specs.Form.{wellFormed, wellChar, whole, leadOf}
+use Rattle.characters.specs.Form.{wellFormed, wellChar, leadOf}
 use Rattle.characters.specs.Chars.{isCont, numChars}
 use Rattle.characters.proofs.Chars.{all-append, num-append, well-append, well-concat, well-is-char, whole-conts}
 use Rattle.characters.proofs.Leads.{le-or-lt, under, within-bounds, sane-lead}

@@ -1,17 +1,15 @@
 -- White space and digits, passed one by one.
 use Prim.Native.Nat.{ℕ, _+_, _*_, _-_, _≤_, _<_, min}
 use native.Mathlib.Omega.{arith}
-use mathlib.Core.Path.{_≡_, refl, sym, ap, ap₂, _∙_}
+use mathlib.Core.Path.{_≡_, refl, sym, ap, _∙_}
 use mathlib.Core.Bool.{Bool, true, false, not, _||_}
-use mathlib.Core.List.{List, [], _∷_, _++_}
-use lib.Dec.{T, eqb, ltb}
+use mathlib.Core.List.{List}
+use lib.Dec.{T, eqb}
 use lib.ListN.{length, take, drop, getD}
-use borrow.Author.Tests.{eq-eqb, ne-eqb, not-true, not-false}
+use borrow.Author.Tests.{ne-eqb, not-true, not-false}
 use Rattle.buffers.specs.Lists.{allOf}
-use Rattle.buffers.proofs.Tests.{both, holds, known}
-use Rattle.characters.specs.Form.{within}
 use Rattle.characters.proofs.Leads.{inside, under, over}
-use Rattle.json_lists.specs.Form.{Sign, isSpace, isDigit, digitValue, inNumber, Place}
+use Rattle.json_lists.specs.Form.{Sign, isSpace, isDigit, digitValue, inNumber}
 use Rattle.json_lists.specs.InnerRuns.{Run, overLimit, Onward}
 use Rattle.json_lists.proofs.Ascii.{low-digit}
 use Rattle.json_lists.proofs.Limits.{capped-digit}

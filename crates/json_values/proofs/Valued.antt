@@ -1,15 +1,14 @@
 -- A value, by its first byte.
-use Prim.Native.Nat.{ℕ, _+_, _*_, _-_, _≤_, _<_}
+use Prim.Native.Nat.{ℕ, _+_, _-_, _≤_, _<_}
 use native.Mathlib.Omega.{arith}
-use mathlib.Core.Path.{_≡_, refl, sym, ap, _∙_}
+use mathlib.Core.Path.{_≡_, refl}
 use mathlib.Core.Bool.{true, false}
-use mathlib.Core.List.{List, [], _∷_}
+use mathlib.Core.List.{List, []}
 use lib.ListN.{length, drop, getD, drop-of-length-le}
 use borrow.Author.Tests.{ne-eqb}
-use Rattle.characters.specs.Form.{within}
 use Rattle.characters.proofs.Leads.{inside, under, over}
-use Rattle.json_lists.specs.Form.{Sign, plus, minus, Item, isSpace, isDigit1-9, digitValue, Place, afterComma, afterMinus, inNumber, inString, afterValue, outside, next, ends}
-use Rattle.json_lists.specs.InnerRuns.{Onward, Passes, Fails}
+use Rattle.json_lists.specs.Form.{Sign, plus, minus, isDigit1-9, digitValue, Place, afterComma, afterMinus, inNumber, inString, outside, next, ends}
+use Rattle.json_lists.specs.InnerRuns.{Onward, Fails}
 use Rattle.json_lists.proofs.Steps.{onward-then, passes-then, fails-then, ended-fails, next-outside-fails, at-byte, byte, number-ends}
 use Rattle.json_escapes.specs.declared.core.Scanned.{Scanned}
 use Rattle.json_escapes.specs.declared.core.Scanned.the-variants as scanned

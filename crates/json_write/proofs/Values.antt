@@ -5,7 +5,7 @@ use mathlib.Core.Path.{_≡_, ap, _∙_}
 use mathlib.Core.List.{List, [], _∷_}
 use lib.ListN.{length, set, take, drop, length-set}
 use borrow.Author.Tests.{eq-eqb, ne-eqb}
-use Rattle.json_lists.specs.Written.{decimal, value}
+use Rattle.json_lists.specs.Written.{decimal}
 use Rattle.json_write_text.specs.InnerPutting.{Puts, quoted}
 use Rattle.json_write.specs.InnerWriting.{negative, valueOf, textBytes}
 use Rattle.json_write_text.proofs.Putting.{puts-one, puts-join, puts-long}

@@ -11,21 +11,18 @@ use Rattle.buffers.specs.Buffers.{atFront}
 use Rattle.characters.specs.Form.{wellFormed}
 use Rattle.edits.specs.Built.{Built}
 use Rattle.edits.specs.Sequence.{Seq}
-use Rattle.answers.specs.Answer.{success, refused, succeeds}
-use Rattle.answers.specs.Output.{Out}
+use Rattle.answers.specs.Answer.{success, refused}
 use Rattle.record.specs.Layout.{sizeOf, maxRecord}
 use Rattle.record.specs.Record.{ops, recordFault}
 use Rattle.record.proofs.Records.{Bytes}
-use Rattle.record.proofs.Unread.{Alike}
 use Rattle.json_lists.specs.Form.{Item, atStart, read}
 use Rattle.json_lists.specs.Grammar.{isRaw, JsonText}
 use Rattle.json_lists.specs.Written.{escaped, written}
 use Rattle.json_lists.specs.Calls.{fromJsonCall, toJsonCall}
 use Rattle.json_lists.proofs.Reading.{tight}
 use Rattle.json_lists.proofs.Builders.{run, Agrees, StopsAtNine, by-builders, nine-for-one}
-use Rattle.json_lists.proofs.Escapes.{ByNumber, only-raw, control-escaped}
+use Rattle.json_lists.proofs.Escapes.{only-raw}
 use Rattle.json_lists.proofs.Theorems as lists
-use Rattle.json_lists.proofs.Unread as unread
 
 -- ---- M-100, lists from the browser
 
