@@ -3,7 +3,7 @@ use Prim.Native.Nat.{ℕ, _≤_}
 use native.Mathlib.Omega.{arith}
 use mathlib.Core.Path.{_≡_, refl, sym, ap, _∙_}
 use mathlib.Core.Bool.{Bool, true, false, cond}
-use mathlib.Core.List.{List, [], _∷_, _++_, map, reverse, reverse-reverse, append-assoc, append-nil}
+use mathlib.Core.List.{List, [], _∷_, _++_, map, map-append, reverse, reverse-reverse, append-assoc, append-nil}
 use mathlib.Core.Option.{Option, none, some}
 use lib.Dec.{T, leb}
 use lib.ListN.{length}
@@ -19,6 +19,7 @@ use Rattle.answers.proofs.Outputs.{atFront-take, writing-goes}
 use Rattle.edits.specs.Op.{retain, insert, delete}
 use Rattle.edits.specs.Build.{add, addAll, build, extend}
 use Rattle.edits.specs.Sequence.{Seq}
+use Rattle.edits.proofs.Building.{addAll-append}
 use Rattle.record.specs.Layout.{maxRecord}
 use Rattle.record.specs.Record.{encode, fits, ops, recordFault}
 use Rattle.record.proofs.Records.{encode-small, ops-encode, fault-encode}
@@ -26,9 +27,19 @@ use Rattle.operational_transform.specs.Calls.{deliver, retainCall, deleteCall, 
 use Rattle.json_lists.specs.Form.{plus, minus, Item, number, string, read}
 use Rattle.json_lists.specs.Calls.{opOf, opsOf, fromJsonCall}
 use Rattle.json_lists.proofs.Strings.{wellItem, strings-well}
-use Rattle.json_lists.proofs.Parts.{behind}
 use Rattle.json_lists.proofs.Limits.{passes-early, delivers, deliver-over}
 use Rattle.json_lists.proofs.Theorems.{from-read, ops-built, nine}
+
+-- ---- items behind others
+
+behind : (l k : List Item) → opsOf (l ++ k) ≡ reverse (addAll (addAll [] (map opOf l)) (map opOf k))
+unfolding opsOf build
+behind l k = ap (λ s. reverse (addAll [] s)) (map-append opOf l k) ∙ ap reverse (addAll-append [] (map opOf l) (map opOf k))
+
+-- The empty string changes nothing.
+pub empty-string : (l m : List Item) → opsOf (l ++ (string [] ∷ m)) ≡ opsOf (l ++ m)
+unfolding addAll opOf
+empty-string l m = behind l (string [] ∷ m) ∙ sym (behind l m)
 
 -- ---- the builders, one after another
 

@@ -8,7 +8,7 @@ use mathlib.Core.List.{List, [], _∷_, _++_, append-assoc, append-nil}
 use mathlib.Core.Option.{Option}
 use lib.Dec.{T, ltb, eqb}
 use lib.ListN.{length, take, drop, getD, take-append-drop}
-use lib.Seq.{drop-cons, drop-drop, take-suc}
+use lib.Seq.{drop-cons, drop-drop}
 use borrow.Author.Tests.{not-true, ne-eqb}
 use Rattle.buffers.specs.Lists.{allOf}
 use Rattle.buffers.proofs.Tests.{holds, both}
@@ -20,9 +20,9 @@ use Rattle.json_lists.specs.Form.{Place, atStart, afterBracket, afterCom
 use Rattle.json_lists.specs.Form.{inUnicode, afterHigh, afterHighEscape, afterValue, atEnd, outside, isEnd}
 use Rattle.json_lists.specs.Form.{named, counted, next, ends, reached, items}
 use Rattle.json_lists.specs.Grammar.{isRaw}
-use Rattle.json_lists.specs.InnerRuns.{Run, Plain, valueFrom, Onward, Passes, Fails}
-use Rattle.json_lists.proofs.Reading.{reached-append, items-append, outside-stays}
-use Rattle.json_lists.proofs.Ascii.{ascii-on, low-space, low-digit, low-hex}
+use Rattle.json_lists.specs.InnerRuns.{Run, Plain, Onward, Passes, Fails}
+use Rattle.json_lists.proofs.Reading.{outside-stays}
+use Rattle.json_lists.proofs.Ascii.{ascii-on, low-space, low-hex}
 
 -- ---- one step behind another
 
@@ -71,22 +71,6 @@ next-outside-fails p b bs e = off-end p (b ∷ bs) (ap isEnd (ap (λ q. reached 
 pub at-byte : (t : List ℕ) (at : ℕ) → at < length t → drop at t ≡ getD t at 0 ∷ drop (at + 1) t
 at-byte t at h = drop-cons t at 0 h ∙ rw add-one
 
--- the place and the items so far, counted from the front
-module _ (list : List ℕ) (p : Place) (i : ℕ) (h : i < length list) where
-  one-more : take (i + 1) list ≡ take i list ++ (getD list i 0 ∷ [])
-  one-more = rw (add-one, take-suc list i 0 h)
-
-  pub front-place : reached p (take (i + 1) list) ≡ next (reached p (take i list)) (getD list i 0)
-  unfolding reached
-  front-place = ap (reached p) one-more ∙ reached-append p (take i list) (getD list i 0 ∷ [])
-
-  pub front-items : items p (take (i + 1) list) ≡ items p (take i list) ++ ends (reached p (take i list)) (getD list i 0)
-  unfolding items
-  front-items =
-      ap (items p) one-more ∙ items-append p (take i list) (getD list i 0 ∷ [])
-      ∙ ap (λ l. items p (take i list) ++ l) (append-nil (ends (reached p (take i list)) (getD list i 0)))
-
--- a byte below 80 at which no item ends
 pub byte : {p q : Place} {b : ℕ} (bs : List ℕ) → b < 0x80 → next p b ≡ q → ends p b ≡ [] → Onward p (b ∷ bs) q bs
 unfolding reached items
 byte {b = b} bs l n m = record { to = ap (λ x. reached x bs) n; has = ap₂ (λ l x. l ++ items x bs) m n; well = ascii-on b bs l }
@@ -174,14 +158,6 @@ unfolding next ends
 next-digit s n b e = (rw e, rw e)
 
 -- a run of digits
-pub digits : (s : Sign) (n : ℕ) (xs bs : List ℕ) → T (allOf isDigit xs) → Onward (inNumber s n) (xs ++ bs) (inNumber s (valueFrom n xs)) bs
-digits s n [] bs h = onward-none (inNumber s n) bs
-digits s n (b ∷ xs) bs h =
-    let (e, r) = both (isDigit b) (allOf isDigit xs) .0 h in
-    let k = holds (isDigit b) e in
-    let (d, f) = next-digit s n b k in
-    onward-then (byte {b = b} (xs ++ bs) (low-digit b k) d f) (digits s (n * 10 + digitValue b) xs bs r)
-
 -- a number ends before the first byte that is no digit
 pub number-ends : (s : Sign) (n b : ℕ) (bs : List ℕ) → isDigit b ≡ false → Passes (number s n) (inNumber s n) (b ∷ bs) afterValue (b ∷ bs)
 unfolding reached items
@@ -262,10 +238,6 @@ along t at to {p} h o =
 module _ {t : List ℕ} {at to : ℕ} where
   pub run-spaces : {p : Place} → Run isSpace t at to → T (between p) → Onward p (drop at t) p (drop to t)
   run-spaces {p} r h = along t at to (r .above) (spaces p (take (to - at) (drop at t)) (drop to t) h (r .all))
-
-  pub run-digits : (s : Sign) (n : ℕ) → Run isDigit t at to
-      → Onward (inNumber s n) (drop at t) (inNumber s (valueFrom n (take (to - at) (drop at t)))) (drop to t)
-  run-digits s n r = along t at to (r .above) (digits s n (take (to - at) (drop at t)) (drop to t) (r .all))
 
   pub run-plain : {chars : ℕ} → Plain t at to chars → (s : List ℕ)
       → Onward (inString s) (drop at t) (inString (s ++ take (to - at) (drop at t))) (drop to t)

@@ -17,7 +17,7 @@ use Rattle.buffers.proofs.Tests as tests
 use Rattle.characters.proofs.Leads.{within-bounds, sane, sane-lead}
 use Rattle.characters.proofs.Bytes.{each-at}
 use Rattle.characters.proofs.Chars.{split, well-append}
-use Rattle.json_lists.specs.Form.{Item, number, string, isSpace, isDigit, isDigit1-9, isHex, hexValue, isHigh, isLow, paired, Place, atStart, afterBracket, afterComma, afterMinus, inNumber, inString, afterEscape, inUnicode, afterHigh, afterHighEscape, afterValue, atEnd, outside, begins, follows, inText, escapes, named, counted, next, ends, reached, items, inForm, read}
+use Rattle.json_lists.specs.Form.{Item, number, string, isSpace, isDigit, isDigit1-9, isHex, hexValue, isHigh, isLow, paired, Place, atStart, afterBracket, afterComma, afterMinus, inNumber, inString, afterEscape, inUnicode, afterHigh, afterHighEscape, afterValue, atEnd, outside, begins, follows, inText, escapes, named, counted, next, ends, items, inForm, read}
 use Rattle.json_lists.proofs.Ascii.{lead-ascii, ascii-well, low-eq, low-space, low-digit1-9, low-digit, low-hex, low-self}
 use Rattle.json_lists.proofs.Scalars.{named-scalar, encode-text, paired-scalar}
 
@@ -226,41 +226,3 @@ strings-well list l e = go (inForm list) refl e
         let z : items atStart list ≡ l = cc e in
         rw (← z) (items-well list atStart (Of 0 0x80 0xBF) tt (split (wellFormed list) _ h .0) tt)
     go false h e = absurd (let z : _≡_ {A = ℕ} 0 1 = cc e in omega arith)
-
--- ---- the text so far
-
--- what is due of a character at a place
-pub record Due (p : Place) (bs : List ℕ) : Type 0 where
-  pub lead : Lead
-  pub is-sane : T (sane lead)
-  pub goes-on : wellFormedFrom bs lead ≡ true
-  pub sound : Sound p lead
-
-due-on : (bs cs : List ℕ) (p : Place) (x : Lead) → T (sane x) → wellFormedFrom (bs ++ cs) x ≡ true → Sound p x → Due (reached p bs) cs
-unfolding reached
-due-on [] cs p x s e h = record { lead = x; is-sane = s; goes-on = e; sound = h }
-due-on (b ∷ bs) cs p Bad s e h = absurd (false≢true e)
-due-on (b ∷ bs) cs p (Of zero lo hi) s e h = due-on bs cs (next p b) (leadOf b) (sane-lead b) e (sound-next b p lo hi h)
-due-on (b ∷ bs) cs p (Of (suc n) lo hi) s e h =
-    let (w, r) = split (within lo hi b) (wellFormedFrom (bs ++ cs) (Of n 0x80 0xBF)) e in
-    let (l, _) = within-bounds lo hi b (known w) in
-    let (x, y) = le-and 0x80 lo (leb hi 0xBF) .0 s in
-    due-on bs cs (next p b) (Of n 0x80 0xBF) tt r (inner-next p b n lo hi (omega arith) w h .0)
-
--- before an ASCII byte, as a quotation mark or a backslash, a string's text so far is well-formed
-pub text-so-far : (xs bs t : List ℕ) (b : ℕ) → T (wellFormed (xs ++ (b ∷ bs))) → reached atStart xs ≡ inString t → b < 0x80 → T (wellFormed t)
-text-so-far xs bs t b w e h =
-    let d = due-on xs (b ∷ bs) atStart (Of 0 0x80 0xBF) tt (holds (wellFormed (xs ++ (b ∷ bs))) w) tt in
-    go (d .lead) (d .is-sane) (d .goes-on) (rw e at (d .sound))
-  where
-    go : (x : Lead) → T (sane x) → wellFormedFrom (b ∷ bs) x ≡ true → Leads t x → T (wellFormed t)
-    go Bad s r k = absurd (false≢true r)
-    go (Of zero lo hi) s r k = known (ap wellFormed (sym (append-nil t)) ∙ k .goes-on [])
-    go (Of (suc n) lo hi) s r k =
-        let (l, _) = within-bounds lo hi b (known (split (within lo hi b) (wellFormedFrom bs (Of n 0x80 0xBF)) r .0)) in
-        let (x, y) = le-and 0x80 lo (leb hi 0xBF) .0 s in
-        absurd (omega arith)
-
--- so is a part of it, from one such byte to another
-pub part-well : (s t : List ℕ) → T (wellFormed s) → T (wellFormed (s ++ t)) → T (wellFormed t)
-part-well s t h k = known (sym (well-append s t (holds (wellFormed s) h)) ∙ holds (wellFormed (s ++ t)) k)

@@ -1,5 +1,5 @@
 -- What the functions that read and write lists promise each other. Only contracts of inner functions cite this.
-use Prim.Native.Nat.{ℕ, _+_, _*_, _≤_, _<_, _-_, min}
+use Prim.Native.Nat.{ℕ, _+_, _≤_, _<_, _-_, min}
 use mathlib.Core.Path.{_≡_}
 use mathlib.Core.Bool.{Bool, true, false, cond, _&&_, _||_}
 use mathlib.Core.List.{List, [], _∷_}
@@ -9,7 +9,7 @@ use Rattle.buffers.specs.Lists.{allOf}
 use Rattle.characters.specs.Form.{wellFormed}
 use Rattle.characters.specs.Chars.{numChars}
 use Rattle.record.specs.Layout.{maxSize}
-use Rattle.json_lists.specs.Form.{Item, number, string, Place, digitValue, isEnd, reached, items}
+use Rattle.json_lists.specs.Form.{Item, number, string, Place, isEnd, reached, items}
 use Rattle.json_lists.specs.Grammar.{isRaw}
 
 -- ---- runs of bytes
@@ -30,11 +30,6 @@ pub record Plain (t : List ℕ) (at to chars : ℕ) : Type 0 where
   pub num : chars ≡ numChars (take (to - at) (drop at t))
   pub few : chars ≤ to - at
   pub stops : to < length t → isRaw (getD t to 0) ≡ true → wellFormed (drop to t) ≡ false
-
--- the value of digits behind a number that has the value n so far
-abbrev pub valueFrom : ℕ → List ℕ → ℕ
-valueFrom n [] = n
-valueFrom n (b ∷ bs) = valueFrom (n * 10 + digitValue b) bs
 
 -- how many bytes a scalar value has
 unfoldable pub width : ℕ → ℕ

@@ -1,5 +1,5 @@
-// The parts of the check, between which another crate can go over the inserted texts in its own way; and what the crates above ask of a
-// record that was checked.
+// The parts of the check, so that another crate can go over the entries or the inserted texts in its own way between them; and what the
+// crates above ask of a record that was checked.
 use answers::Fact;
 use answers::Refusal;
 use inserts::core::Inserted;
