@@ -1,7 +1,7 @@
 -- From what the code finds to the answer of apply.
 use Prim.Native.Nat.{ℕ, _+_, _≤_, _<_, zero, suc}
 use mathlib.Core.List.{List, [], _++_, _∷_}
-use lib.Dec.{eqb, T}
+use lib.Dec.{T}
 use mathlib.Core.Path.{_≡_, _∙_, ap, refl, sym}
 use native.Mathlib.Omega.{arith}
 use lib.ListN.{length}
@@ -16,7 +16,7 @@ use Rattle.characters.specs.declared.Form.{Form}
 use Rattle.characters.specs.declared.Form.the-variants as form
 use Rattle.characters.specs.InnerPassed.{formOf}
 use Rattle.characters.proofs.Passed.{form-ill, form-well, form-num}
-use Rattle.answers.specs.Answer.{needs, orElse, refused, success, number, factOf, unlessRefused}
+use Rattle.answers.specs.Answer.{refused, success, number, factOf, unlessRefused}
 use Rattle.answers.specs.declared.Refusal.{Refusal}
 use Rattle.answers.specs.declared.Fact.{Fact}
 use Rattle.answers.specs.declared.Fact.the-variants as fact
@@ -25,19 +25,16 @@ use Rattle.record.specs.Layout.{baseOf, textBytesOf}
 use Rattle.record.specs.Record.{recordFault}
 use Rattle.record.specs.Calls.{checkCall}
 use Rattle.record.proofs.Checked.{same-refusal, passed}
-use Rattle.operational_transform.specs.Calls.{textFault, applyCall}
+use Rattle.operational_transform.specs.Calls.{baseTextFault, applyCall}
 use Rattle.apply_steps.specs.InnerSteps.{played}
 use Rattle.apply_steps.proofs.Playing.{played-most}
 
 -- ---- apply
 
-abbrev faultOf : List ℕ → List ℕ → ℕ
-faultOf r t = orElse (textFault r t) (needs (eqb (numChars t) (baseOf r)) 8 0)
-
 -- the answer is a refusal, and the output is as it was
 pub stopped : (r t o : List ℕ) {o₁ : List ℕ} (n : ℕ) → o₁ ≡ o → refused n ≡ applyCall r t o .answer → (refused n ≡ applyCall r t o .answer) × (o₁ ≡ applyCall r t o .out)
 unfolding applyCall played
-stopped r t o n e h = (h, e ∙ untouched (faultOf r t) (played r t) o n h)
+stopped r t o n e h = (h, e ∙ untouched (baseTextFault r t) (played r t) o n h)
 
 -- a run on no output leaves it
 pub unchanged : (r t o e : List ℕ) → e ≡ over 0 (played r t) [] → e ++ o ≡ o
@@ -45,14 +42,14 @@ unchanged r t o e p = ap (λ l. l ++ o) (p ∙ over-none 0 (played r t))
 
 -- after all checks but that of the room
 module _ (r t o : List ℕ) (z : recordFault r ≡ 0) (w : T (wellFormed t)) (a : numChars t ≡ baseOf r) where
-  no-fault : faultOf r t ≡ 0
+  no-fault : baseTextFault r t ≡ 0
   no-fault = rw (z, holds (wellFormed t) w, eq-eqb (numChars t) (baseOf r) a)
 
   -- there is room
   module _ (room : length (played r t) ≤ length o) where
     whole : record { answer = success (length (played r t) ∷ []); out = atFront (played r t) o } ≡ applyCall r t o
     unfolding applyCall played
-    whole = writing-goes (faultOf r t) (played r t) o no-fault room
+    whole = writing-goes (baseTextFault r t) (played r t) o no-fault room
 
     gives-size : (k : ℕ) → k ≡ length (played r t) → success (k ∷ []) ≡ applyCall r t o .answer
     gives-size k p = ap (λ i. success (i ∷ [])) p ∙ ap (λ x. x .answer) whole
@@ -78,7 +75,7 @@ module _ (r t o : List ℕ) (z : recordFault r ≡ 0) (w : T (wellFormed t)) (a 
 
     pub apply-10 : length (e ++ o) < size → refused 10 ≡ applyCall r t o .answer
     unfolding applyCall played
-    apply-10 l = writing-short (faultOf r t) (played r t) o no-fault (omega (arith, ap length same))
+    apply-10 l = writing-short (baseTextFault r t) (played r t) o no-fault (omega (arith, ap length same))
 
     module _ (l : size ≤ length (e ++ o)) where
       room : length (played r t) ≤ length o
@@ -98,17 +95,17 @@ module _ (r t o : List ℕ) (f : Fact) (p : factOf f ≡ checkCall r) where
     where
       go : (k : ℕ) → recordFault r ≡ k → refused (number x) ≡ unlessRefused k refused (success []) → refused (number x) ≡ applyCall r t o .answer
       go zero z e = absurd (let y : _≡_ {A = ℕ} 0 1 = cc e in omega arith)
-      go (suc k) z e = e ∙ writing-stops (faultOf r t) (played r t) o k (rw z)
+      go (suc k) z e = e ∙ writing-stops (baseTextFault r t) (played r t) o k (rw z)
 
   module _ (s : ℕ) (q : f ≡ fact.Is s) (v : Form) (pv : v ≡ formOf t) where
     pub apply-3 : v ≡ form.IllFormed → refused 3 ≡ applyCall r t o .answer
     unfolding applyCall played
-    apply-3 h = writing-stops (faultOf r t) (played r t) o 2 (rw (passed r f p s q, sym (form-ill t v pv h)))
+    apply-3 h = writing-stops (baseTextFault r t) (played r t) o 2 (rw (passed r f p s q, sym (form-ill t v pv h)))
 
     pub apply-8 : (n b : ℕ) → v ≡ form.Chars n → b ≡ baseOf r → (n ≡ b → ⊥) → refused 8 ≡ applyCall r t o .answer
     unfolding applyCall played
     apply-8 n b h pb d =
-        writing-stops (faultOf r t) (played r t) o 7 (rw (passed r f p s q, sym (form-well t v pv h), ne-eqb (numChars t) (baseOf r) (λ z. d (form-num t v pv h ∙ z ∙ sym pb))))
+        writing-stops (baseTextFault r t) (played r t) o 7 (rw (passed r f p s q, sym (form-well t v pv h), ne-eqb (numChars t) (baseOf r) (λ z. d (form-num t v pv h ∙ z ∙ sym pb))))
 
 pub agree : (r t : List ℕ) (v : Form) (n b : ℕ) → v ≡ formOf t → v ≡ form.Chars n → b ≡ baseOf r → n ≡ b → numChars t ≡ baseOf r
 agree r t v n b pv h pb m = sym (form-num t v pv h) ∙ m ∙ pb

@@ -6,9 +6,7 @@ use mathlib.Core.List.{List, _++_, []}
 use lib.ListN.{length, take, drop, length-append, length-drop}
 use lib.Seq.{drop-drop, take-append-seam, drop-append-seam, length-take-le}
 use native.Mathlib.Nat.{add-zero}
-use mathlib.Core.Bool.{Bool, true, false}
-use lib.Dec.{eqb, T}
-use borrow.Author.Tests.{eqb-true, eqb-false}
+use lib.Dec.{T}
 use Rattle.buffers.specs.InnerOver.{over}
 use Rattle.buffers.proofs.Over.{over-nil}
 use Rattle.characters.specs.Text.{Char, chars, bytes}
@@ -18,7 +16,7 @@ use Rattle.characters.specs.Form.{wellFormed}
 use Rattle.characters.proofs.Texts.{bytes-append, bytes-chars, chars-length}
 use Rattle.characters.proofs.Places.{stays-there}
 use Rattle.characters.proofs.Widths.{bytes-most}
-use Rattle.edits.specs.Op.{Op, takes, base, retain, insert, delete}
+use Rattle.edits.specs.Op.{Op, takes, retain, insert, delete}
 use Rattle.edits.specs.Apply.{writes, apply}
 use Rattle.edits.proofs.Theorems.{apply-length}
 use Rattle.record.specs.InnerFront.{opsLeft}
@@ -26,9 +24,10 @@ use Rattle.record.specs.Layout.{opCountOf, kindAt, countAt, textBytesOf, baseOf
 use Rattle.record.specs.Record.{ops, recordFault}
 use Rattle.record.proofs.Records.{ops-text, ops-base, ops-good}
 use Rattle.record.proofs.Sequences.{fits-limits, apply-most}
-use Rattle.reader.proofs.Fronts.{Begins, begins-none, begins-retain, begins-delete, load-room, begins-well, begins-insert, place-start, ops-start}
+use Rattle.reader.proofs.Fronts.{Begins, begins-none, begins-retain, begins-delete, load-room, begins-well, begins-insert, ops-start}
 use Rattle.apply_steps.specs.declared.core.Progress.{Progress}
 use Rattle.apply_steps.specs.InnerSteps.{played, Stage, Steps, TakesRest}
+use Rattle.apply_steps.proofs.Passing.{along-next, along-start, along-room, along-rest}
 
 -- ---- one step
 
@@ -51,10 +50,7 @@ module _ (r t : List ℕ) (s : Progress) (g : Stage r t s) (o : Op Char) (to end
       let j : len - s .len ≡ length y = omega arith in
       record {
         stage = record {
-          place = b .place;
-          inside = v .below;
-          well = v .well;
-          takes-all = ap length (v .left) ∙ length-drop (takes o) x ∙ omega (arith, g .takes-all, ap base (b .has));
+          along = along-next r t (s .k) (s .from) (s .at) o to end (g .along) b v;
           small = g .small;
           given = omega (arith, g .given, m);
           left =
@@ -72,40 +68,29 @@ module _ (r t : List ℕ) (s : Progress) (g : Stage r t s) (o : Op Char) (to end
 module _ (r t : List ℕ) (n : ℕ) (s : Progress) (kind count : ℕ) (g : Stage r t s) (p : n ≡ opCountOf r) (h : s .k < n) (q : kind ≡ kindAt r (s .k)) (c : count ≡ countAt r (s .k)) (small : count < 65536) where
   module _ (e : kind ≡ 2) where
     pub insert-room : s .from + count ≤ length r
-    insert-room = load-room r n (s .k) (s .from) kind count p (g .place) h q c small e
+    insert-room = load-room r n (s .k) (s .from) kind count p (g .along .place) h q c small e
 
     pub step-insert : (b d : List ℕ) → d ≡ over (s .len) (take (s .from + count - s .from) (drop (s .from) r)) b
         → Steps r t s b (record { k = s .k + 1; from = s .from + count; at = s .at; len = s .len + count }) d
     step-insert b d w =
         let y = take (s .from + count - s .from) (drop (s .from) r) in
         let l : length y ≡ count = length-take-le (s .from + count - s .from) (drop (s .from) r) (simp length-drop (omega (arith, insert-room))) ∙ omega arith in
-        moves r t s g (insert (chars y)) (s .from + count) (s .at) (begins-insert r n (s .k) (s .from) kind count p (g .place) h q c small e) (stays-there t (s .at) (g .inside) (g .well)) y (s .len + count) b d
-        (sym (bytes-chars y (begins-well r n (s .k) (s .from) kind count p (g .place) h q c small e)))
+        moves r t s g (insert (chars y)) (s .from + count) (s .at) (begins-insert r n (s .k) (s .from) kind count p (g .along .place) h q c small e) (stays-there t (s .at) (g .along .inside) (g .along .well)) y (s .len + count) b d
+        (sym (bytes-chars y (begins-well r n (s .k) (s .from) kind count p (g .along .place) h q c small e)))
         (ap (λ i. s .len + i) (sym l))
         w
 
   retain-begins : kind ≡ 1 → Begins r (s .k) (s .from) (retain count) (s .from)
-  retain-begins = begins-retain r n (s .k) (s .from) kind count p (g .place) h q c small
+  retain-begins = begins-retain r n (s .k) (s .from) kind count p (g .along .place) h q c small
 
   delete-begins : (kind ≡ 1 → ⊥) → (kind ≡ 2 → ⊥) → Begins r (s .k) (s .from) (delete count) (s .from)
-  delete-begins = begins-delete r n (s .k) (s .from) kind count p (g .place) h q c small
+  delete-begins = begins-delete r n (s .k) (s .from) kind count p (g .along .place) h q c small
 
-  -- the text has the characters that a retain or a delete takes
   pub chars-room : (kind ≡ 2 → ⊥) → count ≤ numChars (drop (s .at) t)
-  chars-room z = go (eqb kind 1) refl
-    where
-      go : (b : Bool) → eqb kind 1 ≡ b → count ≤ numChars (drop (s .at) t)
-      go true y = omega (arith, chars-length (drop (s .at) t) (g .well), g .takes-all, ap base (retain-begins (eqb-true kind 1 y) .has))
-      go false y = omega (arith, chars-length (drop (s .at) t) (g .well), g .takes-all, ap base (delete-begins (eqb-false kind 1 y) z .has))
+  chars-room = along-room r t n (s .k) (s .from) (s .at) kind count (g .along) p h q c small
 
   pub takes-rest : (kind ≡ 2 → ⊥) → TakesRest t (s .at) count (n - s .k)
-  takes-rest z = record { rest = λ e. go (eqb kind 1) refl e }
-    where
-      go : (b : Bool) → eqb kind 1 ≡ b → n - s .k ≡ 1 → count ≡ numChars (drop (s .at) t)
-      go true y e =
-          omega (arith, chars-length (drop (s .at) t) (g .well), g .takes-all, ap base (retain-begins (eqb-true kind 1 y) .has), ap base (begins-none r n (s .k + 1) (s .from) p (omega arith)))
-      go false y e =
-          omega (arith, chars-length (drop (s .at) t) (g .well), g .takes-all, ap base (delete-begins (eqb-false kind 1 y) z .has), ap base (begins-none r n (s .k + 1) (s .from) p (omega arith)))
+  takes-rest = along-rest r t n (s .k) (s .from) (s .at) kind count (g .along) p h q c small
 
   module _ (end : ℕ) (v : Passes t (s .at) count end) where
     pub step-retain : (b d : List ℕ) → kind ≡ 1 → d ≡ over (s .len) (take (end - s .at) (drop (s .at) t)) b
@@ -139,10 +124,7 @@ pub stage-start : (r t : List ℕ) (n from : ℕ) → recordFault r ≡ 0 → T 
 stage-start r t n from z w e p q =
     let a = ops-start r n from z p q in
     record {
-      place = place-start r n from z p q;
-      inside = zero-le;
-      well = w;
-      takes-all = chars-length t w ∙ e ∙ sym (ops-base r z) ∙ ap base (sym a);
+      along = along-start r t n from z w e p q;
       small = played-small r t z w e;
       given = zero-le;
       left = unfold played in ap (λ q. bytes (apply q (chars t))) (sym a);

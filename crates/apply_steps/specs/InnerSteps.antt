@@ -19,12 +19,17 @@ unfoldable pub played : List ℕ → List ℕ → List ℕ
 unfolding ops chars bytes
 played r t = bytes (apply (ops r) (chars t))
 
--- of it, `len` bytes were given, and the operations from k on make the others of what lies ahead in the text
+-- gone through a record and a text up to operation k and `at`: the next insert's text stands at `from`, and the text has left just
+-- the characters that the operations ahead take
+pub record Along (r t : List ℕ) (k from at : ℕ) : Type 0 where
+  pub place : Place r k from
+  pub inside : at ≤ length t
+  pub well : T (wellFormed (drop at t))
+  pub takes-all : length (chars (drop at t)) ≡ base (opsLeft r k from)
+
+-- of the text after the edit `len` bytes were given, and the operations from k on make the others of what lies ahead in the text
 pub record Stage (r t : List ℕ) (s : Progress) : Type 0 where
-  pub place : Place r (s .k) (s .from)
-  pub inside : s .at ≤ length t
-  pub well : T (wellFormed (drop (s .at) t))
-  pub takes-all : length (chars (drop (s .at) t)) ≡ base (opsLeft r (s .k) (s .from))
+  pub along : Along r t (s .k) (s .from) (s .at)
   pub small : length (played r t) ≤ 131072
   pub given : s .len ≤ length (played r t)
   pub left : drop (s .len) (played r t) ≡ bytes (apply (opsLeft r (s .k) (s .from)) (chars (drop (s .at) t)))

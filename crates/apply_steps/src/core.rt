@@ -36,7 +36,7 @@ fn skip_chars(text: &[u8], chars: usize, at: usize, count: usize) -> usize
 }
 
 // The place `count` characters behind `at`, where the operation that takes them is the first of `left`: the last takes all.
-fn end_of(text: &[u8], chars: usize, at: usize, count: usize, left: usize) -> usize
+pub fn end_of(text: &[u8], chars: usize, at: usize, count: usize, left: usize) -> usize
     requires { ⌜ (chars ≡ numChars (now text)) × (at ≤ length (now text)) × T (wellFormed (drop at (now text))) × (count < 65536)
         × (count ≤ numChars (drop at (now text))) × TakesRest (now text) at count left ⌝ }
     ensures { λ end. ⌜ Passes (now (text .entry)) at count end ⌝ }

@@ -11,7 +11,6 @@ use lib.ListN.{length}
 use Rattle.buffers.specs.Buffers.{atFront}
 use Rattle.buffers.specs.Words.{words}
 use Rattle.buffers.proofs.Tests.{both}
-use Rattle.characters.specs.Chars.{numChars}
 use Rattle.characters.specs.Text.{chars, bytes}
 use Rattle.edits.specs.Op.{retain, insert, delete}
 use Rattle.edits.specs.Sequence.{Seq}
@@ -28,7 +27,7 @@ use Rattle.record.specs.Layout.{baseOf, targetOf, sizeOf, maxSize}
 use Rattle.record.specs.Record.{ops, recordFault, encode, fits}
 use Rattle.record.specs.Calls.{checkCall, baseCall, targetCall, noEffect, noopCall}
 use Rattle.record.proofs.Faults.{InLimits, limits, faultless}
-use Rattle.operational_transform.specs.Calls.{transformCall, recordsFault, textFault, deliver, retainCall, deleteCall, insertCall, applyCall, invertCall, composeCall}
+use Rattle.operational_transform.specs.Calls.{transformCall, recordsFault, textFault, baseTextFault, deliver, retainCall, deleteCall, insertCall, applyCall, invertCall, composeCall}
 use Rattle.json_lists.specs.Form.{Item, read}
 use Rattle.json_lists.specs.Written.{written as listOf}
 use Rattle.json_lists.specs.Calls.{opsOf, made, fromJsonCall, toJsonCall}
@@ -154,11 +153,11 @@ module _ (o : List ℕ) (h : length o < 2 ^ 63) where
 
     pub apply-read : (t : List ℕ) → let a = applyCall r t o .answer in readOne (packed a) ≡ a
     unfolding applyCall
-    apply-read t = written (orElse (textFault r t) (needs (eqb (numChars t) (baseOf r)) 8 0)) (bytes (apply (ops r) (chars t))) o h
+    apply-read t = written (baseTextFault r t) (bytes (apply (ops r) (chars t))) o h
 
     pub invert-read : (t : List ℕ) → let a = invertCall r t o .answer in readOne (packed a) ≡ a
     unfolding invertCall
-    invert-read t = delivered (textFault r t) (invert (ops r) (chars t))
+    invert-read t = delivered (baseTextFault r t) (invert (ops r) (chars t))
 
     pub compose-read : (s : List ℕ) → let a = composeCall r s o .answer in readOne (packed a) ≡ a
     unfolding composeCall

@@ -1,4 +1,4 @@
--- Document 01, "Invert".
+-- Document 01, "Invert", on a text of base characters (document 02, M-101).
 use mathlib.Core.List.{List, [], _∷_}
 use lib.ListN.{length, take, drop}
 use Rattle.edits.specs.Op.{Op, retain, insert, delete, takes}
@@ -12,7 +12,7 @@ module _ {C : Type 0} where
   undo (insert s) t = delete (length s)
   undo (delete n) t = insert (take n t)
 
-  -- "where characters run out, none are taken"
+  -- each operation takes its characters off the text
   abbrev pub undoAll : List (Op C) → List C → List (Op C)
   undoAll [] t = []
   undoAll (o ∷ s) t = undo o t ∷ undoAll s (drop (takes o) t)

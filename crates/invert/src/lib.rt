@@ -5,8 +5,8 @@ use answers::Written;
 use characters::Form;
 use record::core::MAX_SIZE;
 ghost use mathlib.Core.Path.{_≡_};
-ghost use Prim.Native.Nat.{_≤_, _^_, _+_};
-ghost use lib.Dec.{T, leb, eqb};
+ghost use Prim.Native.Nat.{_≤_, _+_};
+ghost use lib.Dec.{T, leb};
 ghost use lib.ListN.{length};
 ghost use mathlib.Core.Bool.{_&&_};
 ghost use Rattle.characters.specs.Form.{wellFormed};
@@ -18,72 +18,72 @@ ghost use Rattle.answers.specs.Answer.{writtenOf};
 ghost use Rattle.record.specs.Layout.{opCountOf, maxOps, baseOf, textStart, maxSize};
 ghost use Rattle.record.specs.Record.{ops, recordFault};
 ghost use Rattle.operational_transform.specs.Calls.{deliver, invertCall};
-ghost use Rattle.emitter.specs.InnerEmit.{Writes};
+ghost use Rattle.invert_in_place.specs.InnerInverting.{insertedBack};
+ghost use Rattle.invert.specs.InnerDeciding.{decidedOf};
 
-// The record of an inverse of n operations is written.
-fn write(rec: &[u8], count: usize, text: &[u8], chars: usize, out: &mut [u8], n: usize)
-    requires { ⌜ (recordFault (now rec) ≡ 0) × (count ≡ opCountOf (now rec)) × (count ≤ maxOps) × T (wellFormed (now text))
-        × (chars ≡ numChars (now text)) × (n ≤ 2 ^ 40) ⌝ }
-    ensures { λ _. ⌜ Writes n (invertOf (ops (now (rec .entry))) (charsOf (now (text .entry)))) (now (out .entry)) (now (out .exit)) ⌝ }
-{
-    let e = invert_steps::core::invert_into(rec, count, text, chars, out, n);
-    emitter::core::write_header(out, e);
+// Whether the inverse is written: nothing refuses it, or 9 or 10 does.
+enum Decided {
+    Fits,
+    Refused(Refusal),
 }
 
-// Whether nothing can be refused: on a text of base characters the inverse has as many operations as the record, and no more text
-// than the text.
-fn surely_fits(rec: &[u8], count: usize, text: &[u8], chars: usize, room: usize) -> bool
-    requires { ⌜ (recordFault (now rec) ≡ 0) × (count ≤ maxOps) ⌝ }
-    ensures { λ r. ⌜ r ≡ (eqb chars (baseOf (now (rec .entry))) &&
-        (leb (length (now (text .entry))) maxSize && leb (textStart count + length (now (text .entry))) room)) ⌝ }
+// How many bytes the inverse inserts: those that the edit deletes, which are the text's and the inserted ones less those of the text
+// after the edit. A run of apply on an output of no bytes yields the size of that.
+fn deleted_bytes(rec: &[u8], text: &[u8]) -> usize
+    requires { ⌜ (recordFault (now rec) ≡ 0) × T (wellFormed (now text)) × (numChars (now text) ≡ baseOf (now rec)) ⌝ }
+    ensures { λ r. ⌜ (r ≡ insertedBack (now (rec .entry)) (now (text .entry))) × (r ≤ length (now (text .entry))) ⌝ }
 {
-    if chars != reader::core::base(rec) {
-        return false;
-    }
+    let mut none = [0u8; 0];
+    let played = apply_steps::core::apply_into(&mut none, rec, text);
+    text.len() + reader::core::text_bytes(rec) - played
+}
+
+// Whether nothing can be refused: the inverse has as many operations as the record, and no more text than the text.
+fn surely_fits(count: usize, text: &[u8], room: usize) -> bool
+    requires { ⌜ count ≤ maxOps ⌝ }
+    ensures { λ r. ⌜ r ≡ (leb (length (now (text .entry))) maxSize && leb (textStart count + length (now (text .entry))) room) ⌝ }
+{
     if MAX_SIZE < text.len() {
         return false;
     }
     layout::core::text_start(count) + text.len() <= room
 }
 
-// Where something may be refused, a first run yields the sizes and writes nothing.
-fn measure_then_write(
-    rec: &[u8],
-    count: usize,
-    text: &[u8],
-    chars: usize,
-    out: &mut [u8],
-) -> Written
+// 9, then 10.
+fn decide(rec: &[u8], count: usize, text: &[u8], room: usize) -> Decided
     requires { ⌜ (recordFault (now rec) ≡ 0) × (count ≡ opCountOf (now rec)) × (count ≤ maxOps) × T (wellFormed (now text))
-        × (chars ≡ numChars (now text)) ⌝ }
-    ensures { λ r. ⌜ Gives (deliver 0 (invertOf (ops (now (rec .entry))) (charsOf (now (text .entry)))) (now (out .entry))) r
-        (now (out .exit)) ⌝ }
+        × (numChars (now text) ≡ baseOf (now rec)) ⌝ }
+    ensures { λ d. ⌜ d ≡ decidedOf (insertedBack (now (rec .entry)) (now (text .entry))) count room ⌝ }
 {
-    let mut none = [0u8; 0];
-    let e = invert_steps::core::invert_into(rec, count, text, chars, &mut none, count);
-    match emitter::core::limits_then_room(e, out.len()) {
-        Written::Refused(x) => Written::Refused(x),
-        Written::Bytes(k) => {
-            write(rec, count, text, chars, out, e.ops);
-            Written::Bytes(k)
-        }
+    if surely_fits(count, text, room) {
+        return Decided::Fits;
     }
+    let size = deleted_bytes(rec, text);
+    if MAX_SIZE < size {
+        return Decided::Refused(Refusal::Limit);
+    }
+    if room < layout::core::text_start(count) + size {
+        return Decided::Refused(Refusal::Room);
+    }
+    Decided::Fits
 }
 
-// The answer of `invert` for a record and a text that were checked.
-fn inverted(rec: &[u8], text: &[u8], chars: usize, out: &mut [u8]) -> Written
-    requires { ⌜ (recordFault (now rec) ≡ 0) × T (wellFormed (now text)) × (chars ≡ numChars (now text)) ⌝ }
+// The answer of `invert` for a record and a text of base characters.
+fn inverted(rec: &[u8], text: &[u8], out: &mut [u8]) -> Written
+    requires { ⌜ (recordFault (now rec) ≡ 0) × T (wellFormed (now text)) × (numChars (now text) ≡ baseOf (now rec)) ⌝ }
     ensures { λ r. ⌜ Gives (deliver 0 (invertOf (ops (now (rec .entry))) (charsOf (now (text .entry)))) (now (out .entry))) r
         (now (out .exit)) ⌝ }
 {
     let count = reader::core::op_count(rec);
-    if surely_fits(rec, count, text, chars, out.len()) {
-        return invert_in_place::core::write_in_place(rec, count, text, chars, out);
+    match decide(rec, count, text, out.len()) {
+        Decided::Refused(x) => Written::Refused(x),
+        Decided::Fits => {
+            Written::Bytes(invert_in_place::core::write_in_place(rec, count, text, out))
+        }
     }
-    measure_then_write(rec, count, text, chars, out)
 }
 
-// The sequence that undoes the record's on the text that it was applied to.
+// The sequence that undoes the record's on the text that it is applied to.
 pub fn invert(rec: &[u8], text: &[u8], out: &mut [u8]) -> Written
     ensures { λ r. ⌜ (writtenOf r ≡ invertCall (now (rec .entry)) (now (text .entry)) (now (out .entry)) .answer)
         × (now (out .exit) ≡ invertCall (now (rec .entry)) (now (text .entry)) (now (out .entry)) .out) ⌝ }
@@ -94,7 +94,11 @@ pub fn invert(rec: &[u8], text: &[u8], out: &mut [u8]) -> Written
             let Form::Chars(chars) = utf8::core::form_of(text) else {
                 return Written::Refused(Refusal::Utf8);
             };
-            inverted(rec, text, chars, out)
+            let base = reader::core::base(rec);
+            if chars != base {
+                return Written::Refused(Refusal::IncompatibleLengths);
+            }
+            inverted(rec, text, out)
         }
     }
 }

@@ -1,4 +1,2 @@
 -- invert_in_place
-pub mod Passing
-pub mod Inverses
 pub mod Placing

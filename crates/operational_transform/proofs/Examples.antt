@@ -15,7 +15,7 @@ use Rattle.edits.specs.Transform.{transform}
 use Rattle.edits.specs.Invert.{invert}
 use Rattle.answers.specs.Answer.{success, refused}
 use Rattle.record.specs.Record.{encode}
-use Rattle.operational_transform.specs.Calls.{insertCall, transformCall, retainCall}
+use Rattle.operational_transform.specs.Calls.{insertCall, transformCall, retainCall, invertCall}
 
 abbrev R : ℕ → Op Char
 R n = retain n
@@ -62,9 +62,9 @@ pub table :
     -- T6, T7
     × (compose (I (0xC3 ∷ 0xA4 ∷ b ∷ []) ∷ []) (D 1 ∷ R 1 ∷ []) ≡ I (b ∷ []) ∷ [])
     × (compose (D 1 ∷ []) (I (x ∷ []) ∷ []) ≡ I (x ∷ []) ∷ D 1 ∷ [])
-    -- T8, on "abc" and on "a"
+    -- T8, on "abc"; on "a" it is an 8 (document 02, M-101)
     × (invert (R 1 ∷ I (z ∷ []) ∷ D 2 ∷ []) (chars (a ∷ b ∷ c ∷ [])) ≡ R 1 ∷ I (b ∷ c ∷ []) ∷ D 1 ∷ [])
-    × (invert (R 1 ∷ I (z ∷ []) ∷ D 2 ∷ []) (chars (a ∷ [])) ≡ R 1 ∷ D 1 ∷ [])
+    × (invertCall (encode (R 1 ∷ I (z ∷ []) ∷ D 2 ∷ [])) (a ∷ []) room .answer ≡ refused 8)
     -- T9
     × (insertCall empty (0xC0 ∷ 0x80 ∷ []) room .answer ≡ refused 3)
     × (insertCall empty (0xED ∷ 0xA0 ∷ 0x80 ∷ []) room .answer ≡ refused 3)
@@ -72,7 +72,7 @@ pub table :
     × (insertCall empty (0xF4 ∷ 0x8F ∷ 0xBF ∷ 0xBF ∷ []) room .answer ≡ success (15 ∷ []))
     -- T10
     × (transformCall (encode (R 1 ∷ [])) (encode (R 2 ∷ [])) room room .answer ≡ refused 8)
-unfolding build transform compose invert order chars bytes insertCall transformCall encode isCont within leadOf
+unfolding build transform compose invert order chars bytes insertCall transformCall invertCall encode isCont within leadOf
 table = (refl, refl, refl, refl, refl, refl, refl, refl, refl, refl, refl, refl, refl, refl, refl)
 
 -- "Retain 32,768 on the empty record passes; 32,769 gets 9."

@@ -10,7 +10,6 @@ use Rattle.buffers.proofs.Tests.{both}
 use Rattle.characters.specs.Text.{Char, chars, bytes}
 use Rattle.characters.specs.Form.{wellFormed}
 use Rattle.characters.specs.Order.{order}
-use Rattle.characters.specs.Chars.{numChars}
 use Rattle.edits.specs.Sequence.{Seq}
 use Rattle.edits.specs.Built.{Built}
 use Rattle.edits.specs.Op.{Op, retain, delete, insert}
@@ -27,7 +26,7 @@ use Rattle.answers.proofs.Outputs.{wrote, wroteBoth, atFront-take}
 use Rattle.record.specs.Layout.{sizeOf, baseOf, targetOf}
 use Rattle.record.specs.Record.{ops, recordFault, encode, fits}
 use Rattle.record.proofs.Records.{ops-encode, fault-encode, size-encode, ops-good}
-use Rattle.operational_transform.specs.Calls.{deliver, retainCall, deleteCall, textFault, insertCall, recordsFault, composeCall, invertCall, transformCall, applyCall}
+use Rattle.operational_transform.specs.Calls.{deliver, retainCall, deleteCall, textFault, baseTextFault, insertCall, recordsFault, composeCall, invertCall, transformCall, applyCall}
 
 -- the buffer has the record of `s` at its front, `n` bytes
 pub record Stored (s : Seq) (n : ℕ) (buffer : List ℕ) : Type 0 where
@@ -75,7 +74,7 @@ compose-written a b out =
 
 pub invert-written : (r t out : List ℕ) → T (succeeds (invertCall r t out .answer)) → Result (invert (ops r) (chars t)) (invertCall r t out)
 unfolding invertCall
-invert-written r t out = delivered (textFault r t) _ out (λ z. invert-built (ops r) (chars t))
+invert-written r t out = delivered (baseTextFault r t) _ out (λ z. invert-built (ops r) (chars t))
 
 pub record Results (s : Sides Char) (o : Outs) : Type 0 where
   pub size-a : ℕ
@@ -111,5 +110,5 @@ pub apply-written : (r t out : List ℕ) → T (succeeds (applyCall r t out .ans
 unfolding applyCall
 apply-written r t out g =
     let u = bytes (apply (ops r) (chars t)) in
-    let w = wrote (orElse (textFault r t) (needs (eqb (numChars t) (baseOf r)) 8 0)) u out g in
+    let w = wrote (baseTextFault r t) u out g in
     record { size = length u; answer = ap (λ o. o .answer) (w .is); out = ap (λ o. take (length u) (o .out)) (w .is) ∙ atFront-take u out }

@@ -42,7 +42,8 @@ module _ (r s : List ℕ) (a : Alike r s) where
 
   pub invert-unread : (t out : List ℕ) → invertCall r t out ≡ invertCall s t out
   unfolding invertCall
-  invert-unread t out = λ i. deliver (orElse (a .faults i) (needs (wellFormed t) 3 0)) (invert (same-seq a i) (chars t)) out
+  invert-unread t out =
+      λ i. deliver (orElse (orElse (a .faults i) (needs (wellFormed t) 3 0)) (needs (eqb (numChars t) (a .bases i)) 8 0)) (invert (same-seq a i) (chars t)) out
 
 -- ---- compose and transform
 module _ (a b c d : List ℕ) (p : Alike a c) (q : Alike b d) where

@@ -20,12 +20,15 @@ use Rattle.answers.specs.Output.{Out, writing, Outs, writingBoth}
 use Rattle.record.specs.Record.{recordFault, encode, fits, ops}
 use Rattle.record.specs.Layout.{baseOf, targetOf}
 
--- the operands: two records; a record and a text
+-- the operands: two records; a record and a text; a record and a text that has to have base characters
 abbrev pub recordsFault : List ℕ → List ℕ → ℕ
 recordsFault a b = orElse (recordFault a) (recordFault b)
 
 abbrev pub textFault : List ℕ → List ℕ → ℕ
 textFault r t = orElse (recordFault r) (needs (wellFormed t) 3 0)
+
+abbrev pub baseTextFault : List ℕ → List ℕ → ℕ
+baseTextFault r t = orElse (textFault r t) (needs (eqb (numChars t) (baseOf r)) 8 0)
 
 -- a resulting sequence goes to the output as a record, unless it passes a limit (9)
 unfoldable pub deliver : ℕ → Seq → List ℕ → Out
@@ -50,8 +53,7 @@ insertCall r t out = deliver (textFault r t) (extend (ops r) (insert (chars t)))
 
 unfoldable pub applyCall : List ℕ → List ℕ → List ℕ → Out
 unfolding writing recordFault ops chars bytes
-applyCall r t out =
-    writing (orElse (textFault r t) (needs (eqb (numChars t) (baseOf r)) 8 0)) (bytes (apply (ops r) (chars t))) out
+applyCall r t out = writing (baseTextFault r t) (bytes (apply (ops r) (chars t))) out
 
 -- ---- "Refused (8) when the first's target isn't the second's base."
 
@@ -70,8 +72,8 @@ transformCall a b x y =
     (orElse (recordsFault a b) (needs (eqb (baseOf a) (baseOf b)) 8 (needs (fits (s .left) && fits (s .right)) 9 0)))
     (encode (s .left)) (encode (s .right)) x y
 
--- ---- "the text's length isn't tested"
+-- ---- document 02, M-101: "Invert now tests that the text has base characters and answers 8 otherwise, after 3."
 
 unfoldable pub invertCall : List ℕ → List ℕ → List ℕ → Out
 unfolding deliver recordFault ops chars invert
-invertCall r t out = deliver (textFault r t) (invert (ops r) (chars t)) out
+invertCall r t out = deliver (baseTextFault r t) (invert (ops r) (chars t)) out

@@ -41,9 +41,9 @@ use Rattle.record.proofs.Sequences.{Good}
 use Rattle.record.proofs.Theorems.{Passes, ReadBack}
 use Rattle.record.proofs.Theorems as records
 use Rattle.record.proofs.Unread.{Alike, behind-alike}
-use Rattle.operational_transform.specs.Calls.{applyCall, composeCall, transformCall, invertCall}
+use Rattle.operational_transform.specs.Calls.{applyCall, composeCall, transformCall}
 use Rattle.operational_transform.proofs.Exchange.{exchanged, call-swaps}
-use Rattle.operational_transform.proofs.Laws.{tp1-calls, compose-calls, invert-calls}
+use Rattle.operational_transform.proofs.Laws.{tp1-calls, compose-calls}
 use Rattle.operational_transform.proofs.Unread as unread
 use Rattle.log.specs.Log.{countOf, startOf, sizeOfLog, revisions}
 use Rattle.session.specs.Rows.{playAll}
@@ -253,15 +253,11 @@ pub newest : (edit log out : List ℕ) → Bytes edit
     (record { answer = success (sizeOf edit ∷ 0 ∷ []); outA = append log (take (sizeOf edit) edit); outB = out })
 newest = accept-newest
 
--- ---- "Invert": "It undoes the edit only if the text has base characters."
+-- ---- "Invert": "It undoes the edit only if the text has base characters." (On bytes, and that it is refused otherwise: `inverse-returns`
+-- and `inverse-eight` in Requests.antt.)
 
 pub invert-undoes : (s : Seq) (t : List Char) → length t ≡ base s → apply (invert s t) (apply s t) ≡ t
 invert-undoes = edits.invert-undoes
-
--- On the calls' own bytes: apply, then the inverse with any bytes `p` behind it, returns the text.
-pub invert-on-bytes : (r t x u p : List ℕ) → T (succeeds (invertCall r t x .answer)) → T (succeeds (applyCall r t u .answer)) → (out : List ℕ)
-    → applyCall (given (invertCall r t x) ++ p) (given (applyCall r t u)) out ≡ writing 0 t out
-invert-on-bytes = invert-calls
 
 pub invert-built : (s : Seq) (t : List Char) → Built (invert s t)
 invert-built = edits.invert-built

@@ -2,16 +2,22 @@
 -- the crates that are named in the `use` lines; their proofs stand where the last line of each leads.
 use Prim.Native.Nat.{ℕ, _≤_}
 use mathlib.Core.Path.{_≡_}
-use mathlib.Core.Logic.{_↔_}
+use mathlib.Core.Logic.{_↔_, _≢_}
 use mathlib.Core.List.{List, [], _∷_}
 use mathlib.Core.Option.{none, some}
 use lib.Dec.{T}
 use lib.ListN.{length, take}
 use Rattle.buffers.specs.Buffers.{atFront}
 use Rattle.characters.specs.Form.{wellFormed}
+use Rattle.characters.specs.Text.{chars}
 use Rattle.edits.specs.Built.{Built}
+use Rattle.edits.specs.Invert.{invert}
+use Rattle.edits.specs.Op.{base}
 use Rattle.edits.specs.Sequence.{Seq}
-use Rattle.answers.specs.Answer.{success, refused}
+use Rattle.answers.specs.Answer.{success, refused, succeeds}
+use Rattle.answers.specs.Given.{given}
+use Rattle.operational_transform.specs.Calls.{deliver, applyCall, invertCall}
+use Rattle.operational_transform.proofs.Laws.{Returns, invert-returns, invert-eight, apply-inverts}
 use Rattle.record.specs.Layout.{sizeOf, maxRecord}
 use Rattle.record.specs.Record.{ops, recordFault}
 use Rattle.record.proofs.Records.{Bytes}
@@ -54,3 +60,18 @@ list-tight = lists.no-white-space
 -- "escaping only" what needs it, codes below 20 hexadecimal by their number.
 pub list-escapes : (b : ℕ) → (escaped b ≡ b ∷ []) ↔ T (isRaw b)
 list-escapes = only-raw
+
+-- ---- M-101, inverse of the wrong string
+
+-- "Invert now tests that the text has base characters and answers 8 otherwise, after 3."
+pub inverse-eight : (r t out : List ℕ) → recordFault r ≡ 0 → T (wellFormed t) → (invertCall r t out .answer ≡ refused 8) ↔ (length (chars t) ≢ base (ops r))
+inverse-eight = invert-eight
+
+-- "Then apply followed by the inverse returns the text in every case that isn't refused": apply gives a text, which only a short output
+-- can refuse, and the inverse gives of that the text again, byte for byte.
+pub inverse-returns : (r t x : List ℕ) → T (succeeds (invertCall r t x .answer)) → Returns r t (given (invertCall r t x))
+inverse-returns = invert-returns
+
+-- Where apply gives a text, only 9 and 10 are left to refuse the inverse.
+pub inverse-of-applied : (r t u : List ℕ) → T (succeeds (applyCall r t u .answer)) → (out : List ℕ) → invertCall r t out ≡ deliver 0 (invert (ops r) (chars t)) out
+inverse-of-applied = apply-inverts

@@ -1,13 +1,11 @@
-use mathlib.Core.Path.{_≡_}
 use borrow.Author.Needs.{needs}
-use Rattle.characters.proofs.Passed.{form-ill, form-holds, form-num}
-use Rattle.answers.specs.declared.Written.the-variants.{Refused}
-use Rattle.answers.specs.declared.Refusal.the-variants.{Utf8}
 use Rattle.answers.specs.InnerGiven.{Gives}
-use Rattle.record.specs.Record.{recordFault}
-use Rattle.record.proofs.Checked.{passed}
+use Rattle.answers.specs.declared.Refusal.the-variants.{Utf8, IncompatibleLengths}
+use Rattle.answers.specs.declared.Written.the-variants.{Refused}
 use Rattle.operational_transform.specs.Calls.{invertCall}
-use Rattle.emitter.proofs.Giving.{text-refused, text-ill, text-passed}
+use Rattle.characters.proofs.Passed.{form-holds}
+use Rattle.record.proofs.Checked.{passed}
+use Rattle.invert.proofs.Inverses.{invert-refused, invert-3, invert-8, agree, invert-0}
 use Rattle.invert.proofs.invert.Statement.{statement}
 use Rattle.invert.proofs.invert.Tie as tie
 
@@ -30,33 +28,37 @@ enum-told-2 : tie.Need-enum-told-2
 enum-told-2 c = search needs
 
 returns : tie.Need-returns
-unfolding invertCall
 returns c =
     let a = c .before .before .before .before .before .before .before .before .before .args in
-    let z : recordFault (a .rec .now) ≡ 0 = search passed in
-    let w : Gives (invertCall (a .rec .now) (a .text .now) (a .out .now)) (Refused Utf8) (a .out .now) = search (text-ill, form-ill) in
+    let w : Gives (invertCall (a .rec .now) (a .text .now) (a .out .now)) (Refused Utf8) (a .out .now) = search invert-3 in
+    (w .answer, w .out)
+
+base-requires : tie.Need-base-requires
+base-requires c κs = search passed
+
+returns-2 : tie.Need-returns-2
+returns-2 c =
+    let a = c .before .before .before .before .before .before .before .before .before .before .before .before .args in
+    let w : Gives (invertCall (a .rec .now) (a .text .now) (a .out .now)) (Refused IncompatibleLengths) (a .out .now) = search invert-8 in
     (w .answer, w .out)
 
 inverted-requires : tie.Need-inverted-requires
-inverted-requires c κs = search (passed, form-holds, form-num, needs)
+inverted-requires c κs = (search passed, search form-holds, search agree)
 
-returns-2 : tie.Need-returns-2
-unfolding invertCall
-returns-2 c =
+returns-3 : tie.Need-returns-3
+returns-3 c =
     let a = c .before .before .before .before .before .before .before .args in
-    let w : Gives (invertCall (a .rec .now) (a .text .now) (a .out .now)) (Refused (c .before .x .given .0 .0)) (a .out .now) = search text-refused in
+    let w : Gives (invertCall (a .rec .now) (a .text .now) (a .out .now)) (Refused (c .before .x .given .0 .0)) (a .out .now) = search invert-refused in
     (w .answer, w .out)
 
 same-length : tie.Need-same-length
 same-length c = search needs
 
-returns-3 : tie.Need-returns-3
-unfolding invertCall
-returns-3 c =
-    let a = c .before .before .before .before .before .before .before .before .before .before .before .before .before .before .args in
+returns-4 : tie.Need-returns-4
+returns-4 c =
+    let a = c .before .before .before .before .before .before .before .before .before .before .before .before .before .before .before .before .args in
     let r = c .before .before .inverted in
-    let z : recordFault (a .rec .now) ≡ 0 = search passed in
-    let w : Gives (invertCall (a .rec .now) (a .text .now) (a .out .now)) (r .result) (r .last .1 .1 .1 .0) = search (text-passed, form-holds) in
+    let w : Gives (invertCall (a .rec .now) (a .text .now) (a .out .now)) (r .result) (r .last .1 .1 .0) = search invert-0 in
     (w .answer, w .out)
 
 pub invert-spec : {M : Type 1} → statement M
@@ -70,7 +72,9 @@ invert-spec =
     enum-known-chars
     enum-told-2
     returns
-    inverted-requires
+    base-requires
     returns-2
+    inverted-requires
+    returns-3
     same-length
-    returns-3)
+    returns-4)

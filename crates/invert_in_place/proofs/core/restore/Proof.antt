@@ -3,9 +3,6 @@ use Rattle.invert_in_place.proofs.Placing.{restores}
 use Rattle.invert_in_place.proofs.core.restore.Statement.{statement}
 use Rattle.invert_in_place.proofs.core.restore.Tie as tie
 
-skip-chars-requires : tie.Need-skip-chars-requires
-skip-chars-requires c κs = search needs
-
 sub-write-op : tie.Need-sub-write-op
 sub-write-op c = search needs
 
@@ -23,4 +20,4 @@ returns c = search restores
 
 pub restore-spec : {M : Type 1} → statement M
 restore-spec =
-    tie.close (tie.spec skip-chars-requires sub-write-op write-op-requires copy-requires same-length returns)
+    tie.close (tie.spec sub-write-op write-op-requires copy-requires same-length returns)

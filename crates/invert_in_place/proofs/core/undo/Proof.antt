@@ -1,5 +1,5 @@
 use borrow.Author.Needs.{needs}
-use Rattle.invert_in_place.proofs.Placing.{undoes-retain, undoes-last, undoes-delete, kind-insert}
+use Rattle.invert_in_place.proofs.Placing.{chars-room, takes-rest, undoes-retain, undoes-delete}
 use Rattle.invert_in_place.proofs.core.undo.Statement.{statement}
 use Rattle.invert_in_place.proofs.core.undo.Tie as tie
 
@@ -9,26 +9,26 @@ kind-requires c κs = search needs
 count-requires : tie.Need-count-requires
 count-requires c κs = search needs
 
-write-op-requires : tie.Need-write-op-requires
-write-op-requires c κs = search needs
-
-add-if2 : tie.Need-add-if2
-add-if2 c = search needs
-
-add-t16 : tie.Need-add-t16
-add-t16 c = search needs
+undo-insert-requires : tie.Need-undo-insert-requires
+undo-insert-requires c κs = search needs
 
 same-length : tie.Need-same-length
 same-length c = search needs
 
 returns : tie.Need-returns
-returns c = search undoes-last
+returns c = search needs
 
-skip-chars-requires : tie.Need-skip-chars-requires
-skip-chars-requires c κs = search needs
+sub-end-of : tie.Need-sub-end-of
+sub-end-of c = search needs
 
-add-t14 : tie.Need-add-t14
-add-t14 c = search needs
+end-of-requires : tie.Need-end-of-requires
+end-of-requires c κs = (search needs, search needs, search needs, search needs, search chars-room, search takes-rest)
+
+write-op-requires : tie.Need-write-op-requires
+write-op-requires c κs = search needs
+
+add-t17 : tie.Need-add-t17
+add-t17 c = search needs
 
 same-length-2 : tie.Need-same-length-2
 same-length-2 c = search needs
@@ -36,8 +36,17 @@ same-length-2 c = search needs
 returns-2 : tie.Need-returns-2
 returns-2 c = search undoes-retain
 
-undo-delete-requires : tie.Need-undo-delete-requires
-undo-delete-requires c κs = search needs
+restore-requires : tie.Need-restore-requires
+restore-requires c κs = search needs
+
+add-t13 : tie.Need-add-t13
+add-t13 c = search needs
+
+sub-t21 : tie.Need-sub-t21
+sub-t21 c = search needs
+
+add-t22 : tie.Need-add-t22
+add-t22 c = search needs
 
 same-length-3 : tie.Need-same-length-3
 same-length-3 c = search needs
@@ -45,33 +54,24 @@ same-length-3 c = search needs
 returns-3 : tie.Need-returns-3
 returns-3 c = search undoes-delete
 
-undo-insert-requires : tie.Need-undo-insert-requires
-undo-insert-requires c κs = search (kind-insert, needs)
-
-same-length-4 : tie.Need-same-length-4
-same-length-4 c = search needs
-
-returns-4 : tie.Need-returns-4
-returns-4 c = search needs
-
 pub undo-spec : {M : Type 1} → statement M
 undo-spec =
     tie.close
     (tie.spec
     kind-requires
     count-requires
-    write-op-requires
-    add-if2
-    add-t16
+    undo-insert-requires
     same-length
     returns
-    skip-chars-requires
-    add-t14
+    sub-end-of
+    end-of-requires
+    write-op-requires
+    add-t17
     same-length-2
     returns-2
-    undo-delete-requires
+    restore-requires
+    add-t13
+    sub-t21
+    add-t22
     same-length-3
-    returns-3
-    undo-insert-requires
-    same-length-4
-    returns-4)
+    returns-3)

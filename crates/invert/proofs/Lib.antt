@@ -1,0 +1,2 @@
+-- invert
+pub mod Inverses

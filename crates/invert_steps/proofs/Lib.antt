@@ -1,2 +1,0 @@
--- invert_steps
-pub mod Undoing

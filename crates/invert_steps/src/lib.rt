@@ -1,3 +1,0 @@
-// The inverse of an edit that was checked, emitted.
-
-pub mod core;
