@@ -122,6 +122,7 @@ int main(void) {
 
     wrote("ot_apply", ot_apply(IN(first), IN(text), OUT(x)), &x);
     wrote("ot_apply", ot_apply(IN(first), IN(x), OUT(y)), &y);
+    wrote("ot_invert", ot_invert(IN(first), IN(x), OUT(undo)), &undo);
     wrote("ot_invert", ot_invert(IN(first), IN(text), OUT(undo)), &undo);
     wrote("ot_compose", ot_compose(IN(first), IN(undo), OUT(x)), &x);
     transformed(ot_transform(IN(first), IN(second), OUT(x), OUT(y)), &x, &y);

@@ -110,8 +110,8 @@ uint64_t ot_to_json(const uint8_t *rec, size_t rec_len, uint8_t *out, size_t out
 /* The text after the edit. */
 uint64_t ot_apply(const uint8_t *rec, size_t rec_len, const uint8_t *text, size_t text_len, uint8_t *out, size_t out_len);
 
-/* The edit that undoes rec, which was applied to the text. Whether the text has as many characters as rec asks for isn't
-   tested. */
+/* The edit that undoes rec on the text: applied to what ot_apply gives, it gives the text again. OT_LENGTHS_DIFFER where the text
+   hasn't as many characters as rec asks for. */
 uint64_t ot_invert(const uint8_t *rec, size_t rec_len, const uint8_t *text, size_t text_len, uint8_t *out, size_t out_len);
 
 /* The one edit that does what a does, then b. */

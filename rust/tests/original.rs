@@ -164,7 +164,8 @@ mod compared {
         fn plays(&mut self, s: &OperationSeq, rec: &[u8], text: &str) {
             let applied = s.apply(text).map(String::into_bytes).map_err(|_| 8);
             self.writes(&applied, |out| ot::apply(rec, text.as_bytes(), out));
-            let inverse = delivered(&s.invert(text));
+            // On a text of another length the original takes what it finds; ours is refused as apply is (M-101).
+            let inverse = if applied.is_ok() { delivered(&s.invert(text)) } else { Err(8) };
             self.writes(&inverse, |out| ot::invert(rec, text.as_bytes(), out));
         }
 

@@ -31,7 +31,7 @@ fn restore(text: &[u8], out: &mut [u8], n: usize, k: usize, at: usize, to: usize
     ensures { λ _. ⌜ now (out .exit) ≡ restored n k at to put (now (text .entry)) (now (out .entry)) ⌝ }
 {
     places::core::write_op(out, n, k, INSERT, to - at);
-    buffers::core::copy(out, put, text, at, to);
+    buffers::core::copy_short(out, put, text, at, to);
 }
 
 // Whether a delete stands behind operation k of n.

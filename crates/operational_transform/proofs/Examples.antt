@@ -64,6 +64,7 @@ pub table :
     × (compose (D 1 ∷ []) (I (x ∷ []) ∷ []) ≡ I (x ∷ []) ∷ D 1 ∷ [])
     -- T8, on "abc"; on "a" it is an 8 (document 02, M-101)
     × (invert (R 1 ∷ I (z ∷ []) ∷ D 2 ∷ []) (chars (a ∷ b ∷ c ∷ [])) ≡ R 1 ∷ I (b ∷ c ∷ []) ∷ D 1 ∷ [])
+    × (invertCall (encode (R 1 ∷ I (z ∷ []) ∷ D 2 ∷ [])) (a ∷ b ∷ c ∷ []) room .answer ≡ success (19 ∷ []))
     × (invertCall (encode (R 1 ∷ I (z ∷ []) ∷ D 2 ∷ [])) (a ∷ []) room .answer ≡ refused 8)
     -- T9
     × (insertCall empty (0xC0 ∷ 0x80 ∷ []) room .answer ≡ refused 3)
@@ -73,7 +74,7 @@ pub table :
     -- T10
     × (transformCall (encode (R 1 ∷ [])) (encode (R 2 ∷ [])) room room .answer ≡ refused 8)
 unfolding build transform compose invert order chars bytes insertCall transformCall invertCall encode isCont within leadOf
-table = (refl, refl, refl, refl, refl, refl, refl, refl, refl, refl, refl, refl, refl, refl, refl)
+table = (refl, refl, refl, refl, refl, refl, refl, refl, refl, refl, refl, refl, refl, refl, refl, refl)
 
 -- "Retain 32,768 on the empty record passes; 32,769 gets 9."
 pub limit : (retainCall empty 32768 room .answer ≡ success (11 ∷ [])) × (retainCall empty 32769 room .answer ≡ refused 9)

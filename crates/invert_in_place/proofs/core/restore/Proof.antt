@@ -9,8 +9,8 @@ sub-write-op c = search needs
 write-op-requires : tie.Need-write-op-requires
 write-op-requires c κs = search needs
 
-copy-requires : tie.Need-copy-requires
-copy-requires c κs = search needs
+copy-short-requires : tie.Need-copy-short-requires
+copy-short-requires c κs = search needs
 
 same-length : tie.Need-same-length
 same-length c = search needs
@@ -20,4 +20,4 @@ returns c = search restores
 
 pub restore-spec : {M : Type 1} → statement M
 restore-spec =
-    tie.close (tie.spec sub-write-op write-op-requires copy-requires same-length returns)
+    tie.close (tie.spec sub-write-op write-op-requires copy-short-requires same-length returns)
