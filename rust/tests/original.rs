@@ -22,6 +22,8 @@ mod compared {
     struct Tally {
         calls: u64,
         refused: [u64; 3],
+        // Of the calls, those whose answer M-101 gives and not the original.
+        undoing: u64,
     }
 
     type Wanted = Result<Vec<u8>, u8>;
@@ -164,9 +166,20 @@ mod compared {
         fn plays(&mut self, s: &OperationSeq, rec: &[u8], text: &str) {
             let applied = s.apply(text).map(String::into_bytes).map_err(|_| 8);
             self.writes(&applied, |out| ot::apply(rec, text.as_bytes(), out));
-            // On a text of another length the original takes what it finds; ours is refused as apply is (M-101).
-            let inverse = if applied.is_ok() { delivered(&s.invert(text)) } else { Err(8) };
+            // On a text of another length the original takes what it finds; ours is refused as apply is. And applied to what apply
+            // gives, the inverse gives the text.
+            let Ok(after) = applied else {
+                self.writes(&Err(8), |out| ot::invert(rec, text.as_bytes(), out));
+                self.undoing += 1;
+                return;
+            };
+            let inverse = delivered(&s.invert(text));
             self.writes(&inverse, |out| ot::invert(rec, text.as_bytes(), out));
+            if let Ok(undo) = inverse {
+                let before = self.calls;
+                self.writes(&Ok(text.as_bytes().to_vec()), |out| ot::apply(&undo, &after, out));
+                self.undoing += self.calls - before;
+            }
         }
 
         fn builds(&mut self, s: &OperationSeq, rec: &[u8], n: u64, text: &str) {
@@ -244,9 +257,10 @@ mod compared {
             }
         }
         println!(
-            "compared with the original: {} calls on {} small sequences and all their pairs",
-            tally.calls,
-            sets.iter().flatten().count()
+            "compared with the original: {} calls on {} small sequences and all their pairs; with M-101: {}",
+            tally.calls - tally.undoing,
+            sets.iter().flatten().count(),
+            tally.undoing
         );
         assert!(tally.calls > 1_000_000);
     }
@@ -345,8 +359,10 @@ mod compared {
             tally.pair(&whole, &s, &encode(&whole), &encode(&s));
         }
         println!(
-            "compared with the original: {} calls on random sequences; refused with 8, 9 and 10: {:?}",
-            tally.calls, tally.refused
+            "compared with the original: {} calls on random sequences; with M-101: {}; refused with 8, 9 and 10: {:?}",
+            tally.calls - tally.undoing,
+            tally.undoing,
+            tally.refused
         );
         assert!(tally.refused.iter().all(|n| *n > 1000));
     }
