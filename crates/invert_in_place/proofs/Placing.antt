@@ -1,15 +1,15 @@
 -- Each operation written to its place at once.
-use Prim.Native.Nat.{ℕ, _-_, _+_, _≤_, _<_, zero-le, _*_, suc}
+use Prim.Native.Nat.{ℕ, _-_, _+_, _≤_, _<_, zero-le, _*_, suc, _%_, _/_}
 use mathlib.Core.Path.{_≡_, ap, _∙_, refl, sym}
 use mathlib.Core.List.{List, [], _∷_, map, _++_, append-nil, reverse, reverse-reverse}
-use lib.ListN.{take, drop, length, length-drop, length-append, length-reverse}
+use lib.ListN.{take, drop, length, set, length-drop, length-append, length-reverse}
 use mathlib.Core.Bool.{false, Bool, true, cond, not}
 use lib.Dec.{eqb, T, leb}
 use borrow.Author.Tests.{le-leb, lt-leb, eqb-true, eqb-false, leb-true, leb-false}
 use native.Mathlib.Omega.{arith}
 use lib.Seq.{length-take-le}
 use Rattle.buffers.specs.InnerOver.{over, bytes16}
-use Rattle.buffers.proofs.Over.{over-swap, over-nil}
+use Rattle.buffers.proofs.Over.{over-swap, over-nil, put-in, put16-both}
 use Rattle.buffers.proofs.Tests.{known, holds, both}
 use Rattle.characters.specs.InnerPlaces.{Passes}
 use Rattle.characters.specs.Text.{Char, chars, bytes}
@@ -417,7 +417,10 @@ module _ (n : ℕ) (r t : List ℕ) (s : Inversion) (g : Reached n r t s) (e : n
             keeps = λ o₀ u. rw k (two-more u (behind .0) inserts deletes to o₁ o′ (w ∙ ap (λ j. writtenOp n (s .k + 1) 3 j o) as-many) v x);
           }
 
--- ---- `write_in_place`
+-- ---- `write_size`, `write_in_place`
+
+pub size-written : (o : List ℕ) (at v : ℕ) → set (set o at (v % 256)) (at + 1) (v / 256 % 256) ≡ over at (bytes16 v) o
+size-written o at v = put16-both at v o (put-in o at (v % 256)) (put-in (set o at (v % 256)) (at + 1) (v / 256 % 256))
 
 module _ (n : ℕ) (r t : List ℕ) (z : recordFault r ≡ 0) (e : n ≡ opCountOf r) (start : ℕ) (ps : start ≡ textStart n) where
   module _ (w : T (wellFormed t)) (b : numChars t ≡ baseOf r) (a : T (insertsApart (ops r))) (o : List ℕ) where

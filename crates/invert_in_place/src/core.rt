@@ -7,6 +7,7 @@ ghost use mathlib.Core.Path.{_≡_};
 ghost use Prim.Native.Nat.{_≤_, _^_, _<_, _+_};
 ghost use lib.Dec.{T};
 ghost use lib.ListN.{length};
+ghost use Rattle.buffers.specs.InnerOver.{over, bytes16};
 ghost use Rattle.characters.specs.Form.{wellFormed};
 ghost use Rattle.characters.specs.Chars.{numChars};
 ghost use Rattle.characters.specs.Text.{chars as charsOf};
@@ -129,6 +130,15 @@ fn undo(rec: &[u8], n: usize, text: &[u8], chars: usize, out: &mut [u8], s: Inve
     }
 }
 
+// One of the four sizes, which has its place in the output.
+fn write_size(out: &mut [u8], at: usize, v: usize)
+    requires { ⌜ at + 1 < length (now out) ⌝ }
+    ensures { λ _. ⌜ now (out .exit) ≡ over at (bytes16 v) (now (out .entry)) ⌝ }
+{
+    out[at] = (v % 256) as u8;
+    out[at + 1] = (v / 256 % 256) as u8;
+}
+
 // The inverse's record is written, all of it that has a place, and its size given.
 pub fn write_in_place(rec: &[u8], count: usize, text: &[u8], out: &mut [u8]) -> usize
     requires { ⌜ (recordFault (now rec) ≡ 0) × (count ≡ opCountOf (now rec)) × T (wellFormed (now text))
@@ -147,10 +157,10 @@ pub fn write_in_place(rec: &[u8], count: usize, text: &[u8], out: &mut [u8]) -> 
     while s.k < count {
         s = undo(rec, count, text, chars, out, s);
     }
-    buffers::core::put16(out, 0, count);
-    buffers::core::put16(out, 2, s.put - start);
+    write_size(out, 0, count);
+    write_size(out, 2, s.put - start);
     // base and target change places
-    buffers::core::put16(out, 4, reader::core::target(rec));
-    buffers::core::put16(out, 6, chars);
+    write_size(out, 4, reader::core::target(rec));
+    write_size(out, 6, chars);
     s.put
 }

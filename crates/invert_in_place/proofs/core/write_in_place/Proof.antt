@@ -31,23 +31,23 @@ loop-less c = search needs
 loop-again : tie.Need-loop-again Inv-loop μ-loop
 loop-again c = (search undone-more, search needs)
 
-put16-requires : tie.Need-put16-requires Inv-loop μ-loop
-put16-requires c κs = search needs
+write-size-requires : tie.Need-write-size-requires Inv-loop μ-loop
+write-size-requires c κs = search needs
 
-sub-put16 : tie.Need-sub-put16 Inv-loop μ-loop
-sub-put16 c = search put-above
+sub-write-size : tie.Need-sub-write-size Inv-loop μ-loop
+sub-write-size c = search put-above
 
-put16-requires-2 : tie.Need-put16-requires-2 Inv-loop μ-loop
-put16-requires-2 c κs = search needs
+write-size-requires-2 : tie.Need-write-size-requires-2 Inv-loop μ-loop
+write-size-requires-2 c κs = search needs
 
 target-requires : tie.Need-target-requires Inv-loop μ-loop
 target-requires c κs = search needs
 
-put16-requires-3 : tie.Need-put16-requires-3 Inv-loop μ-loop
-put16-requires-3 c κs = search needs
+write-size-requires-3 : tie.Need-write-size-requires-3 Inv-loop μ-loop
+write-size-requires-3 c κs = search needs
 
-put16-requires-4 : tie.Need-put16-requires-4 Inv-loop μ-loop
-put16-requires-4 c κs = search needs
+write-size-requires-4 : tie.Need-write-size-requires-4 Inv-loop μ-loop
+write-size-requires-4 c κs = search needs
 
 same-length : tie.Need-same-length Inv-loop μ-loop
 same-length c = search needs
@@ -67,11 +67,11 @@ write-in-place-spec =
     undo-requires
     loop-less
     loop-again
-    put16-requires
-    sub-put16
-    put16-requires-2
+    write-size-requires
+    sub-write-size
+    write-size-requires-2
     target-requires
-    put16-requires-3
-    put16-requires-4
+    write-size-requires-3
+    write-size-requires-4
     same-length
     returns)
