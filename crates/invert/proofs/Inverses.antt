@@ -46,6 +46,7 @@ use Rattle.emitter.proofs.Counting.{text-typed}
 use Rattle.emitter.proofs.Delivering.{limits-text, limits-last, judge-limit, judge-room, judge-bytes, answered, left-alone, delivered}
 use Rattle.emitter.proofs.Giving.{refuses}
 use Rattle.apply_steps.specs.InnerSteps.{played}
+use Rattle.apply_steps.proofs.Playing.{played-most}
 use Rattle.invert_in_place.specs.InnerInverting.{insertsApart, insertedBack}
 use Rattle.invert_in_place.proofs.Placing.{built-apart, inverse-length}
 use Rattle.invert.specs.declared.Decided.{Decided}
@@ -105,8 +106,8 @@ module _ (r t : List ℕ) (z : recordFault r ≡ 0) (w : T (wellFormed t)) (b : 
   back-few = omega (arith, invert-typed (ops r) (chars t), back-most (ops r) (chars t), ap length (bytes-chars t w))
 
   module _ (p n : ℕ) (ep : p ≡ length (played r t)) (en : n ≡ textBytesOf r) where
-    pub played-most : p ≤ length t + n
-    played-most = omega (arith, kept)
+    pub no-more-played : p ≤ length t + n
+    no-more-played = omega (arith, played-most r t z w)
 
     pub deleted-is : length t + n - p ≡ insertedBack r t
     deleted-is = omega (arith, kept)

@@ -78,7 +78,7 @@ add-some : (o : Op Char) (r : Seq) → 0 < size o → add r o ≡ put o r
 unfolding add
 add-some o r h = ifZero-elim (λ u. u ≡ put o r) (size o) (λ e. absurd (omega arith)) (λ _. refl)
 
--- nothing runs out, so what undoes an operation has its size
+-- the text has the characters that an operation takes, so what undoes it has its size
 undo-size : (o : Op Char) (t : List Char) → takes o ≤ length t → size (undo o t) ≡ size o
 undo-size (retain n) t h = refl
 undo-size (insert s) t h = refl

@@ -55,7 +55,7 @@ pub record Reached (n : ℕ) (r t : List ℕ) (s : Inversion) : Type 0 where
   pub inserts-apart : T (insertsApart (opsLeft r (s .k) (s .from)))
   pub few : s .put ≤ textStart n + s .at
 
--- what an operation's inversion is given: a record that was checked, and a text of at most four bytes for each character of its base
+-- what the inversion of an operation is given: a record that was checked, and a text of at most four bytes for each of 32,768 characters
 pub record Ready (n num : ℕ) (r t : List ℕ) (s : Inversion) (room : ℕ) : Type 0 where
   pub faultless : recordFault r ≡ 0
   pub ops : n ≡ opCountOf r

@@ -1,5 +1,5 @@
 use borrow.Author.Needs.{needs}
-use Rattle.invert.proofs.Inverses.{played-most, deleted-is, deleted-few}
+use Rattle.invert.proofs.Inverses.{no-more-played, deleted-is, deleted-few}
 use Rattle.invert.proofs.deleted_bytes.Statement.{statement}
 use Rattle.invert.proofs.deleted_bytes.Tie as tie
 
@@ -16,7 +16,7 @@ add-result : tie.Need-add-result
 add-result c = search needs
 
 sub-result : tie.Need-sub-result
-sub-result c = search played-most
+sub-result c = search no-more-played
 
 returns : tie.Need-returns
 returns c = (search deleted-is, search deleted-few)
