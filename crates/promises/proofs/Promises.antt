@@ -35,7 +35,7 @@ use Rattle.answers.specs.Answer.{success, succeeds, refused, needs, unlessRefus
 use Rattle.answers.specs.Output.{writing}
 use Rattle.answers.specs.Given.{given, givenA, givenB}
 use Rattle.record.specs.Layout.{sizeOf, maxSize}
-use Rattle.record.specs.Record.{ops, recordFault}
+use Rattle.record.specs.Record.{recordFault}
 use Rattle.record.proofs.Records.{Bytes}
 use Rattle.record.proofs.Sequences.{Good}
 use Rattle.record.proofs.Theorems.{Passes, ReadBack}
@@ -49,8 +49,8 @@ use Rattle.log.specs.Log.{countOf, startOf, sizeOfLog, revisions}
 use Rattle.session.specs.Rows.{playAll}
 use Rattle.session.specs.Session.{acceptCall, append, summaryCall, played, playCall}
 use Rattle.session.specs.History.{fresh, historyPlay}
-use Rattle.session.specs.Demand.{Fresh, Given, Call, accept, logAfter, fedCall, after, Demand3}
-use Rattle.session.specs.Keeping.{NothingLost, TypedStands, carryAll, Spared, newest as newestMarks}
+use Rattle.session.specs.Demand.{Fresh, Given, Call, runCall, logAfter, fedCall, after, revOf, Demand3}
+use Rattle.session.specs.Keeping.{NothingLost, TypedStands, brings, carryAll, Spared, newest as newestMarks}
 use Rattle.session.proofs.Demands as demands
 use Rattle.session.proofs.Keeping as keeping
 use Rattle.session.proofs.Newest.{newestFault, accept-newest}
@@ -89,7 +89,7 @@ play-behind = play-unread
 
 pub accept-behind : (edit edit′ : List ℕ) → Alike edit′ edit → (r : ℕ) (l more : List ℕ) → sizeOfLog l ≤ length l → length more ≡ length l - sizeOfLog l → (out : List ℕ)
     → SameAccept l more (acceptCall edit r l out) (acceptCall edit′ r (take (sizeOfLog l) l ++ more) out)
-accept-behind = accept-unread
+accept-behind edit edit′ e r l more whole room out = accept-unread l more whole room out edit edit′ e r
 
 -- ---- "Characters"
 
@@ -197,12 +197,12 @@ no-caller-favoured = call-swaps
 
 -- ---- "Session"
 
--- Demand 3, about every list of accept calls on a fresh session.
+-- Demand 3, about every list of accept and undo calls on a fresh session.
 pub demand3 : Demand3
 demand3 = demands.demand3
 
 -- Nothing typed is lost, after any list of calls on a fresh session: what an accepted edit typed stands in the text, unless an
--- accepted edit whose author had seen it deletes it.
+-- accepted edit whose author had seen it deletes it. An undo of revision k counts as an edit whose author has seen revision k.
 pub nothing-lost : (n : ℕ) → n ≤ maxSize → (before later : List Call) → NothingLost (after (fresh n) before) later
 nothing-lost = keeping.nothing-lost
 
@@ -235,14 +235,16 @@ pub typed-stands-played : (n : ℕ) (log : List ℕ) → Fresh n log → (before
     let there = logAfter next later in
     let k = length (revisions next) in
     let ms = newestMarks n (revisions next) in
-    T (succeeds (accept here c .answer)) → Spared k ms (fedCall (after (fresh n) before) c .history) later
-    → marked (carryAll false (drop k (revisions there)) ms) (chars (played (there ++ behind) t)) ≡ typed (ops (c .edit))
+    T (succeeds (runCall here c .answer)) → Spared k ms (fedCall (after (fresh n) before) c .history) later
+    → marked (carryAll false (drop k (revisions there)) ms) (chars (played (there ++ behind) t))
+    ≡ typed (brings (after (fresh n) before) (c .ask))
 typed-stands-played = playing.typed-stands-played
 
 -- and copies never reorder: every character of the author's text that is still in the server's text after any more calls stands there
 -- in its order.
 pub copies-in-order : (n : ℕ) (small : n ≤ maxSize) (before : List Call) (c : Call) (later : List Call) (t : List Char) (fits : length t ≡ n) → let h = after (fresh n) before in
-    T (succeeds (fedCall h c .answer)) → (D : Type 0) (char : D → Char) (ls : List (Option D)) → Names char ls (apply (ops (c .edit)) (playAll (take (c .rev) (h .edits)) t))
+    T (succeeds (fedCall h c .answer)) → (D : Type 0) (char : D → Char) (ls : List (Option D))
+    → Names char ls (apply (brings h (c .ask)) (playAll (take (revOf (c .ask)) (h .edits)) t))
     → InOrder char ls (originsAll (sessions.since n small before c later t fits) ls) (playAll (after (fedCall h c .history) later .edits) t)
 copies-in-order n small before c later t fits g D = sessions.session-in-order n small before c later t fits g
 

@@ -24,8 +24,7 @@ use Rattle.log.proofs.Logs.{Sound, log-more, log-more-length, count-log, length
 use Rattle.log.proofs.Rows.{lengthAfter, each-append, Row, row-append, row-right, after-append}
 use Rattle.session.specs.History.{History, Outcome, logIn, historyAccept}
 use Rattle.session.specs.Rows.{Moved, rebase}
-use Rattle.session.specs.Session.{movedIn, acceptFault, append, acceptCall}
-use Rattle.session.specs.Demand.{Call, accept, expectedCall}
+use Rattle.session.specs.Session.{movedIn, acceptFault, append, acceptCall, joining}
 use Rattle.session.proofs.Rows.{target-after}
 use Rattle.session.proofs.Moving.{later-gathered, rebase-base, rebase-good}
 
@@ -52,7 +51,7 @@ abbrev pub through : History → Moved → Outcome
 through h m = record { answer = sizes m; counterparts = m .counterparts; history = joined h (m .edit) }
 
 -- 9 and 10
-abbrev rest : History → Moved → ℕ → ℕ → ℕ
+abbrev pub rest : History → Moved → ℕ → ℕ → ℕ
 rest h m room space =
     needs (ltb (length (h .edits)) maxRevisions && m .kept) 9
     (needs (leb (length (logIn (joined h (m .edit)))) room && leb (length (encodeAll (m .counterparts))) space) 10 0)
@@ -83,6 +82,12 @@ pub record Passed (h : History) (e : Seq) (r : ℕ) : Type 0 where
   pub counts : length (h .edits) < maxRevisions
   pub kept : T (rebase e (drop r (h .edits)) .kept)
 
+pub rest-zero : (h : History) (m : Moved) (room space : ℕ) → rest h m room space ≡ 0 → (length (h .edits) < maxRevisions) × T (m .kept)
+rest-zero h m room space z =
+    let n = length (h .edits) in
+    let k = both (ltb n maxRevisions) (m .kept) .0 (needs-out (ltb n maxRevisions && m .kept) 8 _ z .0) in
+    (ltb→lt n maxRevisions (k .0), k .1)
+
 pub passed : (h : History) (edit : List ℕ) (r room space : ℕ) → fault h edit r room space ≡ 0 → (recordFault edit ≡ 0) × Passed h (ops edit) r
 passed h edit r room space z =
     let m = moved h edit r in
@@ -90,9 +95,8 @@ passed h edit r room space z =
     let (a, z₁) = first-zero (recordFault edit) _ z in
     let (b, z₂) = needs-out (leb r n) 6 _ z₁ in
     let (c, z₃) = needs-out (eqb (base (ops edit)) (lengthAfter (h .start) (take r (h .edits)))) 7 _ z₂ in
-    let (d, z₄) = needs-out (ltb n maxRevisions && m .kept) 8 _ z₃ in
-    let k = both (ltb n maxRevisions) (m .kept) .0 d in
-    (a, record { rev = leb→le r n b; meets = eqb→eq (base (ops edit)) _ c; counts = ltb→lt n maxRevisions (k .0); kept = k .1 })
+    let k = rest-zero h m room space z₃ in
+    (a, record { rev = leb→le r n b; meets = eqb→eq (base (ops edit)) _ c; counts = k .0; kept = k .1 })
 
 -- what comes out joins the row
 module _ (h : History) (s : SoundIn h) (e : Seq) (r : ℕ) (p : Passed h e r) where
@@ -131,10 +135,10 @@ needs-same false n a b e = refl
 -- ---- accept on the log of a history
 
 module _ (h : History) (behind : List ℕ) where
-  abbrev buffer : List ℕ
+  abbrev pub buffer : List ℕ
   buffer = logIn h ++ behind
 
-  size-more : (e : Seq) → sizeOfLog buffer + length (encode e) ≡ length (logIn (joined h e))
+  pub size-more : (e : Seq) → sizeOfLog buffer + length (encode e) ≡ length (logIn (joined h e))
   size-more e = ap (λ n. n + length (encode e)) (size-log (h .start) (h .edits) behind) ∙ sym (log-more-length (h .start) (h .edits) e)
 
   append-log : (e : Seq) → append buffer (encode e) ≡ atFront (logIn (joined h e)) buffer
@@ -173,37 +177,30 @@ module _ (h : History) (behind : List ℕ) where
         ap₂ (λ x y. needs (eqb x y) 8 (rest h (moved h edit r) (length buffer) (length out))) (sym (ops-base edit z))
         (length-log (h .start) (h .edits) behind r (leb→le r _ l))))
 
-module _ (h : History) (s : SoundIn h) (c : Call) where
+-- what the history gives, at the front of the buffers
+module _ (h : History) (behind out : List ℕ) where
   abbrev log : List ℕ
-  log = buffer h (c .behind)
-
-  abbrev m : Moved
-  m = moved h (c .edit) (c .rev)
+  log = buffer h behind
 
   front-log : atFront (logIn h) log ≡ log
   unfolding atFront
-  front-log = ap (λ l. logIn h ++ l) (drop-append-seam (logIn h) (c .behind))
+  front-log = ap (λ l. logIn h ++ l) (drop-append-seam (logIn h) behind)
 
-  front-nothing : atFront (encodeAll []) (c .out) ≡ c .out
+  front-nothing : atFront (encodeAll []) out ≡ out
   unfolding atFront encodeAll
   front-nothing = refl
 
-  abbrev stop : ℕ → Outs
-  stop n = record { answer = refused n; outA = log; outB = c .out }
+  abbrev pub show : Outcome → Outs
+  show t = record { answer = t .answer; outA = atFront (logIn (t .history)) log; outB = atFront (encodeAll (t .counterparts)) out }
 
-  abbrev go-through : Moved → Outs
-  go-through m = record { answer = sizes m; outA = append log (encode (m .edit)); outB = atFront (encodeAll (m .counterparts)) (c .out) }
+  pub settled : (m : Moved) (f : ℕ) → joining f m log out ≡ show (unlessRefused f (back h) (through h m))
+  settled m zero =
+      λ i. record { answer = sizes m; outA = append-log h behind (m .edit) i; outB = atFront (encodeAll (m .counterparts)) out }
+  settled m (suc n) = λ i. record { answer = refused (suc n); outA = sym front-log i; outB = sym front-nothing i }
 
-  abbrev show : Outcome → Outs
-  show t = record { answer = t .answer; outA = atFront (logIn (t .history)) log; outB = atFront (encodeAll (t .counterparts)) (c .out) }
-
-  settled : (f : ℕ) → unlessRefused f stop (go-through m) ≡ show (unlessRefused f (back h) (through h m))
-  settled zero = λ i. record { answer = sizes m; outA = append-log h (c .behind) (m .edit) i; outB = atFront (encodeAll (m .counterparts)) (c .out) }
-  settled (suc n) = λ i. record { answer = refused (suc n); outA = sym front-log i; outB = sym front-nothing i }
-
-  pub accept-log : accept (logIn h) c ≡ expectedCall h c
+  pub accept-log : SoundIn h → (edit : List ℕ) (r : ℕ) → acceptCall edit r log out ≡ show (historyAccept h edit r (length log) (length out))
   unfolding acceptCall
-  accept-log =
-      (λ i. unlessRefused (fault-log h (c .behind) (c .edit) (c .rev) s (c .out) i) stop (go-through (moved-log h (c .behind) (c .edit) (c .rev) i)))
-      ∙ settled (fault h (c .edit) (c .rev) (length log) (length (c .out)))
-      ∙ ap show (sym (history-told h (c .edit) (c .rev) (length log) (length (c .out))))
+  accept-log s edit r =
+      (λ i. joining (fault-log h behind edit r s out i) (moved-log h behind edit r i) log out)
+      ∙ settled (moved h edit r) (fault h edit r (length log) (length out))
+      ∙ ap show (sym (history-told h edit r (length log) (length out)))

@@ -13,17 +13,16 @@ use Rattle.edits.specs.Sequence.{Seq}
 use Rattle.answers.specs.Answer.{succeeds}
 use Rattle.record.specs.Record.{encode, ops}
 use Rattle.record.proofs.Records.{ops-encode}
-use Rattle.record.proofs.Faults.{limits, faultless}
-use Rattle.record.proofs.Unread.{behind-alike, same-seq}
 use Rattle.log.proofs.Rows.{Row}
 use Rattle.session.specs.Session.{summaryCall}
 use Rattle.session.specs.History.{fresh, logIn, History, historyPlay}
-use Rattle.session.specs.Demand.{Fresh, Call, ran, logAfter, after, Given, AsExpected, SummariesTell, fedCall, AllGo, Lent, againstNewest, again, accept, CopiesMeet, Demand3}
+use Rattle.session.specs.Demand.{Fresh, Call, ran, logAfter, after, Given, AsExpected, SummariesTell, fedCall, AllGo, Lent, againstNewest, CopiesMeet, Demand3, runCall, acceptOf, editOf, revOf}
 use Rattle.session.specs.Rows.{playAll}
 use Rattle.session.proofs.Accepting.{SoundIn, joined}
-use Rattle.session.proofs.Running.{run-log, after-sound, after-log, fresh-log, summary-log, given, after-start, Went, fed-sound, left-log}
+use Rattle.session.proofs.Running.{run-log, after-sound, after-log, fresh-log, summary-log, given, after-start, Went, fed-sound, left-log, movedBy}
 use Rattle.session.proofs.Rows.{summary, summary-unique, same-plays}
-use Rattle.session.proofs.Meeting.{newest, relayed, movedBy, newest-there, meet-plays, revisions-in, goes-fed, handed}
+use Rattle.session.proofs.Meeting.{newest, relayed, newest-there, meet-plays, revisions-in, goes-fed, handed}
+use Rattle.session.specs.Keeping.{brings}
 
 -- a session's log is that of its history, which a log can hold
 module _ (n : ℕ) (log : List ℕ) (f : Fresh n log) (cs : List Call) where
@@ -89,23 +88,28 @@ summaries-tell n log log′ f f′ cs ds s t g g′ =
 
 -- ---- the copies meet
 
+-- the edit, or the inverse, in the other session
+abbrev again : History → Call → Lent → Call
+again h c mine = acceptOf (editOf (logIn h) (c .ask)) (revOf (c .ask)) mine
+
 module _ (h k : History) (sh : SoundIn h) (sk : SoundIn k) (starts : k .start ≡ h .start) (c : Call) (mine : Lent) (lent : ℕ → Lent)
-    (same : k .edits ≡ take (c .rev) (h .edits)) (w : Went h c) (w′ : Went k (again c mine)) where
+    (same : k .edits ≡ take (revOf (c .ask)) (h .edits)) (w : Went h c) (w′ : Went k (again h c mine)) where
   -- the second session's history after the edit
   abbrev k₁ : History
-  k₁ = fedCall k (again c mine) .history
+  k₁ = fedCall k (again h c mine) .history
 
   s₁ : SoundIn k₁
-  s₁ = fed-sound k (again c mine) sk
+  s₁ = fed-sound k (again h c mine) sk
 
-  edited : k₁ ≡ joined k (ops (c .edit))
-  edited = newest k (again c mine) (ops (c .edit)) w′ (same-seq (behind-alike (c .edit) (mine .behindEdit) (limits (c .edit) .0 (faultless (c .edit) .0 (w .faultless) .in-limits) .whole))) (newest-there h sh c w k same)
+  edited : k₁ ≡ joined k (brings h (c .ask))
+  edited = newest k (again h c mine) (brings h (c .ask)) w′ (w .join .reads sh (mine .behindEdit)) (newest-there h sh c w k same)
 
   -- and after the counterparts
   abbrev relay : List Call
   relay = againstNewest (logIn k₁) (map encode (movedBy h c .counterparts)) lent
 
-  there : AllGo (ran (logIn k₁) relay) → after k₁ relay ≡ record { start = k .start; edits = joined k (ops (c .edit)) .edits ++ movedBy h c .counterparts }
+  there : AllGo (ran (logIn k₁) relay)
+      → after k₁ relay ≡ record { start = k .start; edits = joined k (brings h (c .ask)) .edits ++ movedBy h c .counterparts }
   there g = relayed k₁ s₁ (movedBy h c .counterparts) lent g ∙ (λ i. record { start = edited i .start; edits = edited i .edits ++ movedBy h c .counterparts })
 
   here : fedCall h c .history ≡ joined h (movedBy h c .edit)
@@ -121,11 +125,11 @@ module _ (h k : History) (sh : SoundIn h) (sk : SoundIn k) (starts : k .start �
 
 copies-meet : (h k : History) → SoundIn h → SoundIn k → k .start ≡ h .start → CopiesMeet (logIn h) (logIn k)
 copies-meet h k sh sk starts c mine lent same₀ goesA goesB s t gs gt =
-    let same : k .edits ≡ take (c .rev) (h .edits) = sym (revisions-in k) ∙ same₀ ∙ ap (take (c .rev)) (revisions-in h) in
-    let w = goes-fed h sh c (both (succeeds (accept (logIn h) c .answer)) _ .0 goesA .0) in
-    let (b₁, b₂) = both (succeeds (accept (logIn k) (again c mine) .answer)) _ .0 goesB in
-    let w′ = goes-fed k sk (again c mine) b₁ in
-    let L = left-log k (again c mine) sk in
+    let same : k .edits ≡ take (revOf (c .ask)) (h .edits) = sym (revisions-in k) ∙ same₀ ∙ ap (take (revOf (c .ask))) (revisions-in h) in
+    let w = goes-fed h sh c (both (succeeds (runCall (logIn h) c .answer)) _ .0 goesA .0) in
+    let (b₁, b₂) = both (succeeds (runCall (logIn k) (again h c mine) .answer)) _ .0 goesB in
+    let w′ = goes-fed k sk (again h c mine) b₁ in
+    let L = left-log k (again h c mine) sk in
     let H = handed h sh c w in
     meet h k sh sk starts c mine lent same w w′
     (subst₂ (λ (l : List ℕ) (rs : List (List ℕ)). AllGo (ran l (againstNewest l rs lent))) L H b₂) s t

@@ -1,4 +1,4 @@
--- Nothing typed is lost, in any list of accept calls.
+-- Nothing typed is lost, in any list of calls.
 use mathlib.Core.Path.{_≡_, refl, ap, _∙_, subst, sym}
 use mathlib.Core.Bool.{true, Bool, false}
 use lib.ListN.{drop, length, take, take-append-drop}
@@ -12,15 +12,13 @@ use Rattle.edits.specs.Trace.{typed, stays, Within, marked}
 use Rattle.edits.specs.Sequence.{Seq}
 use Rattle.edits.proofs.Marks.{stays-length, within-trans, within-length, within-refl}
 use Rattle.answers.specs.Answer.{succeeds}
-use Rattle.record.specs.Record.{ops}
 use Rattle.log.proofs.Rows.{lengthAfter, Row, row-right}
 use Rattle.session.specs.History.{History, fresh}
-use Rattle.session.specs.Demand.{Call, fedCall, after}
-use Rattle.session.specs.Keeping.{carryAll, newest, Spared, NothingLost, TypedStands}
+use Rattle.session.specs.Demand.{Call, fedCall, after, revOf}
+use Rattle.session.specs.Keeping.{carryAll, newest, Spared, NothingLost, TypedStands, brings}
 use Rattle.session.specs.Rows.{playAll}
 use Rattle.session.proofs.Accepting.{SoundIn, past-row, joined}
-use Rattle.session.proofs.Running.{Went, fed-rule, fed-sound, fed-start, after-sound, after-start, went, fresh-sound}
-use Rattle.session.proofs.Meeting.{movedBy}
+use Rattle.session.proofs.Running.{Went, fed-rule, fed-sound, fed-start, after-sound, after-start, went, fresh-sound, movedBy}
 use Rattle.session.proofs.Carrying.{rebase-types, rebase-stays, carryAll-append, within-carryAll, LeaveAll, leave-more, newest-kept, leave-plays, newest-length, newest-typed}
 use Rattle.session.proofs.Rows.{playAll-append, playAll-length}
 use Rattle.record.specs.Layout.{maxSize}
@@ -29,12 +27,15 @@ use Rattle.record.specs.Layout.{maxSize}
 
 module _ (h : History) (c : Call) where
   -- what is appended types what the edit types
-  pub accept-types : typed (movedBy h c .edit) ≡ typed (ops (c .edit))
-  accept-types = rebase-types (ops (c .edit)) (drop (c .rev) (h .edits))
+  pub accept-types : typed (movedBy h c .edit) ≡ typed (brings h (c .ask))
+  accept-types = rebase-types (brings h (c .ask)) (drop (revOf (c .ask)) (h .edits))
 
   -- and of the newest text deletes just what its author deleted and still stands there
-  pub accept-stays : SoundIn h → Went h c → stays (movedBy h c .edit) ≡ carryAll true (drop (c .rev) (h .edits)) (stays (ops (c .edit)))
-  accept-stays s w = rebase-stays (ops (c .edit)) (drop (c .rev) (h .edits)) (past-row h s (ops (c .edit)) (c .rev) (w .pass))
+  pub accept-stays : SoundIn h → Went h c
+      → stays (movedBy h c .edit) ≡ carryAll true (drop (revOf (c .ask)) (h .edits)) (stays (brings h (c .ask)))
+  accept-stays s w =
+      rebase-stays (brings h (c .ask)) (drop (revOf (c .ask)) (h .edits))
+      (past-row h s (brings h (c .ask)) (revOf (c .ask)) (w .join .pass))
 
 -- ---- lists of calls, from revision k on
 
@@ -50,37 +51,41 @@ module _ (n : ℕ) (es : List Seq) (row : Row n es) (ms : List Bool) (new : With
 
   module _ (h : History) (s : SoundIn h) (starts : h .start ≡ n) (vs : List Seq) (is : h .edits ≡ es ++ vs) (c : Call) (w : Went h c) where
     abbrev e : Seq
-    e = ops (c .edit)
+    e = brings h (c .ask)
 
     -- its author had seen revision k
-    seen : k ≤ c .rev → Within (carryAll false (take (c .rev - k) (drop k (h .edits))) ms) (stays e) → Within (carryAll false vs ms) (stays (movedBy h c .edit))
+    seen : k ≤ revOf (c .ask) → Within (carryAll false (take (revOf (c .ask) - k) (drop k (h .edits))) ms) (stays e)
+        → Within (carryAll false vs ms) (stays (movedBy h c .edit))
     seen l spared =
-        let j = c .rev - k in
+        let j = revOf (c .ask) - k in
         let p : drop k (h .edits) ≡ vs = ap (drop k) is ∙ drop-append-seam es vs in
-        let r : c .rev ≡ k + j = omega arith in
-        let q : drop (c .rev) (h .edits) ≡ drop j vs = ap (drop (c .rev)) is ∙ ap (λ i. drop i (es ++ vs)) r ∙ drop-append-add es vs j in
+        let r : revOf (c .ask) ≡ k + j = omega arith in
+        let q : drop (revOf (c .ask)) (h .edits) ≡ drop j vs =
+        ap (drop (revOf (c .ask))) is ∙ ap (λ i. drop i (es ++ vs)) r ∙ drop-append-add es vs j in
         let a : Within (carryAll false (take j vs) ms) (stays e) = subst (λ (us : List Seq). Within (carryAll false (take j us) ms) (stays e)) p spared in
         let b = within-carryAll (drop j vs) a in
         subst (λ (us : List Seq). Within (carryAll false us ms) (stays (movedBy h c .edit))) (take-append-drop j vs)
         (rw (carryAll-append false (take j vs) (drop j vs) ms, accept-stays h c s w, q) b)
 
     -- or had not
-    unseen : c .rev < k → Within (carryAll false vs ms) (stays (movedBy h c .edit))
+    unseen : revOf (c .ask) < k → Within (carryAll false vs ms) (stays (movedBy h c .edit))
     unseen l =
-        let r = c .rev in
+        let r = revOf (c .ask) in
         let q : drop r (h .edits) ≡ drop r es ++ vs = ap (drop r) is ∙ drop-append-le r es vs (omega arith) in
         let m : length (stays e) ≡ lengthAfter n (take r es) =
-        stays-length e ∙ w .pass .meets ∙ (λ i. lengthAfter (starts i) (take r (is i))) ∙ ap (lengthAfter n) (take-append-le r es vs (omega arith)) in
+        stays-length e ∙ w .join .pass .meets ∙ (λ i. lengthAfter (starts i) (take r (is i)))
+        ∙ ap (lengthAfter n) (take-append-le r es vs (omega arith)) in
         rw (accept-stays h c s w, q, carryAll-append true (drop r es) vs (stays e))
         (within-carryAll vs (within-trans new (newest-kept n es row r l (stays e) m)))
 
-    leaves : (T (succeeds (fedCall h c .answer)) → k ≤ c .rev → Within (carryAll false (take (c .rev - k) (drop k (h .edits))) ms) (stays e))
+    leaves : (T (succeeds (fedCall h c .answer)) → k ≤ revOf (c .ask)
+        → Within (carryAll false (take (revOf (c .ask) - k) (drop k (h .edits))) ms) (stays e))
         → Within (carryAll false vs ms) (stays (movedBy h c .edit))
-    leaves spared = go (ltb (c .rev) k) refl
+    leaves spared = go (ltb (revOf (c .ask)) k) refl
       where
-        go : (b : Bool) → ltb (c .rev) k ≡ b → Within (carryAll false vs ms) (stays (movedBy h c .edit))
-        go true q = unseen (ltb-true (c .rev) k q)
-        go false q = let l = ltb-false (c .rev) k q in seen l (spared (rw (w .told) tt) l)
+        go : (b : Bool) → ltb (revOf (c .ask)) k ≡ b → Within (carryAll false vs ms) (stays (movedBy h c .edit))
+        go true q = unseen (ltb-true (revOf (c .ask)) k q)
+        go false q = let l = ltb-false (revOf (c .ask)) k q in seen l (spared (rw (w .told) tt) l)
 
   since-calls : (cs : List Call) (h : History) → SoundIn h → h .start ≡ n → Since h → Spared k ms h cs → Since (after h cs)
   since-calls [] h s st x sp = x

@@ -2,6 +2,9 @@
 pub mod Rows
 pub mod Moving
 pub mod Accepting
+pub mod Inverting
+pub mod Undoing
+pub mod UndoAccepts
 pub mod Running
 pub mod Newest
 pub mod Meeting
@@ -11,4 +14,5 @@ pub mod Keeping
 pub mod Examples
 pub mod Unread
 pub mod Playing
+pub mod Undos
 pub mod Standing

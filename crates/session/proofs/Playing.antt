@@ -13,7 +13,7 @@ use Rattle.buffers.proofs.Tests.{both, holds}
 use Rattle.characters.proofs.Texts.{chars-bytes, bytes-chars, chars-length}
 use Rattle.answers.specs.Answer.{succeeds, needs}
 use Rattle.edits.specs.Sequence.{Seq}
-use Rattle.record.specs.Record.{encode, fits, ops}
+use Rattle.record.specs.Record.{encode, fits}
 use Rattle.answers.proofs.Refusals.{needs-out}
 use Rattle.record.specs.Layout.{maxSize}
 use Rattle.record.proofs.Sequences.{Good}
@@ -26,8 +26,8 @@ use Rattle.log.proofs.Logs.{start-log, revisions-log, readable-log, read-sound}
 use Rattle.session.specs.Rows.{playAll, longest, retainAll, composeAll, composesWithin}
 use Rattle.session.specs.Session.{summaryFault, summaryCall, played, playFault, playCall}
 use Rattle.session.specs.History.{History, fresh, logIn, historyPlay}
-use Rattle.session.specs.Demand.{Fresh, Given, Call, accept, logAfter, fedCall, after}
-use Rattle.session.specs.Keeping.{carryAll, newest, Spared}
+use Rattle.session.specs.Demand.{Fresh, Given, Call, logAfter, fedCall, after, runCall}
+use Rattle.session.specs.Keeping.{carryAll, newest, Spared, brings}
 use Rattle.session.proofs.Rows.{summary, summary-built, summary-base, summary-plays}
 use Rattle.session.proofs.Accepting.{SoundIn}
 use Rattle.session.proofs.Running.{fed-start, fed-sound, left-log, after-start, after-log, fresh-log}
@@ -129,21 +129,21 @@ module _ (n : ℕ) (log : List ℕ) (f : Fresh n log) where
         ∙ nothing-lost n small before later ms new′ spared′ (chars t) as-long
         ∙ ap (marked ms) (sym (plays here h (session-log n log f before) behind′ t))
 
-    -- the text that the later log plays has what an accepted edit types, word for word
+    -- the text that the later log plays has what an accepted edit or undo types, word for word
     pub typed-stands-played : (c : Call) (later : List Call) (behind : List ℕ) →
         let next = logAfter here (c ∷ []) in
         let there = logAfter next later in
         let k = length (revisions next) in
         let ms = newest n (revisions next) in
-        T (succeeds (accept here c .answer)) → Spared k ms (fedCall h c .history) later
-        → marked (carryAll false (drop k (revisions there)) ms) (chars (played (there ++ behind) t)) ≡ typed (ops (c .edit))
+        T (succeeds (runCall here c .answer)) → Spared k ms (fedCall h c .history) later
+        → marked (carryAll false (drop k (revisions there)) ms) (chars (played (there ++ behind) t)) ≡ typed (brings h (c .ask))
     typed-stands-played c later behind goes-through spared =
         let s = session-sound n log f before in
         let g = fedCall h c .history in
         let next = logAfter here (c ∷ []) in
         let there = logAfter next later in
-        let w = goes-fed h s c (subst (λ (l : List ℕ). T (succeeds (accept l c .answer))) (session-log n log f before) goes-through) in
-        let N : next ≡ logIn g = ap (λ l. contents (accept l c .outA)) (session-log n log f before) ∙ left-log h c s in
+        let w = goes-fed h s c (subst (λ (l : List ℕ). T (succeeds (runCall l c .answer))) (session-log n log f before) goes-through) in
+        let N : next ≡ logIn g = ap (λ l. contents (runCall l c .outA)) (session-log n log f before) ∙ left-log h c s in
         let R : revisions next ≡ g .edits = ap revisions N ∙ revisions-in g in
         let L : there ≡ logIn (after g later) = ap (λ l. logAfter l later) N ∙ after-log g (fed-sound h c s) later in
         let Q : revisions there ≡ after g later .edits = ap revisions L ∙ revisions-in (after g later) in

@@ -1,14 +1,14 @@
 -- Rows of edits, played and summed up: playing a summary plays the row.
-use Prim.Native.Nat.{ℕ, zero, suc}
+use Prim.Native.Nat.{ℕ, zero, suc, _≤_, max}
 use mathlib.Core.Path.{_≡_, refl, sym, _∙_, ap}
 use mathlib.Core.List.{List, [], _∷_, _++_, append-nil}
-use lib.ListN.{drop, take, length}
+use lib.ListN.{drop, take, length, getD}
 use native.Mathlib.Nat.{add-zero}
 use native.Mathlib.Omega.{arith}
 use lib.Seq.{take-all}
-use mathlib.Core.Bool.{_&&_, and-true}
+use mathlib.Core.Bool.{_&&_, and-true, Bool, true, false}
 use Rattle.buffers.specs.Lists.{allOf}
-use Rattle.characters.specs.Text.{Char}
+use Rattle.characters.specs.Text.{Char, bytes}
 use Rattle.characters.proofs.Texts.{letter-a, letter-b, a≢b}
 use Rattle.edits.specs.Sequence.{Seq}
 use Rattle.edits.specs.Op.{target, retain, base}
@@ -20,8 +20,10 @@ use Rattle.edits.proofs.Building.{build-built}
 use Rattle.edits.proofs.Unique.{unique}
 use Rattle.record.specs.Record.{fits}
 use Rattle.log.proofs.Rows.{lengthAfter, Row}
-use Rattle.session.specs.History.{later, targetAfter, partials, final}
-use Rattle.session.specs.Rows.{playAll, retainAll, composeAll, composesWithin}
+use Rattle.session.specs.History.{later, targetAfter, partials, final, earlier, editAt, texts}
+use Rattle.session.specs.Rows.{playAll, retainAll, composeAll, composesWithin, longest}
+use lib.Dec.{T, leb, leb→le, le→leb}
+use Rattle.buffers.proofs.Tests.{both}
 
 -- ---- the history's words for parts of a row
 
@@ -34,6 +36,52 @@ pub target-after : (n : ℕ) (es : List Seq) (r : ℕ) → targetAfter n es r �
 target-after n es zero = refl
 target-after n [] (suc r) = refl
 target-after n (e ∷ es) (suc r) = target-after (target e) es r
+
+pub earlier-take : (k : ℕ) (es : List Seq) → earlier (suc k) es ≡ take k es
+earlier-take zero es = refl
+earlier-take (suc k) [] = refl
+earlier-take (suc k) (e ∷ es) = ap (λ l. e ∷ l) (earlier-take k es)
+
+pub edit-at : (k : ℕ) (es : List Seq) → editAt (suc k) es ≡ getD es k []
+edit-at k [] = refl
+edit-at zero (e ∷ es) = refl
+edit-at (suc k) (e ∷ es) = edit-at k es
+
+-- a scratch holds all texts on the way, or is as long as the longest
+same-tests : (a b : Bool) → (T a → T b) → (T b → T a) → a ≡ b
+same-tests true true f g = refl
+same-tests true false f g = absurd (f tt)
+same-tests false true f g = absurd (g tt)
+same-tests false false f g = refl
+
+module _ (a b : ℕ) where
+  abbrev pub room : List Char → Bool
+  room t = leb (length (bytes t)) a && leb (length (bytes t)) b
+
+  pub texts-longest : (es : List Seq) (t : List Char) → allOf room (texts es t) ≡ (leb (longest es t) a && leb (longest es t) b)
+  texts-longest [] t = and-true (room t)
+  texts-longest (e ∷ es) t =
+      let n = length (bytes t) in
+      let m = longest es (apply e t) in
+      ap (λ x. room t && x) (texts-longest es (apply e t))
+      ∙ same-tests _ _
+      (λ h.
+      let (p, q) = both (room t) (leb m a && leb m b) .0 h in
+      let (p₁, p₂) = both (leb n a) (leb n b) .0 p in
+      let (q₁, q₂) = both (leb m a) (leb m b) .0 q in
+      let x₁ : n ≤ a = leb→le n a p₁ in
+      let x₂ : n ≤ b = leb→le n b p₂ in
+      let y₁ : m ≤ a = leb→le m a q₁ in
+      let y₂ : m ≤ b = leb→le m b q₂ in
+      both (leb (max n m) a) (leb (max n m) b) .1 (le→leb (max n m) a (omega arith), le→leb (max n m) b (omega arith)))
+      (λ h.
+      let (p, q) = both (leb (max n m) a) (leb (max n m) b) .0 h in
+      let x : max n m ≤ a = leb→le (max n m) a p in
+      let y : max n m ≤ b = leb→le (max n m) b q in
+      both (room t) (leb m a && leb m b) .1 (
+        both (leb n a) (leb n b) .1 (le→leb n a (omega arith), le→leb n b (omega arith)),
+        both (leb m a) (leb m b) .1 (le→leb m a (omega arith), le→leb m b (omega arith)),
+      ))
 
 -- ---- playing
 

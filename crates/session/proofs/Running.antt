@@ -1,4 +1,4 @@
--- Lists of accept calls on the log of a history, and its summary: they are what the history gives.
+-- Lists of calls on the log of a history, and its summary: they are what the history gives.
 use mathlib.Core.Path.{_≡_, refl, ap, _∙_, ap₂, sym}
 use mathlib.Core.Bool.{Bool, true, false}
 use Prim.Native.Nat.{ℕ, zero, suc, _≤_}
@@ -11,83 +11,138 @@ use Rattle.buffers.specs.Words.{words}
 use Rattle.buffers.proofs.Tests.{holds}
 use Rattle.answers.specs.Answer.{succeeds, unlessRefused, needs, orElse, success, refused}
 use Rattle.answers.specs.Output.{Out, writing}
-use Rattle.answers.proofs.Refusals.{needs-out}
+use Rattle.answers.proofs.Refusals.{needs-out, first-zero}
 use Rattle.answers.proofs.Outputs.{wrote, atFront-take}
-use Rattle.record.specs.Record.{ops, recordFault, encode}
-use Rattle.record.proofs.Records.{ops-good}
+use Rattle.record.specs.Record.{ops, encode}
+use Rattle.record.proofs.Records.{ops-good, ops-encode}
 use Rattle.log.specs.Log.{contents, encodeAll, logOf, readable}
 use Rattle.log.specs.Open.{openCall}
 use Rattle.log.proofs.Logs.{contents-log, start-log, revisions-log, readable-log}
 use Rattle.session.specs.History.{History, logIn, Outcome, fresh, Summed, historySummary}
-use Rattle.session.specs.Demand.{Call, fedCall, accept, ran, expected, after, logAfter, expectedSummary, Fresh, Given}
-use Rattle.session.specs.Rows.{retainAll, composeAll, composesWithin}
-use Rattle.session.specs.Session.{summaryFault, summaryCall}
-use Rattle.session.proofs.Accepting.{moved, through, Passed, SoundIn, joined, fault, back, history-told, passed, joined-sound, accept-log}
+use Rattle.session.specs.Demand.{Call, fedCall, accept, ran, expected, after, logAfter, expectedSummary, Fresh, Given, Ask, undo, askCall, runCall, historyAsk, expectedCall, editOf, revOf}
+use Rattle.session.specs.Rows.{retainAll, composeAll, composesWithin, Moved, rebase}
+use Rattle.session.specs.Session.{summaryFault, summaryCall, inverseIn}
+use Rattle.session.proofs.Accepting.{through, Passed, SoundIn, joined, fault, back, history-told, passed, joined-sound, accept-log, rest-zero, show}
 use Rattle.session.proofs.Rows.{partials-final, partials-fit, summary}
 use Rattle.record.specs.Layout.{maxSize}
+use Rattle.record.proofs.Sequences.{Good}
+use Rattle.record.proofs.Faults.{limits, faultless}
+use Rattle.session.specs.Keeping.{brings}
+use Rattle.session.proofs.Undoing.{Undoes, early, undone, undoes, undoes-early, inverse-base, inverse-good, inverse-in, undo-told, undo-log}
+use Rattle.record.proofs.Unread.{behind-alike, same-seq}
 
 -- ---- one call
 
--- an accept that goes through
+-- the edit of a call, moved past the edits after its revision
+abbrev pub movedFor : History → Ask → Moved
+movedFor h q = rebase (brings h q) (drop (revOf q) (h .edits))
+
+abbrev pub movedBy : History → Call → Moved
+movedBy h c = movedFor h (c .ask)
+
+-- what is known of an edit that joins the row
+pub record Joins (h : History) (q : Ask) : Type 0 where
+  pub good : Good (brings h q)
+  pub pass : Passed h (brings h q) (revOf q)
+  -- the record of it, with any bytes behind
+  pub reads : SoundIn h → (more : List ℕ) → ops (editOf (logIn h) q ++ more) ≡ brings h q
+
+abbrev faults : History → Ask → ℕ → ℕ → ℕ
+faults h (accept edit r) room space = fault h edit r room space
+faults h (undo k text a b) room space = undoes h k text a b room space
+
+told-settles : (h : History) (q : Ask) (room space : ℕ)
+    → historyAsk h q room space ≡ unlessRefused (faults h q room space) (back h) (through h (movedFor h q))
+told-settles h (accept edit r) room space = history-told h edit r room space
+told-settles h (undo k text a b) room space = undo-told h k text a b room space
+
+joins : (h : History) (q : Ask) (room space : ℕ) → faults h q room space ≡ 0 → Joins h q
+joins h (accept edit r) room space z =
+    let (a, p) = passed h edit r room space z in
+    record {
+      good = ops-good edit a;
+      pass = p;
+      reads = λ s more. same-seq (behind-alike edit more (limits edit .0 (faultless edit .0 a .in-limits) .whole));
+    }
+joins h (undo k text a b) room space z =
+    let (x, y) = first-zero (early h k text a b) _ z in
+    let u = undoes-early h k text a b x in
+    let (c, d) = rest-zero h (undone h k text) room space y in
+    record {
+      good = inverse-good h text k (u .limits);
+      pass = record { rev = u .rev; meets = inverse-base h text k (u .one) (u .rev); counts = c; kept = d };
+      reads = λ s more. ops-encode (inverseIn (logIn h) k text) more ∙ inverse-in h k text s (u .one);
+    }
+
+ask-log : (h : History) → SoundIn h → (q : Ask) (behind out : List ℕ)
+    → let log = logIn h ++ behind in askCall q log out ≡ show h behind out (historyAsk h q (length log) (length out))
+ask-log h s (accept edit r) behind out = accept-log h behind out s edit r
+ask-log h s (undo k text a b) behind out = undo-log h s behind text k a b out
+
+pub call-log : (h : History) → SoundIn h → (c : Call) → runCall (logIn h) c ≡ expectedCall h c
+call-log h s c = ask-log h s (c .ask) (c .behind) (c .out)
+
+-- a call that goes through
 pub record Went (h : History) (c : Call) : Type 0 where
-  pub faultless : recordFault (c .edit) ≡ 0
-  pub pass : Passed h (ops (c .edit)) (c .rev)
-  pub told : fedCall h c ≡ through h (moved h (c .edit) (c .rev))
+  pub join : Joins h (c .ask)
+  pub told : fedCall h c ≡ through h (movedBy h c)
 
 module _ (h : History) (c : Call) where
-  abbrev faults : ℕ
-  faults = fault h (c .edit) (c .rev) (length (logIn h ++ c .behind)) (length (c .out))
+  abbrev refusal : ℕ
+  refusal = faults h (c .ask) (length (logIn h ++ c .behind)) (length (c .out))
 
   abbrev done : Outcome
-  done = through h (moved h (c .edit) (c .rev))
+  done = through h (movedBy h c)
 
-  fed-settles : fedCall h c ≡ unlessRefused faults (back h) done
-  fed-settles = history-told h (c .edit) (c .rev) (length (logIn h ++ c .behind)) (length (c .out))
+  fed-settles : fedCall h c ≡ unlessRefused refusal (back h) done
+  fed-settles = told-settles h (c .ask) (length (logIn h ++ c .behind)) (length (c .out))
 
-  no-fault : faults ≡ 0 → Went h c
-  no-fault z =
-      let (a, b) = passed h (c .edit) (c .rev) _ _ z in
-      record { faultless = a; pass = b; told = fed-settles ∙ ap (λ f. unlessRefused f (back h) done) z }
+  no-fault : refusal ≡ 0 → Went h c
+  no-fault z = record { join = joins h (c .ask) _ _ z; told = fed-settles ∙ ap (λ f. unlessRefused f (back h) done) z }
 
   pub went : T (succeeds (fedCall h c .answer)) → Went h c
-  went g = go faults refl (rw fed-settles at g)
+  went g = go refusal refl (rw fed-settles at g)
     where
-      go : (f : ℕ) → faults ≡ f → T (succeeds (unlessRefused f (back h) done .answer)) → Went h c
+      go : (f : ℕ) → refusal ≡ f → T (succeeds (unlessRefused f (back h) done .answer)) → Went h c
       go zero z t = no-fault z
       go (suc n) z t = absurd t
 
   -- what holds of the history, and where the call goes through of the one with what came out, holds afterwards
-  pub fed-rule : (P : History → Type 0) → P h → (Went h c → P (joined h (moved h (c .edit) (c .rev) .edit))) → P (fedCall h c .history)
-  fed-rule P a b = rw fed-settles (go faults refl)
+  pub fed-rule : (P : History → Type 0) → P h → (Went h c → P (joined h (movedBy h c .edit))) → P (fedCall h c .history)
+  fed-rule P a b = rw fed-settles (go refusal refl)
     where
-      go : (f : ℕ) → faults ≡ f → P (unlessRefused f (back h) done .history)
+      go : (f : ℕ) → refusal ≡ f → P (unlessRefused f (back h) done .history)
       go zero z = b (no-fault z)
       go (suc n) z = a
 
   pub fed-sound : SoundIn h → SoundIn (fedCall h c .history)
-  fed-sound s = rw fed-settles (go faults refl)
-    where
-      go : (f : ℕ) → faults ≡ f → SoundIn (unlessRefused f (back h) done .history)
-      go zero z = let w = no-fault z in joined-sound h s (ops (c .edit)) (c .rev) (w .pass) (ops-good (c .edit) (w .faultless))
-      go (suc n) z = s
+  fed-sound s = fed-rule SoundIn s (λ w. joined-sound h s (brings h (c .ask)) (revOf (c .ask)) (w .join .pass) (w .join .good))
 
   pub fed-start : fedCall h c .history .start ≡ h .start
-  fed-start = rw fed-settles (go faults)
-    where
-      go : (f : ℕ) → unlessRefused f (back h) done .history .start ≡ h .start
-      go zero = refl
-      go (suc n) = refl
+  fed-start = fed-rule (λ g. g .start ≡ h .start) refl (λ w. refl)
 
-  pub left-log : SoundIn h → contents (accept (logIn h) c .outA) ≡ logIn (fedCall h c .history)
+  pub left-log : SoundIn h → contents (runCall (logIn h) c .outA) ≡ logIn (fedCall h c .history)
   unfolding atFront
-  left-log s = ap (λ o. contents (o .outA)) (accept-log h s c) ∙ contents-log (fedCall h c .history .start) (fedCall h c .history .edits) _
+  left-log s = ap (λ o. contents (o .outA)) (call-log h s c) ∙ contents-log (fedCall h c .history .start) (fedCall h c .history .edits) _
+
+-- an undo that goes through passes its own tests
+pub went-undo : (h : History) (k : ℕ) (text : List ℕ) (a b : ℕ) (behind out : List ℕ)
+    → T (succeeds (fedCall h (record { ask = undo k text a b; behind = behind; out = out }) .answer)) → Undoes h k text
+went-undo h k text a b behind out g =
+    let room = length (logIn h ++ behind) in
+    go (undoes h k text a b room (length out)) refl (rw (undo-told h k text a b room (length out)) at g)
+  where
+    go : (f : ℕ) → undoes h k text a b (length (logIn h ++ behind)) (length out) ≡ f
+        → T (succeeds (unlessRefused f (back h) (through h (undone h k text)) .answer)) → Undoes h k text
+    go zero z t = undoes-early h k text a b (first-zero (early h k text a b) _ z .0)
+    go (suc n) z t = absurd t
 
 -- ---- lists of calls
 
 pub run-log : (h : History) → SoundIn h → (cs : List Call) → ran (logIn h) cs ≡ expected h cs
 run-log h s [] = refl
 run-log h s (c ∷ cs) =
-    ap₂ _∷_ (accept-log h s c) (ap (λ l. ran l cs) (left-log h c s) ∙ run-log (fedCall h c .history) (fed-sound h c s) cs)
+    ap₂ _∷_ (call-log h s c) (ap (λ l. ran l cs) (left-log h c s) ∙ run-log (fedCall h c .history) (fed-sound h c s) cs)
 
 pub after-sound : (h : History) → SoundIn h → (cs : List Call) → SoundIn (after h cs)
 after-sound h s [] = s

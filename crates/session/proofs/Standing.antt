@@ -15,15 +15,15 @@ use Rattle.edits.specs.Origins.{originsAll, Names}
 use Rattle.edits.proofs.Standing.{InOrder, order-kept-all, names-apply}
 use Rattle.answers.specs.Answer.{succeeds}
 use Rattle.record.specs.Layout.{maxSize}
-use Rattle.record.specs.Record.{ops}
 use Rattle.log.proofs.Rows.{Row}
 use Rattle.session.specs.Rows.{playAll, rebase}
 use Rattle.session.specs.History.{History, fresh}
-use Rattle.session.specs.Demand.{Call, fedCall, after}
+use Rattle.session.specs.Demand.{Call, fedCall, after, revOf}
 use Rattle.session.proofs.Rows.{playAll-append}
 use Rattle.session.proofs.Moving.{rebase-plays}
-use Rattle.session.proofs.Running.{Went, went, fed-rule, after-sound, after-start, fresh-sound}
-use Rattle.session.proofs.Meeting.{movedBy, meet-plays}
+use Rattle.session.proofs.Running.{Went, went, fed-rule, after-sound, after-start, fresh-sound, movedBy}
+use Rattle.session.proofs.Meeting.{meet-plays}
+use Rattle.session.specs.Keeping.{brings}
 
 module _ {D : Type 0} (char : D → Char) where
   pub names-play : (es : List Seq) {ls : List (Option D)} {t : List Char} → Names char ls t → Names char (originsAll es ls) (playAll es t)
@@ -54,16 +54,16 @@ grown h (c ∷ cs) =
     let g = grown (fedCall h c .history) cs in
     record { more = f .more ++ g .more; edits = g .edits ∙ ap (λ es. es ++ g .more) (f .edits) ∙ append-assoc (h .edits) (f .more) (g .more) }
 
--- an edit is accepted against revision r: its author's text, and the server's text after any more calls
+-- an edit is accepted against revision r, or revision r is undone: its author's text, and the server's text after any more calls
 module _ (n : ℕ) (small : n ≤ maxSize) (before : List Call) (c : Call) (later : List Call) (t : List Char) (fits : length t ≡ n) where
   abbrev h : History
   h = after (fresh n) before
 
   abbrev e : Seq
-  e = ops (c .edit)
+  e = brings h (c .ask)
 
   abbrev pub author : List Char
-  author = apply e (playAll (take (c .rev) (h .edits)) t)
+  author = apply e (playAll (take (revOf (c .ask)) (h .edits)) t)
 
   -- the counterparts that the author is handed, then the revisions after that
   abbrev pub since : List Seq
@@ -75,7 +75,7 @@ module _ (n : ℕ) (small : n ≤ maxSize) (before : List Call) (c : Call) (late
       let g = fedCall h c .history in
       let x = grown g later in
       let m = movedBy h c in
-      let F = take (c .rev) (h .edits) in
+      let F = take (revOf (c .ask)) (h .edits) in
       let s = after-sound (fresh n) (fresh-sound n small) before in
       let k : History = record { start = h .start; edits = F } in
       let d : drop (length (g .edits)) (after g later .edits) ≡ x .more = ap (drop (length (g .edits))) (x .edits) ∙ drop-append-seam (g .edits) (x .more) in

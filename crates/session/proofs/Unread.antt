@@ -1,5 +1,5 @@
--- The same of the calls that take a log. Accept is told the room behind the log's contents and writes there: it is given as much
--- of other bytes.
+-- The same of the calls that take a log. Accept and undo are told the room behind the log's contents and write there: they are
+-- given as much of other bytes.
 use Prim.Native.Nat.{ℕ, zero, suc, _+_, _-_, _≤_, _<_, _*_}
 use native.Mathlib.Nat.{add-zero}
 use native.Mathlib.Omega.{arith}
@@ -13,17 +13,18 @@ use borrow.Author.Tests.{le-leb}
 use Rattle.characters.specs.Form.{wellFormed}
 use Rattle.characters.specs.Chars.{numChars}
 use Rattle.characters.specs.Text.{chars, bytes}
-use Rattle.answers.specs.Answer.{orElse, success, needs, refused, unlessRefused}
+use Rattle.answers.specs.Answer.{orElse, needs}
 use Rattle.buffers.specs.Words.{words}
 use Rattle.record.specs.Layout.{sizeOf, baseOf, maxSize}
-use Rattle.record.specs.Record.{encode, recordFault}
+use Rattle.record.specs.Record.{encode, recordFault, fits}
 use Rattle.buffers.specs.Buffers.{atFront}
 use Rattle.answers.specs.Output.{writing, Outs}
 use Rattle.log.specs.Log.{encodeAll, countOf, startOf, recordsStart, sizesIn, editsIn, lengthIn, readableFrom, readable, placeOf, sizeOfLog, lengthAt, revisions, maxRevisions}
 use Rattle.session.specs.Rows.{playAll, longest, retainAll, composeAll, composesWithin, Moved, rebase}
-use Rattle.session.specs.Session.{movedIn, acceptFault, append, acceptCall, summaryFault, summaryCall, played, playFault, playCall}
+use Rattle.session.specs.Session.{movedIn, acceptFault, append, acceptCall, summaryFault, summaryCall, played, playFault, playCall, joinFault, joining, inverseIn, movedInverse, undoFault, undoCall}
 use Rattle.answers.specs.Given.{firstOf, numbers}
 use Rattle.record.proofs.Unread.{Alike, other, behind-alike, same-seq}
+use Rattle.edits.specs.Invert.{invert}
 
 -- ---- records end to end
 
@@ -150,64 +151,37 @@ module _ (l m : List ℕ) (a : AlikeLogs l m) where
       writing (needs (wellFormed t) 3 (needs (a .reads i) 6 (needs (eqb (numChars t) (a .starts i)) 8 (needs (leb need x && leb need y) 10 0))))
       (bytes (playAll (a .edits i) (chars t))) out
 
--- ---- accept
+-- ---- accept and undo
 
 needs-same : (t : Bool) (n : ℕ) {a b : ℕ} → (T t → a ≡ b) → needs t n a ≡ needs t n b
 needs-same true n e = e tt
 needs-same false n e = refl
 
--- what accept leaves where the bytes behind the log are others: the answer and the counterparts, and in the log's buffer the same
--- front, with the other bytes behind it untouched
+-- what accept and undo leave where the bytes behind the log are others: the answer and the counterparts, and in the log's buffer
+-- the same front, with the other bytes behind it untouched
 pub record SameAccept (l more : List ℕ) (o o′ : Outs) : Type 0 where
   pub answer : o′ .answer ≡ o .answer
   pub counterparts : o′ .outB ≡ o .outB
   pub log : let n = firstOf (numbers (o .answer)) in o′ .outA ≡ take (sizeOfLog l + n) (o .outA) ++ drop n more
 
-module _ (edit edit′ : List ℕ) (e : Alike edit′ edit) (r : ℕ) (l more : List ℕ) (whole : sizeOfLog l ≤ length l) (room : length more ≡ length l - sizeOfLog l) (out : List ℕ) where
+module _ (l more : List ℕ) (whole : sizeOfLog l ≤ length l) (room : length more ≡ length l - sizeOfLog l) (out : List ℕ) where
   abbrev l′ : List ℕ
   l′ = otherLog l more whole
+
+  abbrev n : ℕ
+  n = sizeOfLog l
 
   a : AlikeLogs l′ l
   a = behind-alike-log l more whole
 
   same-length : length l′ ≡ length l
-  same-length = length-append (take (sizeOfLog l) l) more ∙ omega (arith, own-length l more whole)
+  same-length = length-append (take n l) more ∙ omega (arith, own-length l more whole)
 
-  same-moved : movedIn edit′ r l′ ≡ movedIn edit r l
-  unfolding movedIn
-  same-moved = λ i. rebase (same-seq e i) (drop r (a .edits i))
-
-  abbrev last : Moved → ℕ
-  last m =
-      needs (ltb (countOf l) maxRevisions && m .kept) 9
-      (needs (leb (sizeOfLog l + length (encode (m .edit))) (length l) && leb (length (encodeAll (m .counterparts))) (length out)) 10 0)
-
-  same-fault : acceptFault edit′ r l′ out ≡ acceptFault edit r l out
-  unfolding acceptFault
-  same-fault =
-      (λ i.
-      let m = same-moved i in
-      orElse (e .faults i)
-      (needs (a .reads i) 6
-      (needs (leb r (a .counts i)) 7
-      (needs (eqb (e .bases i) (lengthAt r l′)) 8
-      (needs (ltb (a .counts i) maxRevisions && m .kept) 9
-      (needs (leb (a .sizes i + length (encode (m .edit))) (same-length i) && leb (length (encodeAll (m .counterparts))) (length out)) 10 0))))))
-      ∙ ap (orElse (recordFault edit)) (ap (needs (readable l) 6)
-      (needs-same (leb r (countOf l)) 7 (λ h. ap (λ n. needs (eqb (baseOf edit) n) 8 (last (movedIn edit r l))) (a .lengths r (leb→le r (countOf l) h)))))
-
-  abbrev stop : List ℕ → ℕ → Outs
-  stop log n = record { answer = refused n; outA = log; outB = out }
-
-  abbrev go-on : List ℕ → Moved → Outs
-  go-on log m = record {
-    answer = success (length (encode (m .edit)) ∷ length (encodeAll (m .counterparts)) ∷ []);
-    outA = append log (encode (m .edit));
-    outB = atFront (encodeAll (m .counterparts)) out;
-  }
-
-  abbrev n : ℕ
-  n = sizeOfLog l
+  same-join : (m : Moved) → joinFault m l′ out ≡ joinFault m l out
+  same-join m =
+      λ i.
+      needs (ltb (a .counts i) maxRevisions && m .kept) 9
+      (needs (leb (a .sizes i + length (encode (m .edit))) (same-length i) && leb (length (encodeAll (m .counterparts))) (length out)) 10 0)
 
   taken : take n l′ ≡ take n l
   taken = take-at (take n l) more n (own-length l more whole)
@@ -238,9 +212,8 @@ module _ (edit edit′ : List ℕ) (e : Alike edit′ edit) (r : ℕ) (l more : 
       ∙ ap (λ y. words (suc (countOf l) ∷ []) ++ y) (sym (append-assoc (drop 2 (take n l)) rec x))
       ∙ sym (append-assoc (words (suc (countOf l) ∷ [])) (drop 2 (take n l) ++ rec) x)
 
-  settled : (f : ℕ) → let m = movedIn edit r l in SameAccept l more (unlessRefused f (stop l) (go-on l m)) (unlessRefused f (stop l′) (go-on l′ m))
-  settled zero =
-      let m = movedIn edit r l in
+  settled : (m : Moved) (f : ℕ) → SameAccept l more (joining f m l out) (joining f m l′ out)
+  settled m zero =
       let rec = encode (m .edit) in
       let k = n + length rec in
       let here = appended l (drop n l) rec refl refl refl refl in
@@ -250,8 +223,52 @@ module _ (edit edit′ : List ℕ) (e : Alike edit′ edit) (r : ℕ) (l more : 
         log = appended l′ more rec (a .counts) (a .sizes) taken dropped
             ∙ ap (λ y. y ++ drop (length rec) more) (sym (ap (take k) here ∙ take-at (front rec) _ k (front-length rec)));
       }
-  settled (suc f) = record { answer = refl; counterparts = refl; log = ap (λ y. y ++ more) (ap (λ k. take k l) (sym (add-zero n))) }
+  settled m (suc f) = record { answer = refl; counterparts = refl; log = ap (λ y. y ++ more) (ap (λ k. take k l) (sym (add-zero n))) }
 
-  pub accept-unread : SameAccept l more (acceptCall edit r l out) (acceptCall edit′ r l′ out)
-  unfolding acceptCall
-  accept-unread = rw (same-fault, same-moved) (settled (acceptFault edit r l out))
+  module _ (edit edit′ : List ℕ) (e : Alike edit′ edit) (r : ℕ) where
+    same-moved : movedIn edit′ r l′ ≡ movedIn edit r l
+    unfolding movedIn
+    same-moved = λ i. rebase (same-seq e i) (drop r (a .edits i))
+
+    same-fault : acceptFault edit′ r l′ out ≡ acceptFault edit r l out
+    unfolding acceptFault
+    same-fault =
+        (λ i.
+        orElse (e .faults i)
+        (needs (a .reads i) 6
+        (needs (leb r (a .counts i)) 7
+        (needs (eqb (e .bases i) (lengthAt r l′)) 8
+        ((ap (λ m. joinFault m l′ out) same-moved ∙ same-join (movedIn edit r l)) i)))))
+        ∙ ap (orElse (recordFault edit)) (ap (needs (readable l) 6)
+        (needs-same (leb r (countOf l)) 7 (λ h.
+        ap (λ n. needs (eqb (baseOf edit) n) 8 (joinFault (movedIn edit r l) l out)) (a .lengths r (leb→le r (countOf l) h)))))
+
+    pub accept-unread : SameAccept l more (acceptCall edit r l out) (acceptCall edit′ r l′ out)
+    unfolding acceptCall
+    accept-unread = rw (same-fault, same-moved) (settled (movedIn edit r l) (acceptFault edit r l out))
+
+  module _ (k : ℕ) (text : List ℕ) (x y : ℕ) where
+    same-inverse : inverseIn l′ k text ≡ inverseIn l k text
+    unfolding inverseIn
+    same-inverse = ap (λ es. invert (getD es (k - 1) []) (playAll (take (k - 1) es) (chars text))) (a .edits)
+
+    same-undone : movedInverse l′ k text ≡ movedInverse l k text
+    unfolding movedInverse
+    same-undone = λ i. rebase (same-inverse i) (drop k (a .edits i))
+
+    same-refusal : undoFault l′ k text x y out ≡ undoFault l k text x y out
+    unfolding undoFault
+    same-refusal =
+        λ i.
+        let need = longest (take (k - 1) (a .edits i)) (chars text) in
+        needs (wellFormed text) 3
+        (needs (a .reads i) 6
+        (needs (leb 1 k && leb k (a .counts i)) 7
+        (needs (eqb (numChars text) (a .starts i)) 8
+        (needs (leb need x && leb need y) 10
+        (needs (fits (same-inverse i)) 9
+        ((ap (λ m. joinFault m l′ out) same-undone ∙ same-join (movedInverse l k text)) i))))))
+
+    pub undo-unread : SameAccept l more (undoCall l k text x y out) (undoCall l′ k text x y out)
+    unfolding undoCall
+    undo-unread = rw (same-refusal, same-undone) (settled (movedInverse l k text) (undoFault l k text x y out))

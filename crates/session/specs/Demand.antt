@@ -1,4 +1,4 @@
--- Demand 3: what is to hold of every list of accept calls on a fresh session, as one claim.
+-- Demand 3: what is to hold of every list of accept and undo calls on a fresh session, as one claim.
 use Prim.Native.Nat.{ℕ, _-_}
 use mathlib.Core.Path.{_≡_}
 use mathlib.Core.List.{List, [], _∷_, _++_}
@@ -12,12 +12,13 @@ use Rattle.characters.specs.Chars.{numChars}
 use Rattle.answers.specs.Answer.{success, succeeds}
 use Rattle.answers.specs.Output.{Out, Outs}
 use Rattle.record.specs.Layout.{sizeOf}
+use Rattle.record.specs.Record.{encode}
 use Rattle.log.specs.Log.{contents, encodeAll, countOf, recordsIn, revisions}
 use Rattle.log.specs.Open.{openCall}
-use Rattle.session.specs.Session.{acceptCall, summaryCall}
-use Rattle.session.specs.History.{History, logIn, Outcome, historyAccept, fresh, historySummary, historyPlay}
+use Rattle.session.specs.Session.{acceptCall, inverseIn, undoCall, summaryCall}
+use Rattle.session.specs.History.{History, logIn, Outcome, historyAccept, historyUndo, fresh, historySummary, historyPlay}
 
--- ---- a session: a log that was just opened, and a list of accept calls
+-- ---- a session: a log that was just opened, and a list of calls
 
 -- `log` is what opening left
 pub record Fresh (n : ℕ) (log : List ℕ) : Type 0 where
@@ -25,29 +26,43 @@ pub record Fresh (n : ℕ) (log : List ℕ) : Type 0 where
   pub opens : openCall n buffer .answer ≡ success (4 ∷ [])
   pub leaves : contents (openCall n buffer .out) ≡ log
 
+-- what is asked of it: to accept an edit written against r, or to undo revision k, with the starting text and two scratch
+-- buffers of these sizes
+pub data Ask : Type 0 where
+  accept : (edit : List ℕ) (r : ℕ) → Ask
+  undo : (k : ℕ) (text : List ℕ) (scratchA scratchB : ℕ) → Ask
+
 -- a call is lent a buffer with the log's contents and any bytes behind them, and any output
 pub record Call : Type 0 where
-  pub edit : List ℕ
-  pub rev : ℕ
+  pub ask : Ask
   pub behind : List ℕ
   pub out : List ℕ
 
-abbrev pub accept : List ℕ → Call → Outs
-accept log c = acceptCall (c .edit) (c .rev) (log ++ c .behind) (c .out)
+abbrev pub askCall : Ask → List ℕ → List ℕ → Outs
+askCall (accept edit r) log out = acceptCall edit r log out
+askCall (undo k text scratchA scratchB) log out = undoCall log k text scratchA scratchB out
+
+abbrev pub runCall : List ℕ → Call → Outs
+runCall log c = askCall (c .ask) (log ++ c .behind) (c .out)
 
 -- "Each call gets the log as the call before left it": every answer, log and output, and the log after the list
 abbrev pub ran : List ℕ → List Call → List Outs
 ran log [] = []
-ran log (c ∷ cs) = accept log c ∷ ran (contents (accept log c .outA)) cs
+ran log (c ∷ cs) = runCall log c ∷ ran (contents (runCall log c .outA)) cs
 
 abbrev pub logAfter : List ℕ → List Call → List ℕ
 logAfter log [] = log
-logAfter log (c ∷ cs) = logAfter (contents (accept log c .outA)) cs
+logAfter log (c ∷ cs) = logAfter (contents (runCall log c .outA)) cs
 
 -- ---- the history of such a list
 
+-- it is fed what is asked, and the sizes of the log's buffer and of the output for counterparts
+abbrev pub historyAsk : History → Ask → ℕ → ℕ → Outcome
+historyAsk h (accept edit r) room space = historyAccept h edit r room space
+historyAsk h (undo k text scratchA scratchB) room space = historyUndo h k text scratchA scratchB room space
+
 abbrev pub fedCall : History → Call → Outcome
-fedCall h c = historyAccept h (c .edit) (c .rev) (length (logIn h ++ c .behind)) (length (c .out))
+fedCall h c = historyAsk h (c .ask) (length (logIn h ++ c .behind)) (length (c .out))
 
 abbrev pub after : History → List Call → History
 after h [] = h
@@ -80,31 +95,38 @@ pub record Given (log s : List ℕ) : Type 0 where
 
 -- ---- the second session
 
--- none of these accepts is refused
+-- none of these calls is refused
 abbrev pub AllGo : List Outs → Type 0
 AllGo os = T (allOf (λ o. succeeds (o .answer)) os)
 
--- what else a call is lent: the bytes behind the edit and behind the log, and the output
+-- what else an accept is lent: the bytes behind the edit and behind the log, and the output
 pub record Lent : Type 0 where
   pub behindEdit : List ℕ
   pub behindLog : List ℕ
   pub output : List ℕ
 
+abbrev pub acceptOf : List ℕ → ℕ → Lent → Call
+acceptOf edit r b = record { ask = accept (edit ++ b .behindEdit) r; behind = b .behindLog; out = b .output }
+
 -- records as calls, "each against the newest revision"
 abbrev pub againstNewest : List ℕ → List (List ℕ) → (ℕ → Lent) → List Call
 againstNewest log [] lent = []
 againstNewest log (e ∷ es) lent =
-    let b = lent (length es) in
-    let c : Call = record { edit = e ++ b .behindEdit; rev = countOf log; behind = b .behindLog; out = b .output } in
-    c ∷ againstNewest (contents (accept log c .outA)) es lent
+    let c = acceptOf e (countOf log) (lent (length es)) in
+    c ∷ againstNewest (contents (runCall log c .outA)) es lent
+
+-- the edit that a call brings in, as a record, and the revision that it was written against: an undo's is "that inverse against k"
+abbrev pub editOf : List ℕ → Ask → List ℕ
+editOf log (accept edit r) = take (sizeOf edit) edit
+editOf log (undo k text scratchA scratchB) = encode (inverseIn log k text)
+
+abbrev pub revOf : Ask → ℕ
+revOf (accept edit r) = r
+revOf (undo k text scratchA scratchB) = k
 
 -- the counterparts that a call handed out
 abbrev pub handedOut : List ℕ → Call → List (List ℕ)
-handedOut log c = recordsIn (countOf log - c .rev) (accept log c .outB)
-
--- the same edit as another session's call, with other bytes behind it
-abbrev pub again : Call → Lent → Call
-again c b = record { edit = take (sizeOf (c .edit)) (c .edit) ++ b .behindEdit; rev = c .rev; behind = b .behindLog; out = b .output }
+handedOut log c = recordsIn (countOf log - revOf (c .ask)) (runCall log c .outB)
 
 -- ---- the claim
 
@@ -121,14 +143,15 @@ SummariesTell n log log′ cs ds =
     (s t : List ℕ) → Given (logAfter log cs) s → Given (logAfter log′ ds) t
     → (s ≡ t) ↔ ((text : List ℕ) → T (wellFormed text) → numChars text ≡ n → historyPlay (after (fresh n) cs) text ≡ historyPlay (after (fresh n) ds) text)
 
--- "the copies meet": a session accepts an edit against r; another one that holds "just the same first r revisions" accepts it
--- too, "then the counterparts that the first handed out for this edit"
+-- "the copies meet": a session accepts an edit against r, or undoes revision r; another one that holds "just the same first r
+-- revisions" accepts the edit too, or the inverse, against r, "then the counterparts that the first handed out for this edit"
 abbrev pub CopiesMeet : (here there : List ℕ) → Type 0
 CopiesMeet here there =
     (c : Call) (mine : Lent) (lent : ℕ → Lent) →
-    let edited = again c mine in
-    let then = againstNewest (contents (accept there edited .outA)) (handedOut here c) lent in
-    revisions there ≡ take (c .rev) (revisions here)
+    let r = revOf (c .ask) in
+    let edited = acceptOf (editOf here (c .ask)) r mine in
+    let then = againstNewest (contents (runCall there edited .outA)) (handedOut here c) lent in
+    revisions there ≡ take r (revisions here)
     → AllGo (ran here (c ∷ [])) → AllGo (ran there (edited ∷ then))
     → (s t : List ℕ) → Given (logAfter here (c ∷ [])) s → Given (logAfter there (edited ∷ then)) t → s ≡ t
 

@@ -1,16 +1,20 @@
--- Document 01, the paragraph "A list's history is ..". It speaks of sequences and sizes alone, and takes from the calls
--- nothing but the rule by which one edit is transformed past another.
+-- Document 01, the paragraph "A list's history is ..", and document 02's words on undo. It speaks of sequences and sizes alone,
+-- and takes from the calls nothing but the rule by which one edit is transformed past another.
 use Prim.Native.Nat.{ℕ, zero, suc}
 use mathlib.Core.List.{List, [], _∷_, _++_, map}
-use mathlib.Core.Bool.{_&&_}
+use mathlib.Core.Bool.{Bool, _&&_}
 use lib.ListN.{length}
 use lib.Dec.{leb, ltb, eqb}
 use Rattle.buffers.specs.Lists.{allOf}
 use Rattle.characters.specs.Text.{Char, chars, bytes}
+use Rattle.characters.specs.Form.{wellFormed}
+use Rattle.characters.specs.Chars.{numChars}
 use Rattle.edits.specs.Sequence.{Seq}
 use Rattle.edits.specs.Op.{target, base}
+use Rattle.edits.specs.Apply.{apply}
 use Rattle.edits.specs.Transform.{Sides}
 use Rattle.edits.specs.Compose.{compose}
+use Rattle.edits.specs.Invert.{invert}
 use Rattle.answers.specs.Answer.{Answer, orElse, success, needs, refused, unlessRefused}
 use Rattle.record.specs.Record.{encode, fits, ops, recordFault}
 use Rattle.log.specs.Log.{logOf, encodeAll, maxRevisions}
@@ -71,6 +75,45 @@ historyAccept h edit r room space =
     (needs (leb (length (logIn next)) room && leb (length (encodeAll counterparts)) space) 10 0)))))
     (λ n. record { answer = refused n; counterparts = []; history = h })
     (record { answer = success (length (encode new) ∷ length (encodeAll counterparts) ∷ []); counterparts = counterparts; history = next })
+
+-- edits 1 to k − 1, and edit k
+abbrev pub earlier : ℕ → List Seq → List Seq
+earlier zero es = []
+earlier (suc zero) es = []
+earlier (suc (suc k)) [] = []
+earlier (suc (suc k)) (e ∷ es) = e ∷ earlier (suc k) es
+
+abbrev pub editAt : ℕ → List Seq → Seq
+editAt zero es = []
+editAt (suc k) [] = []
+editAt (suc zero) (e ∷ es) = e
+editAt (suc (suc k)) (e ∷ es) = editAt (suc k) es
+
+-- the texts on the way, first and last included
+abbrev pub texts : List Seq → List Char → List (List Char)
+texts [] t = t ∷ []
+texts (e ∷ es) t = t ∷ texts es (apply e t)
+
+-- "plays revisions 1 to k − 1, inverts revision k on that text"
+unfoldable pub inverseOf : History → ℕ → List ℕ → Seq
+unfolding chars invert
+inverseOf h k text = invert (editAt k (h .edits)) (playAll (earlier k (h .edits)) (chars text))
+
+-- "the history is fed what the undo is given, except the log, and the sizes of its buffers. It gives the refusals just named, in
+-- that order, and a refused undo leaves it as it was; otherwise it answers and changes as by accepting that inverse against k."
+unfoldable pub historyUndo : History → ℕ → List ℕ → (scratchA scratchB room space : ℕ) → Outcome
+unfolding chars bytes fits encode inverseOf historyAccept
+historyUndo h k text scratchA scratchB room space =
+    let inverse = inverseOf h k text in
+    let holds : List Char → Bool = λ t. leb (length (bytes t)) scratchA && leb (length (bytes t)) scratchB in
+    unlessRefused
+    (needs (wellFormed text) 3
+    (needs (leb 1 k && leb k (length (h .edits))) 7
+    (needs (eqb (numChars text) (h .start)) 8
+    (needs (allOf holds (texts (earlier k (h .edits)) (chars text))) 10
+    (needs (fits inverse) 9 0)))))
+    (λ n. record { answer = refused n; counterparts = []; history = h })
+    (historyAccept h (encode inverse) k room space)
 
 -- the partial results of composing a row, and the last of them
 abbrev pub partials : Seq → List Seq → List Seq
