@@ -1,4 +1,2 @@
 -- playback
-pub mod Rooms
-pub mod Stages
 pub mod Answers

@@ -1,6 +1,7 @@
 use borrow.Author.Needs.{needs}
 use Rattle.characters.proofs.Passed.{form-holds}
-use Rattle.playback.proofs.Answers.{play-refused, play-3, play-6, play-8, play-short, play-10, play-0, play-out, play-reads, play-count, play-agrees, play-inside, play-size, play-room}
+use Rattle.playback_steps.proofs.Stages.{stands-inside, stands-size}
+use Rattle.playback.proofs.Answers.{play-refused, play-3, play-6, play-8, play-short, play-10, play-0, play-out, play-reads, play-count, play-agrees, play-room}
 use Rattle.playback.proofs.play.Statement.{statement}
 use Rattle.playback.proofs.play.Tie as tie
 
@@ -31,8 +32,8 @@ returns-2 c = play-refused _ _ _ _ _ 6 (search play-6)
 returns-3 : tie.Need-returns-3
 returns-3 c = play-refused _ _ _ _ _ 8 (search play-8)
 
-play-from-start-requires : tie.Need-play-from-start-requires
-play-from-start-requires c κs = (search play-reads, search play-count, search form-holds, search play-agrees)
+play-first-requires : tie.Need-play-first-requires
+play-first-requires c κs = (search play-reads, search play-count, search form-holds, search play-agrees)
 
 enum-known-n : tie.Need-enum-known-n
 enum-known-n c = search needs
@@ -59,10 +60,10 @@ returns-5 : tie.Need-returns-5
 returns-5 c = play-refused _ _ _ _ _ 10 (search play-10)
 
 slice-reshare-prefix-copy-into : tie.Need-slice-reshare-prefix-copy-into
-slice-reshare-prefix-copy-into c = search play-inside
+slice-reshare-prefix-copy-into c = search stands-inside
 
 slice-aggregate-copy-into : tie.Need-slice-aggregate-copy-into
-slice-aggregate-copy-into c = search play-size
+slice-aggregate-copy-into c = search stands-size
 
 copy-into-requires : tie.Need-copy-into-requires
 copy-into-requires c κs = search play-room
@@ -92,7 +93,7 @@ play-spec =
     enum-told-2
     returns-2
     returns-3
-    play-from-start-requires
+    play-first-requires
     enum-known-n
     enum-told-3
     same-length

@@ -1,5 +1,5 @@
 use borrow.Author.Needs.{needs}
-use Rattle.playback.proofs.Stages.{as-long}
+use Rattle.playback_steps.proofs.Stages.{as-long}
 use Rattle.play_program.proofs.core.serve.Statement.{statement}
 use Rattle.play_program.proofs.core.serve.Tie as tie
 

@@ -2,17 +2,17 @@ use Prim.Native.Nat.{_-_, _≤_}
 use mathlib.Core.Path.{_≡_, refl}
 use lib.ListN.{length, take}
 use borrow.Author.Needs.{needs}
-use Rattle.playback.specs.InnerStages.{Stage}
-use Rattle.playback.proofs.Stages.{stage-start, stage-end, stage-at, stage-fault, stage-base, stage-room, stage-short, stage-next}
-use Rattle.playback.proofs.play_revisions.Statement.{statement}
-use Rattle.playback.proofs.play_revisions.Tie as tie
+use Rattle.playback_steps.specs.InnerStages.{Stage}
+use Rattle.playback_steps.proofs.Stages.{stage-start, stage-end, stage-at, stage-fault, stage-base, stage-room, stage-short, stage-next}
+use Rattle.playback_steps.proofs.core.play_revisions.Statement.{statement}
+use Rattle.playback_steps.proofs.core.play_revisions.Tie as tie
 
 abbrev Inv-loop : tie.InvT-loop
-Inv-loop log count n a₀ b₀ len₀ at₀ k₀ a b len at k =
-    (k ≤ count) × Stage log (take n a₀) (length a₀) (length b₀) k at len a × (length a ≡ length a₀) × (length b ≡ length b₀)
+Inv-loop log j n a₀ b₀ len₀ at₀ k₀ a b len at k =
+    (k ≤ j) × Stage log j (take n a₀) (length a₀) (length b₀) k at len a × (length a ≡ length a₀) × (length b ≡ length b₀)
 
 abbrev μ-loop : tie.MeasureT-loop
-μ-loop log count n a₀ b₀ len₀ at₀ k₀ a b len at k = count - k
+μ-loop log j n a₀ b₀ len₀ at₀ k₀ a b len at k = j - k
 
 loop-holds : tie.Need-loop-holds Inv-loop μ-loop
 loop-holds c = (search needs, search stage-start, refl, refl)

@@ -10,7 +10,7 @@ use lib.ListN.{length}
 use Rattle.characters.specs.Text.{Char, bytes}
 use Rattle.edits.specs.Sequence.{Seq}
 use Rattle.session.specs.Rows.{longest}
-use Rattle.playback.specs.InnerStages.{room}
+use Rattle.playback_steps.specs.InnerStages.{room}
 
 pub room-both : (a b n : ℕ) → n ≤ a → n ≤ b → room a b n ≡ true
 room-both a b n h g = rw (le-leb n a h, le-leb n b g)

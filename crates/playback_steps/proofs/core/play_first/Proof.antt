@@ -1,9 +1,9 @@
 use mathlib.Core.Path.{_≡_}
 use mathlib.Core.Bool.{false, not}
 use borrow.Author.Needs.{needs}
-use Rattle.playback.proofs.Stages.{run-other, run-short, run-room, run-well, run-chars, run-ends}
-use Rattle.playback.proofs.play_from_start.Statement.{statement}
-use Rattle.playback.proofs.play_from_start.Tie as tie
+use Rattle.playback_steps.proofs.Stages.{run-other, run-short, run-room, run-well, run-chars, run-ends}
+use Rattle.playback_steps.proofs.core.play_first.Statement.{statement}
+use Rattle.playback_steps.proofs.core.play_first.Tie as tie
 
 returns : tie.Need-returns
 returns c = search run-other
@@ -41,8 +41,8 @@ same-length-3 c = search needs
 returns-3 : tie.Need-returns-3
 returns-3 c = search run-ends
 
-pub play-from-start-spec : {M : Type 1} → statement M
-play-from-start-spec =
+pub play-first-spec : {M : Type 1} → statement M
+play-first-spec =
     tie.close
     (tie.spec
     returns

@@ -1,9 +1,9 @@
 -- From one text to the next.
-use Prim.Native.Nat.{ℕ, _+_, _≤_, _<_, _-_}
+use Prim.Native.Nat.{ℕ, suc, _+_, _≤_, _<_, _-_}
 use native.Mathlib.Nat.{zero-add}
 use mathlib.Core.Path.{_≡_, sym, ap, _∙_, ap₂, refl}
 use mathlib.Core.Bool.{true, false, Bool, not}
-use mathlib.Core.List.{List, _++_, []}
+use mathlib.Core.List.{List, _++_, [], _∷_}
 use lib.ListN.{length, take, drop, length-take}
 use lib.Seq.{length-front, length-take-le, take-append-seam}
 use native.Mathlib.Omega.{arith}
@@ -14,6 +14,7 @@ use Rattle.characters.specs.Form.{wellFormed}
 use Rattle.characters.specs.Chars.{numChars}
 use Rattle.characters.specs.Text.{Char, chars, bytes}
 use Rattle.characters.proofs.Texts.{bytes-chars, chars-bytes, bytes-well, chars-length}
+use Rattle.edits.specs.Sequence.{Seq}
 use Rattle.edits.specs.Op.{base}
 use Rattle.edits.specs.Apply.{apply}
 use Rattle.edits.proofs.Theorems.{apply-length}
@@ -22,15 +23,16 @@ use Rattle.record.specs.Layout.{sizeOf, baseOf}
 use Rattle.record.specs.Record.{ops, recordFault}
 use Rattle.record.proofs.Records.{ops-base, ops-target}
 use Rattle.apply_steps.specs.InnerSteps.{played}
-use Rattle.log.specs.Log.{startOf, countOf, readable, revisions}
-use Rattle.log.proofs.Scanning.{place-start, length-start, place-inside, Revision, revision, revisions-end}
+use Rattle.log.specs.Log.{startOf, countOf, readable, revisions, placeOf, lengthAt}
+use Rattle.log.proofs.Scanning.{place-start, length-start, place-inside, Revision, revision}
 use Rattle.session.specs.Rows.{playAll, longest}
-use Rattle.session.specs.Session as session
-use Rattle.playback.specs.InnerStages.{Holds, held, missed, Advances, Stage, room, Ends, whole}
-use Rattle.playback.specs.declared.Reached.the-variants.{Short, Of}
-use Rattle.playback.specs.InnerStages as stages
-use Rattle.playback.specs.declared.Reached.{Reached}
-use Rattle.playback.proofs.Rooms.{room-first, room-second, room-both, room-more, room-max, longest-here}
+use Rattle.playback_steps.specs.InnerStages.{Holds, held, missed, Advances, Stage, room, between, Stands, Ends, whole}
+use Rattle.playback_steps.specs.declared.core.Reached.the-variants.{Short, Of}
+use Rattle.playback_steps.specs.InnerStages as stages
+use Rattle.playback_steps.specs.declared.core.Reached.{Reached}
+use Rattle.playback_steps.specs.declared.core.Played.{Played}
+use Rattle.playback_steps.specs.declared.core.Played.the-variants as end
+use Rattle.playback_steps.proofs.Rooms.{room-first, room-second, room-both, room-more, room-max, longest-here}
 
 -- ---- a text at the front of a buffer
 
@@ -78,43 +80,68 @@ module _ (rec t b b₁ : List ℕ) (m a : ℕ) (e : m ≡ length (played rec t))
               stages.Advances.on e (omega arith) (omega (arith, same-size)) (ap (λ i. take i a′) (sym y) ∙ w ∙ front)
           go false x q = absurd (let y : _≡_ {A = ℕ} 0 1 = cc q in omega arith)
 
--- ---- all revisions
+-- ---- the first j revisions
 
-pub stage-start : (l s : List ℕ) (n a b : ℕ) → n ≤ a → n ≤ b → T (wellFormed (take n s)) → numChars (take n s) ≡ startOf l → Stage l (take n s) a b 0 4 n s
-stage-start l s n a b h g w e =
+all-left : (j : ℕ) (es : List Seq) → between 0 j es ≡ take j es
+all-left j es = ap (λ i. take i es) (let z : j - 0 ≡ j = omega arith in z)
+
+none-left : (k j : ℕ) (es : List Seq) → j ≤ k → between k j es ≡ []
+none-left k j es h = ap (λ i. take i (drop k es)) (let z : j - k ≡ 0 = omega arith in z)
+
+-- where `e` is edit k + 1 of a row
+one-left : (k j : ℕ) (e : Seq) (es : List Seq) → k < j → drop k es ≡ e ∷ drop (k + 1) es → between k j es ≡ e ∷ between (k + 1) j es
+one-left k j e es h p =
+    let z : j - k ≡ suc (j - (k + 1)) = omega arith in
+    ap (λ i. take i (drop k es)) z ∙ ap (take (suc (j - (k + 1)))) p
+
+pub stage-start : (l s : List ℕ) (j n a b : ℕ) → n ≤ a → n ≤ b → T (wellFormed (take n s)) → numChars (take n s) ≡ startOf l → Stage l j (take n s) a b 0 4 n s
+stage-start l s j n a b h g w e =
     record {
       place = sym (place-start l);
       inside = h;
       other = g;
       well = w;
       chars-are = e ∙ sym (length-start l);
-      ends = refl;
-      needs = refl;
+      ends = ap (λ es. playAll es (chars (take n s))) (all-left j (revisions l));
+      needs = ap (λ es. room a b (longest es (chars (take n s)))) (all-left j (revisions l));
     }
 
-module _ (l t s : List ℕ) (r : T (readable l)) (count a b k at n : ℕ) (e : count ≡ countOf l) (g : Stage l t a b k at n s) where
+module _ (l t s : List ℕ) (r : T (readable l)) (j a b k at n : ℕ) (e : j ≤ countOf l) (g : Stage l j t a b k at n s) where
   abbrev now : List Char
   now = chars (take n s)
+
+  abbrev last : List Char
+  last = playAll (take j (revisions l)) (chars t)
 
   now-bytes : bytes now ≡ take n s
   now-bytes = bytes-chars (take n s) (g .well)
 
-  pub stage-end : count ≤ k → k ≤ count → length s ≡ a → Ends l t a b s (Of n)
-  unfolding session.played
+  pub stage-end : j ≤ k → k ≤ j → length s ≡ a → Ends l j t a b s (end.Of n at)
   stage-end h i z =
-      let d : drop k (revisions l) ≡ [] = revisions-end k l (omega arith) in
-      let last : now ≡ playAll (revisions l) (chars t) = ap (λ es. playAll es now) (sym d) ∙ g .ends in
-      let y : take n s ≡ session.played l t = sym now-bytes ∙ ap bytes last in
+      let d : between k j (revisions l) ≡ [] = none-left k j (revisions l) h in
+      let same : now ≡ last = ap (λ es. playAll es now) (sym d) ∙ g .ends in
+      let y : take n s ≡ bytes last = sym now-bytes ∙ ap bytes same in
       let x : length (take n s) ≡ n = length-take-le n s (omega (arith, g .inside)) in
-      let u : longest (drop k (revisions l)) now ≡ n = ap (λ es. longest es now) d ∙ ap length now-bytes ∙ x in
-      whole (sym (g .needs) ∙ ap (room a b) u ∙ room-both a b n (g .inside) (g .other)) (sym x ∙ ap length y) y
+      let u : longest (between k j (revisions l)) now ≡ n = ap (λ es. longest es now) d ∙ ap length now-bytes ∙ x in
+      let v : k ≡ j = omega arith in
+      whole
+      (record {
+        has-room = sym (g .needs) ∙ ap (room a b) u ∙ room-both a b n (g .inside) (g .other);
+        size = sym x ∙ ap length y;
+        text-is = y;
+        chars-are = g .chars-are ∙ ap (λ i. lengthAt i l) v;
+        place = g .place ∙ ap (λ i. placeOf i l) v;
+      })
 
-  module _ (h : k < count) where
+  module _ (h : k < j) where
     abbrev part : List ℕ
     part = take (length l - at) (drop at l)
 
     this : Revision l k at part
     this = revision l r k at (omega arith) (g .place)
+
+    left : between k j (revisions l) ≡ ops part ∷ between (k + 1) j (revisions l)
+    left = one-left k j (ops part) (revisions l) h (this .edits)
 
     pub stage-at : at ≤ length l
     stage-at = rw (g .place) (place-inside l r k (omega arith))
@@ -133,30 +160,30 @@ module _ (l t s : List ℕ) (r : T (readable l)) (count a b k at n : ℕ) (e : c
     after = refl
 
     -- what is left to play, and the room that it needs, from the next text on
-    left-needs : room a b (longest (drop (k + 1) (revisions l)) (apply (ops part) now)) ≡ room a b (longest (revisions l) (chars t))
+    left-needs : room a b (longest (between (k + 1) j (revisions l)) (apply (ops part) now)) ≡ room a b (longest (take j (revisions l)) (chars t))
     left-needs =
         let x : length (bytes now) ≤ n = omega (arith, ap length now-bytes, length-take n s) in
-        sym (room-max a b (length (bytes now)) (longest (drop (k + 1) (revisions l)) (apply (ops part) now)) (omega (arith, g .inside)) (omega (arith, g .other)))
-        ∙ ap (λ es. room a b (longest es now)) (sym (this .edits))
+        sym (room-max a b (length (bytes now)) (longest (between (k + 1) j (revisions l)) (apply (ops part) now)) (omega (arith, g .inside)) (omega (arith, g .other)))
+        ∙ ap (λ es. room a b (longest es now)) (sym left)
         ∙ g .needs
 
     module _ (s′ u : List ℕ) (x : Reached) (za : length s ≡ a) (zu : length u ≡ b) (d : Advances part (take n s) (length s) (length u) s′ x) where
       same : Advances part (take n s) a b s′ x
       same = rw (za, zu) at d
 
-      pub stage-short : x ≡ Short → Ends l t a b s′ Short
+      pub stage-short : x ≡ Short → Ends l j t a b s′ end.Short
       stage-short q = go x same q
         where
-          go : (x : Reached) → Advances part (take n s) a b s′ x → x ≡ Short → Ends l t a b s′ Short
+          go : (x : Reached) → Advances part (take n s) a b s′ x → x ≡ Short → Ends l j t a b s′ end.Short
           go x (stages.Advances.short f) q =
-              stages.Ends.short (sym left-needs ∙ room-more a b _ _ (longest-here (drop (k + 1) (revisions l)) (apply (ops part) now)) (ap (λ i. room a b (length i)) (sym after) ∙ f))
+              stages.Ends.short (sym left-needs ∙ room-more a b _ _ (longest-here (between (k + 1) j (revisions l)) (apply (ops part) now)) (ap (λ i. room a b (length i)) (sym after) ∙ f))
           go x (stages.Advances.on m i j w) q = absurd (let y : _≡_ {A = ℕ} 0 1 = cc q in omega arith)
 
-      pub stage-next : (m z : ℕ) → x ≡ Of m → z ≡ sizeOf part → Stage l t a b (k + 1) (at + z) m s′
+      pub stage-next : (m z : ℕ) → x ≡ Of m → z ≡ sizeOf part → Stage l j t a b (k + 1) (at + z) m s′
       stage-next m z q p = go x same q
         where
-          next : take m s′ ≡ played part (take n s) → m ≤ a → m ≤ b → Stage l t a b (k + 1) (at + z) m s′
-          next w i j =
+          next : take m s′ ≡ played part (take n s) → m ≤ a → m ≤ b → Stage l j t a b (k + 1) (at + z) m s′
+          next w i o =
               let v = apply (ops part) now in
               let y : take m s′ ≡ bytes v = w ∙ after in
               let c : chars (take m s′) ≡ v = ap chars y ∙ chars-bytes v in
@@ -164,14 +191,14 @@ module _ (l t s : List ℕ) (r : T (readable l)) (count a b k at n : ℕ) (e : c
               record {
                 place = ap (λ i. at + i) p ∙ this .next;
                 inside = i;
-                other = j;
+                other = o;
                 well = rw y (bytes-well v);
                 chars-are = sym (chars-length (take m s′) (rw y (bytes-well v))) ∙ ap length c ∙ apply-length (ops part) now f ∙ ops-target part (this .faultless) ∙ this .target;
-                ends = ap (playAll (drop (k + 1) (revisions l))) c ∙ ap (λ es. playAll es now) (sym (this .edits)) ∙ g .ends;
-                needs = ap (λ i. room a b (longest (drop (k + 1) (revisions l)) i)) c ∙ left-needs;
+                ends = ap (playAll (between (k + 1) j (revisions l))) c ∙ ap (λ es. playAll es now) (sym left) ∙ g .ends;
+                needs = ap (λ i. room a b (longest (between (k + 1) j (revisions l)) i)) c ∙ left-needs;
               }
 
-          go : (x : Reached) → Advances part (take n s) a b s′ x → x ≡ Of m → Stage l t a b (k + 1) (at + z) m s′
+          go : (x : Reached) → Advances part (take n s) a b s′ x → x ≡ Of m → Stage l j t a b (k + 1) (at + z) m s′
           go x (stages.Advances.short f) q = absurd (let y : _≡_ {A = ℕ} 0 1 = cc q in omega arith)
           go x (stages.Advances.on {n = o} f i j w) q = let y : o ≡ m = cc q in next (rw y at w) (rw y at i) (rw y at j)
 
@@ -199,20 +226,47 @@ module _ (t s s₁ : List ℕ) (v : Bool) (g : Holds t s s₁ v) (q : not v ≡ 
   pub run-chars : (n : ℕ) → numChars t ≡ n → numChars (take (length t) s₁) ≡ n
   run-chars n e = ap numChars (kept .same) ∙ e
 
-module _ (l t : List ℕ) (a b : ℕ) (w : T (wellFormed t)) where
-  first-needs : room a b (length t) ≡ false → room a b (longest (revisions l) (chars t)) ≡ false
-  first-needs e = room-more a b _ _ (longest-here (revisions l) (chars t)) (ap (λ i. room a b (length i)) (bytes-chars t w) ∙ e)
+module _ (l t : List ℕ) (j a b : ℕ) (w : T (wellFormed t)) where
+  first-needs : room a b (length t) ≡ false → room a b (longest (take j (revisions l)) (chars t)) ≡ false
+  first-needs e = room-more a b _ _ (longest-here (take j (revisions l)) (chars t)) (ap (λ i. room a b (length i)) (bytes-chars t w) ∙ e)
 
-  pub run-other : (s : List ℕ) → b < length t → Ends l t a b s Short
+  pub run-other : (s : List ℕ) → b < length t → Ends l j t a b s end.Short
   run-other s h = stages.Ends.short (first-needs (room-second a b (length t) h))
 
   module _ (s s₁ : List ℕ) (z : length s ≡ a) (v : Bool) (g : Holds t s s₁ v) where
-    pub run-short : not v ≡ true → Ends l t a b s₁ Short
+    pub run-short : not v ≡ true → Ends l j t a b s₁ end.Short
     run-short q = go v g q
       where
-        go : (v : Bool) → Holds t s s₁ v → not v ≡ true → Ends l t a b s₁ Short
+        go : (v : Bool) → Holds t s s₁ v → not v ≡ true → Ends l j t a b s₁ end.Short
         go true x q = absurd (let y : _≡_ {A = ℕ} 0 1 = cc q in omega arith)
         go false (missed h) q = stages.Ends.short (first-needs (room-first a b (length t) (omega arith)))
 
-    pub run-ends : not v ≡ false → (s₂ : List ℕ) (x : Reached) → Ends l (take (length t) s₁) (length s₁) b s₂ x → Ends l t a b s₂ x
+    pub run-ends : not v ≡ false → (s₂ : List ℕ) (x : Played) → Ends l j (take (length t) s₁) (length s₁) b s₂ x → Ends l j t a b s₂ x
     run-ends q s₂ x d = let k = kept t s s₁ v g q in rw (k .same, k .size ∙ z) at d
+
+-- ---- for whoever calls it
+
+module _ (l : List ℕ) (j : ℕ) (t : List ℕ) (a b : ℕ) (a′ : List ℕ) (y : Played) (g : Ends l j t a b a′ y) where
+  pub ends-short : y ≡ end.Short → room a b (longest (take j (revisions l)) (chars t)) ≡ false
+  ends-short q = go y g q
+    where
+      go : (y : Played) → Ends l j t a b a′ y → y ≡ end.Short → room a b (longest (take j (revisions l)) (chars t)) ≡ false
+      go y (stages.Ends.short x) q = x
+      go y (whole w) q = absurd (let z : _≡_ {A = ℕ} 0 1 = cc q in omega arith)
+
+  module _ (n at : ℕ) (q : y ≡ end.Of n at) where
+    pub ends-stand : Stands l j t a b a′ n at
+    ends-stand = go y g q
+      where
+        go : (y : Played) → Ends l j t a b a′ y → y ≡ end.Of n at → Stands l j t a b a′ n at
+        go y (stages.Ends.short x) q = absurd (let z : _≡_ {A = ℕ} 0 1 = cc q in omega arith)
+        go y (whole {n = m} {at = p} w) q =
+            let en : m ≡ n = cc q in
+            let ea : p ≡ at = cc q in
+            rw (en, ea) at w
+
+    pub stands-size : n ≡ length (take n a′)
+    stands-size = ends-stand .size ∙ ap length (sym (ends-stand .text-is))
+
+    pub stands-inside : n ≤ length a′
+    stands-inside = omega (arith, stands-size, length-take n a′)

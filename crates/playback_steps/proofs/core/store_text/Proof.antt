@@ -1,7 +1,7 @@
 use borrow.Author.Needs.{needs}
-use Rattle.playback.proofs.Stages.{hold-short, hold-whole}
-use Rattle.playback.proofs.store_text.Statement.{statement}
-use Rattle.playback.proofs.store_text.Tie as tie
+use Rattle.playback_steps.proofs.Stages.{hold-short, hold-whole}
+use Rattle.playback_steps.proofs.core.store_text.Statement.{statement}
+use Rattle.playback_steps.proofs.core.store_text.Tie as tie
 
 returns : tie.Need-returns
 returns c = search hold-short

@@ -1,2 +1,2 @@
--- playback
+-- playback_steps
 pub mod InnerStages

@@ -1,7 +1,7 @@
 use borrow.Author.Needs.{needs}
-use Rattle.playback.proofs.Stages.{as-long, advance-other, advance-short, advance-on}
-use Rattle.playback.proofs.advance.Statement.{statement}
-use Rattle.playback.proofs.advance.Tie as tie
+use Rattle.playback_steps.proofs.Stages.{as-long, advance-other, advance-short, advance-on}
+use Rattle.playback_steps.proofs.core.advance.Statement.{statement}
+use Rattle.playback_steps.proofs.core.advance.Tie as tie
 
 slice-reshare-prefix-apply-into : tie.Need-slice-reshare-prefix-apply-into
 slice-reshare-prefix-apply-into c = search needs

@@ -1,0 +1,3 @@
+-- playback_steps
+pub mod Rooms
+pub mod Stages
