@@ -335,9 +335,15 @@ module _ (src : List ℕ) (from to num : ℕ) (room : to ≤ length src) (well :
   part-chars : length (chars part) ≡ num
   part-chars = chars-length part well ∙ sym ch
 
+  pub few-chars : to - from ≤ 2 ^ 18 → num ≤ 2 ^ 18
+  few-chars h = omega (arith, part-chars, part-bytes, bytes-length (chars part))
+
   module _ (n : ℕ) (e : Emitter) (o : List ℕ) where
     placed : (x : List ℕ) {at : ℕ} {x′ : List ℕ} → at ≡ textStart n → x′ ≡ over (at + e .text) part x → x′ ≡ over (textStart n + e .text) (bytes (chars part)) x
     placed x a p = p ∙ ap₂ (λ k l. over (k + e .text) l x) a (sym (bytes-chars part well))
+
+    pub adds-insert-none : to - from ≡ 0 → Adds n (insert (chars (take (to - from) (drop from src))) ∷ []) e o e o
+    adds-insert-none z = adds-none n (insert (chars part)) e o (omega (arith, part-bytes, bytes-length (chars part)))
 
     pub adds-inserts : to - from ≤ 2 ^ 18 → (to - from ≡ 0 → ⊥) → {at : ℕ} {r : Emitter} {o₁ o′ : List ℕ} → r ≡ insertedBy (to - from) num e → at ≡ textStart n → o₁ ≡ flushedIfClosed n e o → o′ ≡ over (at + e .text) (take (to - from) (drop from src)) o₁
         → Adds n (insert (chars (take (to - from) (drop from src))) ∷ []) e o r o′

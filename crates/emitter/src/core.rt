@@ -13,11 +13,14 @@ use record::core::MAX_OPS;
 use record::core::MAX_SIZE;
 ghost use mathlib.Core.Path.{_≡_};
 ghost use Prim.Native.Nat.{_+_, _^_, _≤_, _<_, _-_};
-ghost use lib.ListN.{length};
+ghost use lib.ListN.{length, take, drop};
 ghost use mathlib.Core.Bool.{_&&_};
-ghost use lib.Dec.{leb};
+ghost use lib.Dec.{leb, T};
 ghost use mathlib.Core.List.{[], _∷_};
-ghost use Rattle.edits.specs.Op.{delete, cut};
+ghost use Rattle.characters.specs.Form.{wellFormed};
+ghost use Rattle.characters.specs.Chars.{numChars};
+ghost use Rattle.characters.specs.Text.{chars};
+ghost use Rattle.edits.specs.Op.{delete, insert, cut};
 ghost use Rattle.record.specs.Layout.{textStart};
 ghost use Rattle.record.specs.InnerFront.{frontOp, Stands, Cut};
 ghost use Rattle.emitter.specs.InnerEmit.{nothing, flushedIfClosed, Under, opens, headed};
@@ -150,6 +153,31 @@ pub fn delete(out: &mut [u8], n: usize, e: Emitter, k: usize) -> Emitter
     }
     flush_if_closed(out, n, e);
     deleted(e, k)
+}
+
+// The text src[from..to], of `num` characters.
+pub fn insert(
+    out: &mut [u8],
+    n: usize,
+    e: Emitter,
+    src: &[u8],
+    from: usize,
+    to: usize,
+    num: usize,
+) -> Emitter
+    requires { ⌜ (n ≤ 2 ^ 40) × (from ≤ to) × (to ≤ length (now src)) × (to - from ≤ 2 ^ 18)
+        × T (wellFormed (take (to - from) (drop from (now src)))) × (num ≡ numChars (take (to - from) (drop from (now src))))
+        × Under (2 ^ 40) e ⌝ }
+    ensures { λ r. ⌜ Adds n (insert (chars (take (to - from) (drop from (now (src .entry))))) ∷ []) e (now (out .entry)) r
+        (now (out .exit)) ⌝ }
+{
+    let len = to - from;
+    if len == 0 {
+        return e;
+    }
+    flush_if_closed(out, n, e);
+    buffers::core::copy(out, layout::core::text_start(n) + e.text, src, from, to);
+    inserted(e, len, num)
 }
 
 // The first k characters of the front's operation, whose text ends at `mid`.

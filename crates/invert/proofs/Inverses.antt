@@ -35,10 +35,10 @@ use Rattle.answers.specs.declared.Written.{Written}
 use Rattle.answers.specs.declared.Written.the-variants as written
 use Rattle.record.specs.Calls.{checkCall}
 use Rattle.record.specs.Layout.{opCountOf, baseOf, targetOf, textBytesOf, textStart, maxSize}
-use Rattle.record.specs.Record.{inBytes, text, ops, recordFault}
+use Rattle.record.specs.Record.{inBytes, text, encode, ops, recordFault}
 use Rattle.record.proofs.Checked.{stopped, passed}
 use Rattle.record.proofs.Sequences.{fits-limits}
-use Rattle.record.proofs.Records.{ops-length, ops-base, ops-target, ops-text, ops-good}
+use Rattle.record.proofs.Records.{encode-length, ops-length, ops-base, ops-target, ops-text, ops-good}
 use Rattle.operational_transform.specs.Calls.{deliver, invertCall}
 use Rattle.emitter.specs.declared.core.Emitter.{Emitter}
 use Rattle.emitter.specs.InnerEmit.{Sizes, Writes, withinLimits, limitsThenRoom}
@@ -49,8 +49,8 @@ use Rattle.apply_steps.specs.InnerSteps.{played}
 use Rattle.apply_steps.proofs.Playing.{played-most}
 use Rattle.invert_in_place.specs.InnerInverting.{insertsApart, insertedBack}
 use Rattle.invert_in_place.proofs.Placing.{built-apart, inverse-length}
-use Rattle.invert.specs.declared.Decided.{Decided}
-use Rattle.invert.specs.declared.Decided.the-variants as decided
+use Rattle.invert.specs.declared.core.Decided.{Decided}
+use Rattle.invert.specs.declared.core.Decided.the-variants as decided
 use Rattle.invert.specs.InnerDeciding.{decidedOf}
 
 -- ---- how much the inverse inserts
@@ -130,6 +130,11 @@ module _ (r t : List ℕ) (z : recordFault r ≡ 0) (w : T (wellFormed t)) (b : 
           base-is = sym (ops-target r z) ∙ sym (invert-base (ops r) (chars t));
           target-is = sym (ops-base r z) ∙ sym (invert-target (ops r) (chars t) (omega (arith, fits-in)));
         }
+
+    -- how much room the inverse's record needs at most
+    pub inverse-most : length (encode inverse) ≤ textStart count + length t
+    unfolding insertedBack
+    inverse-most = omega (arith, encode-length inverse, ap textStart (sizes .ops), back-few)
 
     -- 9 is for the text alone: operations, base and target keep their limits as the record's do
     text-decides : insertedBack r t ≤ maxSize → true ≡ withinLimits sizes-of

@@ -1,7 +1,7 @@
 use borrow.Author.Needs.{needs}
 use Rattle.invert.proofs.Inverses.{decided-surely, decided-limit, decided-room, decided-fits}
-use Rattle.invert.proofs.decide.Statement.{statement}
-use Rattle.invert.proofs.decide.Tie as tie
+use Rattle.invert.proofs.core.decide.Statement.{statement}
+use Rattle.invert.proofs.core.decide.Tie as tie
 
 surely-fits-requires : tie.Need-surely-fits-requires
 surely-fits-requires c κs = search needs

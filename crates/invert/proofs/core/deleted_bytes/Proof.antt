@@ -1,7 +1,7 @@
 use borrow.Author.Needs.{needs}
 use Rattle.invert.proofs.Inverses.{no-more-played, deleted-is, deleted-few}
-use Rattle.invert.proofs.deleted_bytes.Statement.{statement}
-use Rattle.invert.proofs.deleted_bytes.Tie as tie
+use Rattle.invert.proofs.core.deleted_bytes.Statement.{statement}
+use Rattle.invert.proofs.core.deleted_bytes.Tie as tie
 
 slice-aggregate-apply-into : tie.Need-slice-aggregate-apply-into
 slice-aggregate-apply-into c = search needs

@@ -1,7 +1,7 @@
 use borrow.Author.Needs.{needs}
 use Rattle.invert.proofs.Inverses.{sure-long, sure-room}
-use Rattle.invert.proofs.surely_fits.Statement.{statement}
-use Rattle.invert.proofs.surely_fits.Tie as tie
+use Rattle.invert.proofs.core.surely_fits.Statement.{statement}
+use Rattle.invert.proofs.core.surely_fits.Tie as tie
 
 returns : tie.Need-returns
 returns c = search sure-long

@@ -1,0 +1,2 @@
+-- invert_steps
+pub mod Undoing
