@@ -1,0 +1,3 @@
+-- undo
+pub mod Inverting
+pub mod Answers

@@ -1,0 +1,2 @@
+-- undo
+pub mod InnerUndoing
