@@ -72,8 +72,8 @@ static void transformed(uint64_t answer, struct buffer *a, struct buffer *b) {
 }
 
 /* The log as it stands after the call, and the counterparts. */
-static void accepted(uint64_t answer, struct buffer *log, struct buffer *out) {
-    two("ot_accept", answer);
+static void accepted(const char *call, uint64_t answer, struct buffer *log, struct buffer *out) {
+    two(call, answer);
     print_bytes(log, log->len + (OT_REFUSED(answer) ? 0 : OT_FIRST(answer)));
     print_bytes(out, OT_REFUSED(answer) ? 0 : OT_SECOND(answer));
 }
@@ -129,11 +129,16 @@ int main(void) {
 
     /* Both edits were made for the text that the session begins with. */
     wrote("ot_open", ot_open(5, OUT(log)), &log);
-    accepted(ot_accept(IN(first), 0, BOTH(log), OUT(x)), &log, &x);
-    accepted(ot_accept(IN(second), 0, BOTH(log), OUT(x)), &log, &x);
-    accepted(ot_accept(IN(second), 3, BOTH(log), OUT(x)), &log, &x);
+    accepted("ot_accept", ot_accept(IN(first), 0, BOTH(log), OUT(x)), &log, &x);
+    accepted("ot_accept", ot_accept(IN(second), 0, BOTH(log), OUT(x)), &log, &x);
+    accepted("ot_accept", ot_accept(IN(second), 3, BOTH(log), OUT(x)), &log, &x);
     wrote("ot_summary", ot_summary(IN(log), OUT(x)), &x);
     wrote("ot_play", ot_play(IN(log), IN(text), OUT(x), OUT(y), OUT(z)), &z);
     wrote("ot_play", ot_play(IN(log), IN(text), x.bytes, 7, OUT(y), OUT(z)), &z);
+
+    /* The first edit is taken back: the 1 stands there again, and before the ä. */
+    accepted("ot_undo", ot_undo(BOTH(log), 1, IN(text), OUT(x), OUT(y), OUT(z)), &log, &z);
+    wrote("ot_play", ot_play(IN(log), IN(text), OUT(x), OUT(y), OUT(z)), &z);
+    accepted("ot_undo", ot_undo(BOTH(log), 0, IN(text), OUT(x), OUT(y), OUT(z)), &log, &z);
     return 0;
 }

@@ -12,15 +12,15 @@
    or a log's own contents aren't read, so a buffer may be longer than what stands in it. A text or a list has all bytes given.
 
    Results stand at the front of their buffer, and bytes behind them are untouched. A refused call changes nothing,
-   the scratch buffers of ot_play apart.
+   the scratch buffers of ot_play and ot_undo apart.
 
    Answers. Every call gives one uint64_t. Where bit 63 is set the call is refused, and the low byte says why (enum ot_refusal).
    Otherwise it is the result; of two results the first is the low 32 bits and the second the high 32.
    ot_well_formed, ot_num_chars, ot_step and ot_insert_text are never refused.
 
    Stack: ot_accept uses about 12 KB, and 55 KB where the edit on its way past other revisions has more than 1,024 bytes, it or a
-   counterpart more than 128 operations, or the counterparts more than 8,192 bytes; ot_summary 82 KB, ot_compose 9 KB,
-   ot_transform 7 KB, every other call less than 4 KB. */
+   counterpart more than 128 operations, or the counterparts more than 8,192 bytes; ot_undo 36 KB more than ot_accept does with the
+   inverse for its edit; ot_summary 82 KB, ot_compose 9 KB, ot_transform 7 KB, every other call less than 4 KB. */
 #ifndef OT_H
 #define OT_H
 
@@ -39,15 +39,15 @@ enum ot_refusal {
     OT_BAD_NEIGHBOURS = 4, /* two neighbours in an edit have the same kind, or an insert directly follows a delete */
     OT_BAD_SUMS = 5,       /* an edit's stated base or target differs from the sum of its operations */
     OT_BAD_LOG = 6,        /* the log can't be read */
-    OT_NO_REVISION = 7,    /* the revision named is greater than the log's count */
+    OT_NO_REVISION = 7,    /* the revision named is greater than the log's count, or 0 where one is to be undone */
     OT_LENGTHS_DIFFER = 8, /* the edit wasn't made for this text, this revision or this other edit: the lengths differ */
     OT_OVER_LIMIT = 9,     /* the result would pass a limit: 1,024 operations, 32,768 of another size, 256 revisions */
     OT_NO_ROOM = 10,       /* an output, a scratch buffer or the rest of the log's buffer is too short; nothing was written */
     OT_BAD_JSON = 11       /* the bytes are no list of the form that ot_from_json reads */
 };
 
-/* Sizes in bytes that always suffice: for an edit, a log, all counterparts of one ot_accept, a text after an edit, the list that
-   ot_to_json writes. */
+/* Sizes in bytes that always suffice: for an edit, a log, all counterparts of one ot_accept or ot_undo, a text after an edit,
+   the list that ot_to_json writes. */
 #define OT_RECORD_MAX 35848
 #define OT_LOG_MAX (4 + 256 * 35848)
 #define OT_COUNTERPARTS_MAX (255 * 35848)
@@ -131,6 +131,15 @@ uint64_t ot_open(uint64_t start, uint8_t *log, size_t log_len);
    appended as a new one. The counterparts, which take the author's own text to the newest, go to out, oldest
    first, end to end. Two results: how many bytes the log grew by, then how many the counterparts have. */
 uint64_t ot_accept(const uint8_t *edit, size_t edit_len, uint64_t r, uint8_t *log, size_t log_len, uint8_t *out, size_t out_len);
+
+/* Takes revision k back, 1 being the first, although others came after it. text is the text that the session began with: the
+   revisions before k are played on it, revision k is inverted on what they give, and the inverse is taken in as ot_accept takes in
+   an edit that was written against revision k, with the same two results. For the newest revision the text is then the one before
+   it, and undoing that undo gives the edited text again. k is this log's number: a copy of the session may have its revisions under
+   others. Of the text only the length is tested. Each scratch buffer has to hold every text up to revision k - 1, the first
+   included; what stands in them afterwards is nobody's. */
+uint64_t ot_undo(uint8_t *log, size_t log_len, uint64_t k, const uint8_t *text, size_t text_len, uint8_t *scratch_a,
+                 size_t scratch_a_len, uint8_t *scratch_b, size_t scratch_b_len, uint8_t *out, size_t out_len);
 
 /* All revisions as one edit; how many bytes it has. */
 uint64_t ot_summary(const uint8_t *log, size_t log_len, uint8_t *out, size_t out_len);

@@ -5,7 +5,7 @@
 //! buffer, and bytes behind them stay as they were.
 use std::fmt;
 
-/// The most bytes that a record takes, that a log takes, and that the counterparts of one accept take.
+/// The most bytes that a record takes, that a log takes, and that the counterparts of one accept or undo take.
 pub const RECORD: usize = 8 + 3 * 1024 + 32_768;
 pub const LOG: usize = 4 + 256 * RECORD;
 pub const COUNTERPARTS: usize = 255 * RECORD;
@@ -51,6 +51,19 @@ mod sys {
             r: u64,
             log: *mut u8,
             log_len: usize,
+            out: *mut u8,
+            out_len: usize,
+        ) -> u64;
+        pub fn ot_undo(
+            log: *mut u8,
+            log_len: usize,
+            k: u64,
+            text: *const u8,
+            text_len: usize,
+            scratch_a: *mut u8,
+            scratch_a_len: usize,
+            scratch_b: *mut u8,
+            scratch_b_len: usize,
             out: *mut u8,
             out_len: usize,
         ) -> u64;
@@ -248,6 +261,34 @@ pub fn accept(edit: &[u8], r: u64, log: &mut [u8], out: &mut [u8]) -> Result<(us
     two(unsafe { sys::ot_accept(edit.as_ptr(), edit.len(), r, log.as_mut_ptr(), log.len(), out.as_mut_ptr(), out.len()) })
 }
 
+/// Takes revision `k` back, 1 being the first, although others came after it: plays the revisions before it on `text`, which the
+/// session began with, inverts it there, and accepts the inverse as written against `k`. The two numbers are those of [`accept`]. Each
+/// scratch buffer holds every text up to revision `k - 1`, the first included; what stands in them afterwards is free.
+pub fn undo(
+    log: &mut [u8],
+    k: u64,
+    text: &[u8],
+    scratch_a: &mut [u8],
+    scratch_b: &mut [u8],
+    out: &mut [u8],
+) -> Result<(usize, usize), Refusal> {
+    two(unsafe {
+        sys::ot_undo(
+            log.as_mut_ptr(),
+            log.len(),
+            k,
+            text.as_ptr(),
+            text.len(),
+            scratch_a.as_mut_ptr(),
+            scratch_a.len(),
+            scratch_b.as_mut_ptr(),
+            scratch_b.len(),
+            out.as_mut_ptr(),
+            out.len(),
+        )
+    })
+}
+
 /// All revisions as one edit.
 pub fn summary(log: &[u8], out: &mut [u8]) -> Result<usize, Refusal> {
     one(unsafe { sys::ot_summary(log.as_ptr(), log.len(), out.as_mut_ptr(), out.len()) })
@@ -355,5 +396,26 @@ mod tests {
         assert_eq!(met, shipped);
         assert_eq!(accept(&second, 3, &mut log, &mut out), Err(Refusal::Revision));
         assert_eq!(accept(&second, 2, &mut log, &mut out), Err(Refusal::IncompatibleLengths));
+    }
+
+    #[test]
+    fn a_revision_is_taken_back_although_another_came_after_it() {
+        let text = "Geräte sperren";
+        let first = built(&[('d', 6, ""), ('i', 0, "Liste"), ('r', 8, "")]);
+        let second = built(&[('r', 5, ""), ('i', 0, " nicht"), ('r', 8, "")]);
+        let mut log = vec![0; 200];
+        let mut size = open(14, &mut log).unwrap();
+        let (mut a, mut b, mut out) = (vec![0; 64], vec![0; 64], vec![0; 64]);
+        size += accept(&first, 0, &mut log, &mut out).unwrap().0;
+        size += accept(&second, 1, &mut log, &mut out).unwrap().0;
+        let (added, counterparts) = undo(&mut log, 1, text.as_bytes(), &mut a, &mut b, &mut out).unwrap();
+        size += added;
+        assert_eq!(out[..counterparts], built(&[('r', 6, ""), ('i', 0, " nicht"), ('r', 8, "")])[..]);
+        let n = play(&log[..size], text.as_bytes(), &mut a, &mut b, &mut out).unwrap();
+        assert_eq!(std::str::from_utf8(&out[..n]).unwrap(), "Geräte nicht sperren");
+        assert_eq!(undo(&mut log, 0, text.as_bytes(), &mut a, &mut b, &mut out), Err(Refusal::Revision));
+        assert_eq!(undo(&mut log, 4, text.as_bytes(), &mut a, &mut b, &mut out), Err(Refusal::Revision));
+        assert_eq!(undo(&mut log, 1, b"Liste", &mut a, &mut b, &mut out), Err(Refusal::IncompatibleLengths));
+        assert_eq!(undo(&mut log, 1, text.as_bytes(), &mut a, &mut b[..14], &mut out), Err(Refusal::Room));
     }
 }

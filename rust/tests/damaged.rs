@@ -59,12 +59,27 @@ fn contents(log: &[u8]) -> usize {
     (0..count).fold(4, |at, _| at + ot::check(&log[at..]).unwrap())
 }
 
+// A log before and after a call that appends to it: one record more behind its contents, or no change.
+fn grown(before: &[u8], after: &[u8], got: Result<(usize, usize), Refusal>) {
+    match got {
+        Ok((added, _)) => {
+            let end = contents(before);
+            assert_eq!(after[2..end], before[2..end]);
+            assert_eq!(after[end + added..], before[end + added..]);
+            assert_eq!(ot::check(&after[end..]), Ok(added));
+            assert_eq!(after[0] as usize + 256 * after[1] as usize, before[0] as usize + 256 * before[1] as usize + 1);
+        }
+        Err(_) => assert_eq!(after, before),
+    }
+}
+
 #[test]
 fn nothing_outside_a_result_changes() {
     let mut random = Random(99);
     let (mut p, mut q, mut s, mut t, mut u) = (Pages::new(10), Pages::new(10), Pages::new(10), Pages::new(10), Pages::new(10));
     let mut calls = 0u64;
     let mut went = 0u64;
+    let mut undone = 0u64;
     for round in 0..200_000u64 {
         let bytes = |random: &mut Random, most: usize| -> Vec<u8> {
             let n = random.below(most);
@@ -164,17 +179,8 @@ fn nothing_outside_a_result_changes() {
         let oy = t.lend(&y);
         let got = ot::accept(pa, r, ol, oy);
         settled(&y, oy, got.map(|g| g.1));
-        match got {
-            Ok((added, _)) => {
-                let end = contents(log);
-                assert_eq!(ol[2..end], log[2..end]);
-                assert_eq!(ol[end + added..], log[end + added..]);
-                assert_eq!(ot::check(&ol[end..]), Ok(added));
-                assert_eq!(ol[0] as usize + 256 * ol[1] as usize, log[0] as usize + 256 * log[1] as usize + 1);
-                went += 1;
-            }
-            Err(_) => assert_eq!(ol, log),
-        }
+        grown(log, ol, got);
+        went += got.is_ok() as u64;
         assert_eq!(pa, a);
         q.before_untouched(log.len());
         t.before_untouched(y.len());
@@ -187,11 +193,24 @@ fn nothing_outside_a_result_changes() {
         for (pages, lent) in [(&p, log.len()), (&q, text.len()), (&s, x.len()), (&t, y.len()), (&u, x.len())] {
             pages.before_untouched(lent);
         }
-        calls += 3;
+        went += got.is_ok() as u64;
+        // a log, two scratch buffers and an output
+        let k = [r, 1 + r, n][random.below(3)];
+        let (pl, qt) = (p.lend(log), q.lend(text) as &[u8]);
+        let (o1, o2, o3) = (s.lend(&x), t.lend(&y), u.lend(&x));
+        let got = ot::undo(pl, k, qt, o1, o2, o3);
+        settled(&x, o3, got.map(|g| g.1));
+        grown(log, pl, got);
+        assert_eq!(qt, text);
+        for (pages, lent) in [(&p, log.len()), (&q, text.len()), (&s, x.len()), (&t, y.len()), (&u, x.len())] {
+            pages.before_untouched(lent);
+        }
+        undone += got.is_ok() as u64;
+        calls += 4;
         went += got.is_ok() as u64;
     }
-    println!("{calls} calls on damaged input; {went} went through; nothing outside a result changed");
-    assert!(went > calls / 20);
+    println!("{calls} calls on damaged input; {went} went through, {undone} of them undos; nothing outside a result changed");
+    assert!(went > calls / 20 && undone > 5_000);
 }
 
 // A list of so many values, with white space and escapes: most strings are short, and some have many characters. Numbers in a long

@@ -23,8 +23,9 @@ use Rattle.operational_transform.specs.Calls.{recordsFault, transformCall}
 use Rattle.log.specs.Log.{encodeAll, editsIn, countOf, readable, lengthAt, revisions, maxRevisions}
 use Rattle.log.proofs.Rows.{Each}
 use Rattle.session.specs.Rows.{rebase}
-use Rattle.session.specs.Session.{movedIn, acceptFault, append, acceptCall}
+use Rattle.session.specs.Session.{movedIn, acceptFault, append, acceptCall, inverseIn, undoCall}
 use Rattle.session.proofs.Moving.{rebase-length, rebase-good}
+use Rattle.session.proofs.UndoAccepts.{undoTests, undo-accepts}
 use Rattle.packing.specs.Numbers.{small, most}
 
 settled : (f : ℕ) (g : ℕ → Outs) (x : Outs) → ((n : ℕ) → T (small (g n .answer))) → (f ≡ 0 → T (small (x .answer))) → T (small (unlessRefused f g x .answer))
@@ -90,6 +91,15 @@ accept-small edit r log out =
     (omega
     (arith, all-small (m .counterparts) (g .1), rebase-length (ops edit) vs, length-drop r (revisions log), edits-length (countOf log) (drop 4 log), ltb→lt (countOf log) 256 f)))
 
+-- ---- undo: a refusal, or what accept gives for the inverse
+
+pub undo-small : (log : List ℕ) (k : ℕ) (text : List ℕ) (x y : ℕ) (out : List ℕ) → T (small (undoCall log k text x y out .answer))
+undo-small log k text x y out =
+    let inverse = encode (inverseIn log k text) in
+    rw (undo-accepts log k text x y out)
+    (settled (undoTests log k text x y) (λ n. record { answer = refused n; outA = log; outB = out }) (acceptCall inverse k log out) (λ n. tt)
+    (λ z. accept-small inverse k log out))
+
 -- ---- as the code finds it
 
 module _ (x : WrittenPair) where
@@ -98,3 +108,6 @@ module _ (x : WrittenPair) where
 
   pub accept-fits : (edit : List ℕ) (r : ℕ) (log out : List ℕ) → pairOf x ≡ acceptCall edit r log out .answer → T (small (pairOf x))
   accept-fits edit r log out e = rw e (accept-small edit r log out)
+
+  pub undo-fits : (log : List ℕ) (k : ℕ) (text : List ℕ) (a b : ℕ) (out : List ℕ) → pairOf x ≡ undoCall log k text a b out .answer → T (small (pairOf x))
+  undo-fits log k text a b out e = rw e (undo-small log k text a b out)

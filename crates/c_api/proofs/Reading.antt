@@ -33,10 +33,10 @@ use Rattle.json_lists.specs.Written.{written as listOf}
 use Rattle.json_lists.specs.Calls.{opsOf, made, fromJsonCall, toJsonCall}
 use Rattle.log.specs.Log.{startOf, revisions}
 use Rattle.log.specs.Open.{openCall}
-use Rattle.session.specs.Session.{acceptCall, summaryFault, summaryCall, played, playFault, playCall}
+use Rattle.session.specs.Session.{acceptCall, undoCall, summaryFault, summaryCall, played, playFault, playCall}
 use Rattle.session.specs.Rows.{retainAll, composeAll}
 use Rattle.packing.specs.Numbers.{packed, readTwo, most, small, readOne}
-use Rattle.c_api.proofs.Bounds.{transform-small, accept-small}
+use Rattle.c_api.proofs.Bounds.{transform-small, accept-small, undo-small}
 
 -- a refusal's number is the low byte
 pub low-byte : (x : Refusal) → (2 ^ 63 + number x) % 256 ≡ number x
@@ -80,6 +80,9 @@ transform-read a b x y = two (transformCall a b x y .answer) (transform-small a 
 
 pub accept-read : (edit : List ℕ) (r : ℕ) (log out : List ℕ) → let x = acceptCall edit r log out .answer in readTwo (packed x) ≡ x
 accept-read edit r log out = two (acceptCall edit r log out .answer) (accept-small edit r log out)
+
+pub undo-read : (log : List ℕ) (k : ℕ) (text : List ℕ) (x y : ℕ) (out : List ℕ) → let a = undoCall log k text x y out .answer in readTwo (packed a) ≡ a
+undo-read log k text x y out = two (undoCall log k text x y out .answer) (undo-small log k text x y out)
 
 -- ---- one result: a fact, or the size of what was written
 

@@ -9,7 +9,7 @@ ghost use Rattle.walker.specs.Walk.{stepCall};
 ghost use Rattle.operational_transform.specs.Calls.{retainCall, deleteCall, insertCall, applyCall, invertCall, composeCall, transformCall};
 ghost use Rattle.json_lists.specs.Calls.{fromJsonCall, toJsonCall};
 ghost use Rattle.log.specs.Open.{openCall};
-ghost use Rattle.session.specs.Session.{acceptCall, summaryCall, playCall};
+ghost use Rattle.session.specs.Session.{acceptCall, undoCall, summaryCall, playCall};
 ghost use Rattle.packing.specs.Numbers.{packed, stepNumber, part};
 
 // ---- texts
@@ -175,6 +175,25 @@ pub extern "C" fn ot_accept(edit: &[u8], r: u64, log: &mut [u8], out: &mut [u8])
         × (now (out .exit) ≡ acceptCall (now (edit .entry)) r (now (log .entry)) (now (out .entry)) .outB) ⌝ }
 {
     packing::core::pair(accept::accept(edit, r, log, out))
+}
+
+#[no_mangle]
+pub extern "C" fn ot_undo(
+    log: &mut [u8],
+    k: u64,
+    text: &[u8],
+    scratch_a: &mut [u8],
+    scratch_b: &mut [u8],
+    out: &mut [u8],
+) -> u64
+    ensures { λ x. ⌜ (x ≡ packed (undoCall (now (log .entry)) k (now (text .entry)) (length (now («scratch_a» .entry)))
+        (length (now («scratch_b» .entry))) (now (out .entry)) .answer))
+        × (now (log .exit) ≡ undoCall (now (log .entry)) k (now (text .entry)) (length (now («scratch_a» .entry)))
+        (length (now («scratch_b» .entry))) (now (out .entry)) .outA)
+        × (now (out .exit) ≡ undoCall (now (log .entry)) k (now (text .entry)) (length (now («scratch_a» .entry)))
+        (length (now («scratch_b» .entry))) (now (out .entry)) .outB) ⌝ }
+{
+    packing::core::pair(undo::undo(log, k, text, scratch_a, scratch_b, out))
 }
 
 #[no_mangle]

@@ -374,6 +374,49 @@ mod measured {
             report.say(&format!("| after {revisions} | {size} | {} | {:.2} |", show(ours), ours / size as f64));
         }
         report.say("");
+        report.say("| call | the newest of so many revisions | ours, ns | play and accept, ns | ratio |");
+        report.say("|---|---|---|---|---|");
+        for revisions in [1usize, 16, 255] {
+            let text = letters(false, 40, 0);
+            let mut log = vec![0u8; ot::LOG];
+            let mut out = vec![0u8; 8];
+            let mut len = 40u64;
+            let mut size = ot::open(len, &mut log).unwrap();
+            for k in 0..revisions {
+                let mut newest = OperationSeq::default();
+                newest.retain(len / 2);
+                newest.insert(&letters(k % 2 == 1, 1, k));
+                newest.retain(len - len / 2);
+                len += 1;
+                size += ot::accept(&encode(&newest), k as u64, &mut log, &mut out).unwrap().0;
+            }
+            let mut back = OperationSeq::default();
+            back.retain((len - 1) / 2);
+            back.delete(1);
+            back.retain(len - 1 - (len - 1) / 2);
+            let inverse = encode(&back);
+            let mut log_2 = log.clone();
+            let kept = log[..4].to_vec();
+            let room = size + 200;
+            let (mut a, mut b, mut shipped) = (vec![0u8; 2048], vec![0u8; 2048], vec![0u8; 2048]);
+            let (mut a_2, mut b_2, mut out_2) = (vec![0u8; 2048], vec![0u8; 2048], vec![0u8; 8]);
+            report.aside(
+                "undo",
+                &revisions.to_string(),
+                &mut || {
+                    log[..4].copy_from_slice(&kept);
+                    let k = revisions as u64;
+                    keep(ot::undo(&mut log[..room], k, black_box(text.as_bytes()), &mut a, &mut b, &mut out).unwrap().0);
+                },
+                &mut || {
+                    log_2[..4].copy_from_slice(&kept);
+                    let k = revisions as u64;
+                    keep(ot::play(&log_2[..room], black_box(text.as_bytes()), &mut a_2, &mut b_2, &mut shipped).unwrap());
+                    keep(ot::accept(black_box(&inverse), k, &mut log_2[..room], &mut out_2).unwrap().0);
+                },
+            );
+        }
+        report.say("");
         report.say("| call | ns for each operation at 100 | at 1000 | at 1024 |");
         report.say("|---|---|---|---|");
         for what in ["check", "apply", "compose", "transform"] {
