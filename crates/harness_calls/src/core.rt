@@ -7,6 +7,7 @@ use harness::core::tell;
 use harness::core::words;
 ghost use mathlib.Core.Path.{_≡_};
 ghost use lib.ListN.{length};
+ghost use Prim.Native.Nat.{_≤_};
 
 // A buffer before its first use. The `ensures` is what lending it needs.
 pub fn untouched() -> [u8; 40000]
@@ -52,15 +53,27 @@ fn verb(word: &[u8]) -> u8 {
     if check::same(name, b".play") {
         return 8;
     }
+    if check::same(name, b".undo") {
+        return 9;
+    }
     0
 }
 
-// How often: a number of two bytes, or once.
-fn times(y: &[u8]) -> usize {
-    if y.len() < 2 {
-        return 1;
+// The number of two bytes that stands here, or what holds where there is none.
+fn stated(y: &[u8], at: usize, otherwise: usize) -> usize {
+    if at < y.len() {
+        if 1 < y.len() - at {
+            return words::wide(y[at]) + 256 * words::wide(y[at + 1]);
+        }
     }
-    words::wide(y[0]) + 256 * words::wide(y[1])
+    otherwise
+}
+
+// The `ensures` is what lending a buffer's front needs.
+fn at_most(most: usize, n: usize) -> usize
+    ensures { λ r. ⌜ r ≤ most ⌝ }
+{
+    if n <= most { n } else { most }
 }
 
 pub fn answer(s: State, buf: &[u8], log: &mut [u8], kept: &mut [u8]) {
@@ -69,16 +82,24 @@ pub fn answer(s: State, buf: &[u8], log: &mut [u8], kept: &mut [u8]) {
     let f = p.first;
     let e = p.second;
     let name = verb(&buf[0..w]);
-    let often = times(&buf[f..e]);
     let room = s.room as usize;
     let rooms = s.rooms as usize;
-    call(name, &buf[w..f], often, s.number, room, rooms, log, kept);
+    call(
+        name,
+        &buf[w..f],
+        &buf[f..e],
+        s.number,
+        room,
+        rooms,
+        log,
+        kept,
+    );
 }
 
 fn call(
     name: u8,
     x: &[u8],
-    often: usize,
+    y: &[u8],
     number: u64,
     room: usize,
     rooms: usize,
@@ -86,11 +107,12 @@ fn call(
     kept: &mut [u8],
 ) {
     match name {
-        1 => repeat(x, number, false, often, room, rooms, log, kept),
-        2 => repeat(x, 0, true, often, room, rooms, log, kept),
+        1 => repeat(x, number, false, stated(y, 0, 1), room, rooms, log, kept),
+        2 => repeat(x, 0, true, stated(y, 0, 1), room, rooms, log, kept),
         3 => relay(kept, rooms, log),
         4 => open(number, rooms, log),
         5 => put(x, number as usize, log),
+        9 => undo(number, x, y, room, rooms, log, kept),
         _ => ask(name, x, number, room, rooms, log),
     }
 }
@@ -173,6 +195,10 @@ fn accept_in(edit: &[u8], r: u64, log: &mut [u8], out: &mut [u8], kept: &mut [u8
     if aloud {
         tell::accepted(w, log, out);
     }
+    keep_parts(w, out, kept);
+}
+
+fn keep_parts(w: WrittenPair, out: &[u8], kept: &mut [u8]) {
     match w {
         WrittenPair::Bytes(_, m) => keep(out, m, kept),
         WrittenPair::Refused(_) => (),
@@ -283,4 +309,55 @@ fn play(log: &[u8], text: &[u8], room: usize, other: usize, rooms: usize) {
 fn play_in(log: &[u8], text: &[u8], x: &mut [u8], y: &mut [u8], out: &mut [u8]) {
     let w = playback::play(log, text, x, y, out);
     tell::played(w, out);
+}
+
+// The second operand has the size of the second scratch buffer, and then that of the log's.
+fn undo(k: u64, text: &[u8], y: &[u8], room: usize, rooms: usize, log: &mut [u8], kept: &mut [u8]) {
+    let size = at_most(log.len(), stated(y, 2, log.len()));
+    undo_with(
+        k,
+        text,
+        room,
+        stated(y, 0, room),
+        rooms,
+        &mut log[0..size],
+        kept,
+    );
+}
+
+fn undo_with(
+    k: u64,
+    text: &[u8],
+    room: usize,
+    other: usize,
+    rooms: usize,
+    log: &mut [u8],
+    kept: &mut [u8],
+) {
+    let mut out = untouched();
+    let mut x = untouched();
+    let mut y = untouched();
+    undo_in(
+        k,
+        text,
+        &mut x[0..at_most(40000, room)],
+        &mut y[0..at_most(40000, other)],
+        log,
+        &mut out[0..at_most(40000, rooms)],
+        kept,
+    );
+}
+
+fn undo_in(
+    k: u64,
+    text: &[u8],
+    x: &mut [u8],
+    y: &mut [u8],
+    log: &mut [u8],
+    out: &mut [u8],
+    kept: &mut [u8],
+) {
+    let w = undo::undo(log, k, text, x, y, out);
+    tell::accepted(w, log, out);
+    keep_parts(w, out, kept);
 }

@@ -1,4 +1,5 @@
 // A label, three translators who change it at the same time, and a server that their edits reach in each order: prints what ships.
+// At the end one of them takes an edit back that the others' came after.
 // A translator's copy is a log too. Its own edit is in it from the start; then come the counterparts that the server hands out
 // for this edit, and the server's revisions from there on.
 use answers::Written;
@@ -102,9 +103,13 @@ fn order(name: &[u8], label: &[u8], x: &[u8], y: &[u8], z: &[u8]) {
     arrives(y, &mut server, &mut b);
     arrives(z, &mut server, &mut c);
     told(name, &server, label);
-    let in_a = meets(&server, &mut a, label);
-    let in_b = meets(&server, &mut b, label);
-    let in_c = meets(&server, &mut c, label);
+    all_meet(&server, &mut a, &mut b, &mut c, label);
+}
+
+fn all_meet(server: &[u8], a: &mut [u8], b: &mut [u8], c: &mut [u8], label: &[u8]) {
+    let in_a = meets(server, a, label);
+    let in_b = meets(server, b, label);
+    let in_c = meets(server, c, label);
     copies(in_a && in_b && in_c);
 }
 
@@ -164,6 +169,51 @@ fn goes_on(label: &[u8], next: &[u8], server: &mut [u8]) {
     show::text(b"\n");
 }
 
+// Revision k is taken back: how many bytes the counterparts have. A refusal is told.
+fn take_back(k: u64, label: &[u8], log: &mut [u8], parts: &mut [u8]) -> usize {
+    let mut x = [0u8; 256];
+    let mut y = [0u8; 256];
+    match undo::undo(log, k, label, &mut x, &mut y, parts) {
+        WrittenPair::Bytes(_, n) => n,
+        WrittenPair::Refused(x) => {
+            tell::reason(x);
+            0
+        }
+    }
+}
+
+// Revision 1 is taken back in a copy that has no later one, and on the server; then the copy takes in the counterparts.
+fn regrets(label: &[u8], server: &mut [u8], copy: &mut [u8]) {
+    let mut parts = [0u8; 512];
+    take_back(1, label, copy, &mut parts);
+    let n = take_back(1, label, server, &mut parts);
+    take(&parts, 0, n, copy);
+}
+
+// B's edit, which reaches the server first, is revision 1. The undo is the server's revision 4, the newest, and is taken back there.
+fn undone(label: &[u8], a: &[u8], b: &[u8], c: &[u8]) {
+    let mut server = [0u8; 1024];
+    let mut copy_a = [0u8; 1024];
+    let mut copy_b = [0u8; 1024];
+    let mut copy_c = [0u8; 1024];
+    log::open(48, &mut server);
+    arrives(b, &mut server, &mut copy_b);
+    arrives(a, &mut server, &mut copy_a);
+    arrives(c, &mut server, &mut copy_c);
+    told(
+        b"\nB's edit came first, then A's and C's. What ships:\n  ",
+        &server,
+        label,
+    );
+    regrets(label, &mut server, &mut copy_b);
+    told(b"\nB takes it back:\n  ", &server, label);
+    all_meet(&server, &mut copy_a, &mut copy_b, &mut copy_c, label);
+    let mut none = [0u8; 0];
+    take_back(4, label, &mut server, &mut none);
+    told(b"and takes that back:\n  ", &server, label);
+    all_meet(&server, &mut copy_a, &mut copy_b, &mut copy_c, label);
+}
+
 fn story(label: &[u8], a: &[u8], b: &[u8], c: &[u8], next: &[u8]) {
     show::text(b"The label:\n         ");
     show::text(label);
@@ -173,6 +223,7 @@ fn story(label: &[u8], a: &[u8], b: &[u8], c: &[u8], next: &[u8]) {
     own(b"  C      ", label, c);
     orders(label, a, b, c);
     damaged(label, a, b, c, next);
+    undone(label, a, b, c);
 }
 
 // A puts "nicht " before "in der Liste". B retypes "hier in der Liste ", which goes across that place. C turns "ae" into an umlaut.

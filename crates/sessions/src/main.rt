@@ -6,7 +6,10 @@
 //                                  output of 50 bytes for the counterparts
 //     a.accept EDIT, =255 #2 ..    the same 255 times; the last answer is printed
 //     a.newest EDIT, =255 ..       each time against the revision that is then the newest (once without a number)
-//     b.relay >900                 accepts the counterparts of the last accepted edit, oldest first, each against the newest
+//     a.undo "guest" #2 >80 >50    takes revision 2 back, with scratch buffers of 80 bytes and an output of 50 for the
+//                                  counterparts
+//     a.undo "guest", =70 =900 ..  the same, with 70 bytes in the second scratch buffer and the log in a buffer of 900
+//     b.relay >900                 accepts the counterparts of the last accepted edit or undo, oldest first, each against the newest
 //                                  revision, up to the first that is refused
 //     a.summary >50                the summary, with an output of 50 bytes
 //     a.play "guest" >80 >60       plays the log, with scratch buffers of 80 bytes and an output of 60
