@@ -1,11 +1,11 @@
 -- From what the code finds to the answer of undo.
-use Prim.Native.Nat.{ℕ, suc, _+_, _-_, _≤_, _<_}
+use Prim.Native.Nat.{ℕ, suc, _-_, _≤_, _<_}
 use native.Mathlib.Omega.{arith}
-use mathlib.Core.Path.{_≡_, refl, sym, ap, _∙_, subst}
-use mathlib.Core.Bool.{Bool, true, false, _&&_}
-use mathlib.Core.List.{List, [], _∷_}
-use lib.Dec.{T, leb}
-use lib.ListN.{length, take, drop, getD, length-take}
+use mathlib.Core.Path.{_≡_, refl, sym, ap, _∙_}
+use mathlib.Core.Bool.{true}
+use mathlib.Core.List.{List, []}
+use lib.Dec.{T}
+use lib.ListN.{take, drop, getD}
 use lib.Seq.{drop-cons}
 use borrow.Author.Tests.{le-leb, lt-leb, eq-eqb, ne-eqb}
 use Rattle.buffers.proofs.Tests.{holds}
@@ -14,9 +14,9 @@ use Rattle.characters.specs.declared.Form.the-variants as form
 use Rattle.characters.specs.Form.{wellFormed}
 use Rattle.characters.specs.InnerPassed.{formOf}
 use Rattle.characters.specs.Chars.{numChars}
-use Rattle.characters.specs.Text.{Char, chars, bytes}
-use Rattle.characters.proofs.Passed.{form-ill, form-well, form-num, form-holds}
-use Rattle.characters.proofs.Texts.{bytes-well, chars-bytes, chars-length}
+use Rattle.characters.specs.Text.{Char, chars}
+use Rattle.characters.proofs.Passed.{form-ill, form-well, form-num}
+use Rattle.characters.proofs.Texts.{bytes-well, chars-bytes}
 use Rattle.edits.specs.Sequence.{Seq}
 use Rattle.edits.specs.Invert.{invert}
 use Rattle.answers.specs.Answer.{number, refused}
@@ -28,15 +28,15 @@ use Rattle.record.specs.Record.{ops}
 use Rattle.log.specs.declared.core.Scan.{Scan}
 use Rattle.log.specs.declared.core.Scanned.{Scanned}
 use Rattle.log.specs.declared.core.Scanned.the-variants as scanned
-use Rattle.log.specs.Log.{countOf, startOf, readable, revisions, placeOf, lengthAt}
+use Rattle.log.specs.Log.{countOf, startOf, readable, revisions}
 use Rattle.log.specs.InnerScan.{Found, Scans, ScansTo}
 use Rattle.log.proofs.Scanning.{revision-at, revisions-length}
-use Rattle.session.specs.Rows.{playAll, longest}
+use Rattle.session.specs.Rows.{playAll}
 use Rattle.session.specs.Session.{inverseIn, undoFault, undoCall}
 use Rattle.session.proofs.UndoAccepts.{undoTests, undo-accepts}
 use Rattle.playback_steps.specs.declared.core.Played.{Played}
 use Rattle.playback_steps.specs.declared.core.Played.the-variants as end
-use Rattle.playback_steps.specs.InnerStages.{room, Stands, Ends}
+use Rattle.playback_steps.specs.InnerStages.{Stands, Ends}
 use Rattle.playback_steps.proofs.Stages.{ends-short, ends-stand}
 use Rattle.undo.specs.InnerUndoing.{Before, inverseAt, inverseCall, AcceptsInverse, Undoes}
 
