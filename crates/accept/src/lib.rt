@@ -1,5 +1,5 @@
 // An edit is accepted into a session's log.
-ghost use Rattle.core.specs.Prelude.{◌≡◌, ◌-◌};
+ghost use Rattle.std.specs.Prelude.{◌≡◌, ◌-◌};
 ghost use Rattle.answers.specs.Answer.{pair_of};
 ghost use Rattle.record.specs.Record.{record_fault};
 ghost use Rattle.session_log.specs.Log.{count_of};

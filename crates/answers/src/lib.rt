@@ -3,7 +3,7 @@ ghost use Rattle.std.specs.Prelude.{◌≡◌, ◌≤◌};
 ghost use Rattle.answers.specs.Answer.{number as number_of};
 
 // Why a call is refused: document 01's numbers 1 to 10, in order, and document 02's from 11 on.
-#[derive(Drop)]
+#[derive(Clone, Copy)]
 pub enum Refusal {
     // A record's buffer is too short for it, or a size passes its limit.
     Size,
@@ -48,28 +48,28 @@ pub fn number(x: Refusal) -> u8
 }
 
 // A number that was asked for.
-#[derive(Drop)]
+#[derive(Clone, Copy)]
 pub enum Fact {
     Is(usize),
     Refused(Refusal),
 }
 
 // Whether a sequence has no effect.
-#[derive(Drop)]
+#[derive(Clone, Copy)]
 pub enum Noop {
     Is(bool),
     Refused(Refusal),
 }
 
 // How many bytes were written.
-#[derive(Drop)]
+#[derive(Clone, Copy)]
 pub enum Written {
     Bytes(usize),
     Refused(Refusal),
 }
 
 // How many bytes were written to either output.
-#[derive(Drop)]
+#[derive(Clone, Copy)]
 pub enum WrittenPair {
     Bytes(usize, usize),
     Refused(Refusal),

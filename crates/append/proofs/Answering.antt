@@ -1,5 +1,5 @@
 -- The answers of accept.
-use Rattle.core.specs.Prelude.{◌≡◌, ℕ, suc, ◌+◌, ◌-◌, ◌<◌, ◌≤◌, Bool, true, false, not, ◌&&◌, leb, List, [], ◌∷◌, length, take, drop}
+use Rattle.std.specs.Prelude.{◌≡◌, ℕ, suc, ◌+◌, ◌-◌, ◌<◌, ◌≤◌, Bool, true, false, not, ◌&&◌, leb, List, [], ◌∷◌, length, take, drop}
 use mathlib.Core.Path.{sym, ap, ◌∙◌, refl, ap₂, subst}
 use lib.Seq.{length-take-le}
 use native.Mathlib.Omega.{arith}

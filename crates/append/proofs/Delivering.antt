@@ -1,5 +1,5 @@
 -- From the edit in its buffer, past the revisions of the log, to the answer.
-use Rattle.core.specs.Prelude.{◌≡◌, ℕ, ◌-◌, ◌≤◌, List, length, take, drop}
+use Rattle.std.specs.Prelude.{◌≡◌, ℕ, ◌-◌, ◌≤◌, List, length, take, drop}
 use native.Mathlib.Omega.{arith}
 use mathlib.Core.Path.{refl, sym, ap₂, ◌∙◌, subst, ap, subst₂}
 use mathlib.Core.Bool.{true≢false}

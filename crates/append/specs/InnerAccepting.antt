@@ -1,5 +1,5 @@
 -- What the functions of `append`, `late_edits` and `accept` promise each other. No entry's contract cites this.
-use Rattle.core.specs.Prelude.{◌≡◌, ℕ, ◌+◌, ◌<◌, ◌≤◌, Bool, ◌&&◌, List, length, take, drop, nat_le}
+use Rattle.std.specs.Prelude.{◌≡◌, ℕ, ◌+◌, ◌<◌, ◌≤◌, Bool, ◌&&◌, List, length, take, drop, nat_le}
 use Rattle.answers.specs.declared.WrittenPair.{WrittenPair}
 use Rattle.answers.specs.Answer.{pair_of}
 use Rattle.answers.specs.declared.WrittenPair.TheVariants as written

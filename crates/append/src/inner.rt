@@ -1,5 +1,5 @@
 // What `accept` does once an edit is admitted: its record goes behind the contents of the log, and the counterparts to the output.
-ghost use Rattle.core.specs.Prelude.{◌≡◌, ◌+◌, ◌^◌, ◌≤◌, length, take};
+ghost use Rattle.std.specs.Prelude.{◌≡◌, ◌+◌, ◌^◌, ◌≤◌, length, take};
 ghost use Rattle.record.specs.Record.{ops, record_fault};
 ghost use Rattle.record.specs.Layout.{size_of};
 ghost use Rattle.session_log.specs.Log.{count_of, size_of_log, max_revisions};
@@ -54,7 +54,7 @@ pub fn load_edit(cur: &mut [u8], edit: &[u8])
 }
 
 // What came of a run in short buffers: an answer, or nothing yet, since they were too short.
-#[derive(Drop)]
+#[derive(Clone, Copy)]
 pub enum Tried {
     Bytes(usize, usize),
     Refused(Refusal),

@@ -1,5 +1,5 @@
 // Playing an edit: what a sequence makes of a text.
-ghost use Rattle.core.specs.Prelude.{◌≡◌, T};
+ghost use Rattle.std.specs.Prelude.{◌≡◌, T};
 ghost use Rattle.characters.specs.Form.{is_well_formed};
 ghost use Rattle.characters.specs.Chars.{number_of_chars};
 ghost use Rattle.answers.specs.Answer.{written_of};

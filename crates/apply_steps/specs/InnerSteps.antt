@@ -1,5 +1,5 @@
 -- What the steps of playing promise each other. No entry's contract cites this.
-use Rattle.core.specs.Prelude.{◌≡◌, ℕ, ◌+◌, ◌-◌, ◌≤◌, T, List, length, take, drop}
+use Rattle.std.specs.Prelude.{◌≡◌, ℕ, ◌+◌, ◌-◌, ◌≤◌, T, List, length, take, drop}
 use Rattle.buffers.specs.InnerOver.{over}
 use Rattle.characters.specs.Text.{chars, bytes}
 use Rattle.characters.specs.Form.{is_well_formed}

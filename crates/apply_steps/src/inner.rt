@@ -1,6 +1,6 @@
 // A record that was checked is gone through operation by operation, the text along with it. What has no place in the output is not
 // written: a run on an empty output yields the size.
-ghost use Rattle.core.specs.Prelude.{◌≡◌, ◌<◌, ◌≤◌, T, length, drop};
+ghost use Rattle.std.specs.Prelude.{◌≡◌, ◌<◌, ◌≤◌, T, length, drop};
 ghost use Rattle.buffers.specs.InnerOver.{over};
 ghost use Rattle.characters.specs.Form.{is_well_formed};
 ghost use Rattle.characters.specs.Chars.{number_of_chars};
@@ -13,7 +13,7 @@ use record::inner::{INSERT, RETAIN};
 
 // How far the record and the text were gone through: the next operation, the places of the next insert's text and of the next
 // character, and how many bytes were given.
-#[derive(Drop)]
+#[derive(Clone, Copy)]
 pub struct Progress {
     pub k: usize,
     pub from: usize,

@@ -5,7 +5,7 @@
 // nowhere. Directly behind E0, ED, F0 and F4 the continuation has a narrower range. So a text that is well-formed up to the end of a
 // character goes on well up to a place exactly when each byte up to there may stand behind the three before it, and the last three
 // bytes tell how many bytes of a character are pending. Differences that stop at 0 and masks of all bits stand for the tests.
-ghost use Rattle.core.specs.Prelude.{◌≡◌, ◌+◌, ◌-◌, ◌≤◌, length};
+ghost use Rattle.std.specs.Prelude.{◌≡◌, ◌+◌, ◌-◌, ◌≤◌, length};
 ghost use Rattle.characters.specs.Form.{within};
 ghost use Rattle.characters.specs.InnerBlock.{bit_of, mask_of, Tells, due_of, invalid_byte_of, outside_of, misplaced_of, Goes, pending_of, before};
 ghost use Rattle.characters.specs.Chars.{is_continuation};
@@ -76,7 +76,7 @@ fn cont_bit(b: u8) -> u8
 }
 
 // What sixteen bytes are found to be: bad is 0 only where they go on well.
-#[derive(Drop)]
+#[derive(Clone, Copy)]
 pub struct Found {
     pub bad: u8,
     pub conts: u8,

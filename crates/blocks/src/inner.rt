@@ -1,11 +1,11 @@
 // A text gone through by blocks of sixteen bytes (`block16` says why that works), its end by its last sixteen bytes.
-ghost use Rattle.core.specs.Prelude.{◌≡◌, ◌+◌, ◌-◌, ◌≤◌, length};
+ghost use Rattle.std.specs.Prelude.{◌≡◌, ◌+◌, ◌-◌, ◌≤◌, length};
 ghost use Rattle.characters.specs.InnerBlock.{pending_of, before, OnlyIf, Window, StandWell};
 ghost use Rattle.characters.specs.InnerPassed.{Passed};
 ghost use Rattle.characters.specs.InnerAscii.{Runs};
 
 // How far a text was gone through, and how many continuations were passed.
-#[derive(Drop)]
+#[derive(Clone, Copy)]
 pub struct Spot {
     pub at: usize,
     pub conts: usize,

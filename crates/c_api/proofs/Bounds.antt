@@ -1,5 +1,5 @@
 -- Two results fit into one number: each is at most the size of 256 records.
-use Rattle.core.specs.Prelude.{◌≡◌, ℕ, zero, suc, ◌*◌, ◌≤◌, ◌&&◌, T, eqb, ltb, leb, List, [], ◌∷◌, length, drop}
+use Rattle.std.specs.Prelude.{◌≡◌, ℕ, zero, suc, ◌*◌, ◌≤◌, ◌&&◌, T, eqb, ltb, leb, List, [], ◌∷◌, length, drop}
 use mathlib.Core.Path.{refl, ap}
 use lib.Dec.{le→leb, ltb→lt}
 use lib.ListN.{length-append, length-drop}

@@ -1,5 +1,5 @@
 // The calls for C: include/ot.h declares them, `rt staticlib c_api` makes the library.
-ghost use Rattle.core.specs.Prelude.{◌≡◌, length, if◌then◌else◌};
+ghost use Rattle.std.specs.Prelude.{◌≡◌, length, if◌then◌else◌};
 ghost use Rattle.characters.specs.Form.{is_well_formed};
 ghost use Rattle.characters.specs.Chars.{number_of_chars};
 ghost use Rattle.record.specs.Calls.{check_call, base_call, target_call, noop_call, text_call, start_of_insert};

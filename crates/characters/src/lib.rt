@@ -1,14 +1,14 @@
 // Characters in bytes by RFC 3629: the definitions and their laws. There is no code here but the types that the definitions speak of.
 
 // What a first byte asks for: how many bytes follow it, and the range of the second.
-#[derive(Drop)]
+#[derive(Clone, Copy)]
 pub enum Lead {
     Bad,
     Of { more: usize, lo: u8, hi: u8 },
 }
 
 // How two texts stand in byte order.
-#[derive(Drop)]
+#[derive(Clone, Copy)]
 pub enum Ordering {
     Less,
     Equal,
@@ -16,7 +16,7 @@ pub enum Ordering {
 }
 
 // What a text is found to be: ill-formed, or of so many characters.
-#[derive(Drop)]
+#[derive(Clone, Copy)]
 pub enum Form {
     IllFormed,
     Chars(usize),

@@ -1,5 +1,5 @@
 -- The loop of compose, and its answers.
-use Rattle.core.specs.Prelude.{◌≡◌, ℕ, suc, ◌^◌, Bool, false, eqb, List, length}
+use Rattle.std.specs.Prelude.{◌≡◌, ℕ, suc, ◌^◌, Bool, false, eqb, List, length}
 use native.Mathlib.Omega.{arith}
 use mathlib.Core.Path.{sym, ◌∙◌, refl}
 use borrow.Author.Tests.{ne_eqb, eq-eqb}

@@ -1,5 +1,5 @@
 -- What the functions below `compose` promise each other. No entry's contract cites this.
-use Rattle.core.specs.Prelude.{ℕ, List}
+use Rattle.std.specs.Prelude.{ℕ, List}
 use Rattle.record.specs.Layout.{base_of, target_of}
 use Rattle.emitter.specs.declared.inner.Emitter.{Emitter}
 use Rattle.compose.specs.declared.inner.Sizes.{Sizes}

@@ -1,5 +1,5 @@
 // Compose over the fronts of two records that were checked.
-ghost use Rattle.core.specs.Prelude.{◌≡◌, ◌*◌, ◌^◌, ◌≤◌};
+ghost use Rattle.std.specs.Prelude.{◌≡◌, ◌*◌, ◌^◌, ◌≤◌};
 ghost use Rattle.edits.specs.Compose.{compose as composeOf};
 ghost use Rattle.answers.specs.InnerGiven.{Gives};
 ghost use Rattle.record.specs.Layout.{base_of, target_of, max_ops};
@@ -24,7 +24,7 @@ const MEDIUM_STAGE: usize = 1024;
 const LARGE_STAGE: usize = 8192;
 
 // How many records and bytes of text a result has. Its base is the first's and its target the second's: no sum of them is kept.
-#[derive(Drop)]
+#[derive(Clone, Copy)]
 pub struct Sizes {
     pub ops: usize,
     pub text: usize,

@@ -1,5 +1,5 @@
 // One step of compose over the front operations of two records that were checked.
-ghost use Rattle.core.specs.Prelude.{◌≡◌, ◌^◌, ◌<◌, ◌≤◌, true, [], ◌∷◌};
+ghost use Rattle.std.specs.Prelude.{◌≡◌, ◌^◌, ◌<◌, ◌≤◌, true, [], ◌∷◌};
 ghost use Rattle.edits.specs.Compose.{compose_turn, made};
 ghost use Rattle.edits.specs.Op.{cut};
 ghost use Rattle.record.specs.Layout.{op_count_of, delete_kind, insert_kind, retain_kind};

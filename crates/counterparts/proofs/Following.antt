@@ -1,5 +1,5 @@
 -- Records that stand end to end.
-use Rattle.core.specs.Prelude.{◌≡◌, ℕ, zero, suc, eqb, List, drop}
+use Rattle.std.specs.Prelude.{◌≡◌, ℕ, zero, suc, eqb, List, drop}
 use mathlib.Core.Path.{refl}
 use lib.Dec.{eqb→eq}
 use Rattle.buffers.proofs.Tests.{both}

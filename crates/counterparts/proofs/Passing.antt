@@ -1,5 +1,5 @@
 -- Past one revision: the edit's side takes the edit's place, the revision's side goes behind the counterparts before it.
-use Rattle.core.specs.Prelude.{◌≡◌, ℕ, ◌+◌, ◌-◌, ◌^◌, ◌<◌, ◌≤◌, Bool, true, false, not, ◌&&◌, T, leb, List, [], ◌++◌, map, length, take, drop}
+use Rattle.std.specs.Prelude.{◌≡◌, ℕ, ◌+◌, ◌-◌, ◌^◌, ◌<◌, ◌≤◌, Bool, true, false, not, ◌&&◌, T, leb, List, [], ◌++◌, map, length, take, drop}
 use mathlib.Core.Path.{sym, ◌∙◌, ap, ap₂, refl, subst}
 use mathlib.Core.List.{append-nil}
 use lib.ListN.{length-drop}

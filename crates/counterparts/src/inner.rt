@@ -1,7 +1,7 @@
 // An edit was transformed past one revision, and each side stands in a stage without its text. Here it is tested whether both sides keep
 // the limits and have places. Then the edit's side takes the edit's place in its buffer, and the revision's side, its counterpart, goes
 // behind the counterparts before it. Each gets its text, which is always the edit's own or the revision's own.
-ghost use Rattle.core.specs.Prelude.{◌≡◌, ◌+◌, ◌^◌, ◌≤◌, ◌&&◌, length, nat_le};
+ghost use Rattle.std.specs.Prelude.{◌≡◌, ◌+◌, ◌^◌, ◌≤◌, ◌&&◌, length, nat_le};
 ghost use Rattle.characters.specs.Order.{order};
 ghost use Rattle.edits.specs.Transform.{transform as transformOf};
 ghost use Rattle.record.specs.Layout.{start_of_text, op_count_of, max_ops};
@@ -14,7 +14,7 @@ use emitter::inner::Emitter;
 use steps::inner::Pair;
 
 // How many bytes the counterparts have, or why the run ended: a refusal, or buffers that are too short for what is written.
-#[derive(Drop)]
+#[derive(Clone, Copy)]
 pub enum Run {
     Kept(usize),
     Refused(Refusal),
@@ -49,7 +49,7 @@ pub fn have_places(p: Pair, slots: usize, room: usize) -> bool
 }
 
 // How far a run has come: where the next revision begins, and how many bytes the counterparts have.
-#[derive(Drop)]
+#[derive(Clone, Copy)]
 pub struct Progress {
     pub at: usize,
     pub bytes: usize,

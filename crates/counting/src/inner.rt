@@ -1,5 +1,5 @@
 // The characters of a text: its bytes that are no continuations, counted.
-ghost use Rattle.core.specs.Prelude.{◌≡◌, ◌+◌, ◌-◌, ◌*◌, ◌/◌, ◌%◌, ◌<◌, ◌≤◌, length, take, drop};
+ghost use Rattle.std.specs.Prelude.{◌≡◌, ◌+◌, ◌-◌, ◌*◌, ◌/◌, ◌%◌, ◌<◌, ◌≤◌, length, take, drop};
 ghost use Rattle.characters.specs.Chars.{is_continuation, number_of_chars};
 ghost use Rattle.characters.specs.InnerMarks.{Starts};
 

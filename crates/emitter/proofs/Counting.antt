@@ -1,5 +1,5 @@
 -- How large a result is: it has no more operations than both operands together, and A' has the text of A, B' that of B.
-use Rattle.core.specs.Prelude.{◌≡◌, ℕ, ◌+◌, ◌≤◌, List, [], ◌∷◌, ◌++◌, map, length}
+use Rattle.std.specs.Prelude.{◌≡◌, ℕ, ◌+◌, ◌≤◌, List, [], ◌∷◌, ◌++◌, map, length}
 use native.Mathlib.Omega.{arith}
 use lib.ListN.{length-append, length-reverse}
 use mathlib.Core.Path.{refl, ap, sym, ◌∙◌}

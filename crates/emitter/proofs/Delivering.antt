@@ -1,5 +1,5 @@
 -- The emitter's last steps, and what a whole call delivers.
-use Rattle.core.specs.Prelude.{◌≡◌, ℕ, zero, suc, ◌+◌, ◌/◌, ◌%◌, ◌^◌, ◌<◌, ◌≤◌, max, Bool, true, false, cond, not, T, leb, ◌⊎◌, List, [], ◌∷◌, ◌++◌, map, reverse, length}
+use Rattle.std.specs.Prelude.{◌≡◌, ℕ, zero, suc, ◌+◌, ◌/◌, ◌%◌, ◌^◌, ◌<◌, ◌≤◌, max, Bool, true, false, cond, not, T, leb, ◌⊎◌, List, [], ◌∷◌, ◌++◌, map, reverse, length}
 use mathlib.Core.List.{reverse_aux, append-nil, append_assoc, reverse-reverse}
 use mathlib.Core.Path.{sym, ap, ◌∙◌, refl, ap₂}
 use native.Mathlib.Omega.{arith}

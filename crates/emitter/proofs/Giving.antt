@@ -1,5 +1,5 @@
 -- The answers of a call that delivers a sequence, as the code finds them.
-use Rattle.core.specs.Prelude.{◌≡◌, ℕ, zero, suc, false, T, List, [], length}
+use Rattle.std.specs.Prelude.{◌≡◌, ℕ, zero, suc, false, T, List, [], length}
 use mathlib.Core.Path.{sym, ap, ◌∙◌, refl}
 use native.Mathlib.Omega.{arith}
 use Rattle.buffers.proofs.Tests.{holds}

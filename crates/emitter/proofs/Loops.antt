@@ -1,5 +1,5 @@
 -- The equations that a loop over the two front operations follows, and what a builder does to a record's parts.
-use Rattle.core.specs.Prelude.{◌≡◌, ℕ, ◌+◌, List, [], ◌∷◌, ◌++◌, map, reverse}
+use Rattle.std.specs.Prelude.{◌≡◌, ℕ, ◌+◌, List, [], ◌∷◌, ◌++◌, map, reverse}
 use mathlib.Core.Path.{refl, ap, ◌∙◌, ap₂, sym}
 use mathlib.Core.List.{reverse-cons, append-nil}
 use native.Mathlib.Omega.{arith}

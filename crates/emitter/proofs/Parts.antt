@@ -1,5 +1,5 @@
 -- The parts of a checked record, up to one of its operations.
-use Rattle.core.specs.Prelude.{◌≡◌, ℕ, suc, ◌+◌, ◌*◌, ◌/◌, ◌%◌, ◌<◌, ◌≤◌, List, [], ◌∷◌, ◌++◌, map, reverse, length, get_or, take, drop}
+use Rattle.std.specs.Prelude.{◌≡◌, ℕ, suc, ◌+◌, ◌*◌, ◌/◌, ◌%◌, ◌<◌, ◌≤◌, List, [], ◌∷◌, ◌++◌, map, reverse, length, get_or, take, drop}
 use mathlib.Core.Path.{sym, ap, ◌∙◌, refl, ap₂}
 use mathlib.Core.List.{append_assoc, reverse_aux, reverse-reverse}
 use lib.ListN.{take-append-drop, length-append, length-reverse}

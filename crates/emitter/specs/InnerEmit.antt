@@ -1,5 +1,5 @@
 -- The emitter: the builders' sequence, written as a record while it is built. Only contracts of `core` cite this.
-use Rattle.core.specs.Prelude.{◌≡◌, ℕ, suc, ◌+◌, ◌*◌, ◌^◌, ◌≤◌, Bool, cond, ◌&&◌, List, [], ◌∷◌, ◌++◌, map, reverse, length, nat_le}
+use Rattle.std.specs.Prelude.{◌≡◌, ℕ, suc, ◌+◌, ◌*◌, ◌^◌, ◌≤◌, Bool, cond, ◌&&◌, List, [], ◌∷◌, ◌++◌, map, reverse, length, nat_le}
 use Rattle.buffers.specs.InnerOver.{over, bytes16}
 use Rattle.characters.specs.Text.{Char, bytes}
 use Rattle.edits.specs.Op.{if_zero, base, target, size, Op, retain, insert, delete}

@@ -4,7 +4,7 @@
 // built is held as three numbers; an insert's bytes go to the text at once, which only ever grows. Every function takes the
 // number n of operations of the whole, so that each byte has its place. A byte that has none in the buffer is not written: a
 // run on an empty buffer yields the sizes.
-ghost use Rattle.core.specs.Prelude.{◌≡◌, ◌+◌, ◌-◌, ◌^◌, ◌<◌, ◌≤◌, ◌&&◌, T, [], ◌∷◌, length, take, drop, nat_le};
+ghost use Rattle.std.specs.Prelude.{◌≡◌, ◌+◌, ◌-◌, ◌^◌, ◌<◌, ◌≤◌, ◌&&◌, T, [], ◌∷◌, length, take, drop, nat_le};
 ghost use Rattle.characters.specs.Form.{is_well_formed};
 ghost use Rattle.characters.specs.Chars.{number_of_chars};
 ghost use Rattle.characters.specs.Text.{chars};
@@ -17,7 +17,7 @@ ghost use Rattle.emitter.specs.InnerEmit.{inserted_by, deleted_by, Retains, Adds
 use answers::{Refusal, Written};
 use record::inner::{AT_INSERT, AT_RETAIN, Front, MAX_OPS, MAX_SIZE};
 
-#[derive(Drop)]
+#[derive(Clone, Copy)]
 pub struct Emitter {
     // the pending group: bytes of the insert, characters of the delete and of the retain
     pub ins: usize,

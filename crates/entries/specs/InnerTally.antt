@@ -1,5 +1,5 @@
 -- What the passes over the kinds and the counts promise each other. Only inner contracts cite this.
-use Rattle.core.specs.Prelude.{◌≡◌, ℕ, zero, suc, ◌+◌, ◌-◌, ◌*◌, ◌≤◌, Bool, true, false, cond, not, List, length, ◌==◌, nat_eq}
+use Rattle.std.specs.Prelude.{◌≡◌, ℕ, zero, suc, ◌+◌, ◌-◌, ◌*◌, ◌≤◌, Bool, true, false, cond, not, List, length, ◌==◌, nat_eq}
 use Rattle.record.specs.Record.{Entry, sound_entry, entry_at}
 use Rattle.record.specs.Layout.{delete_kind, insert_kind, kind_at, max_ops, op_count_of, retain_kind, start_of_text}
 use Rattle.entries.specs.declared.inner.Tally.{Tally}

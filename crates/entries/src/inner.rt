@@ -1,6 +1,6 @@
 // The passes of the check that sum up a record's kinds and counts entry by entry. The one over any entries is branch-free, so that the
 // compiler vectorises it; the one over a few goes by their kinds.
-ghost use Rattle.core.specs.Prelude.{◌≡◌, ◌^◌, ◌<◌, ◌≤◌, not};
+ghost use Rattle.std.specs.Prelude.{◌≡◌, ◌^◌, ◌<◌, ◌≤◌, not};
 ghost use Rattle.record.specs.Record.{sound_entry};
 ghost use Rattle.entries.specs.InnerTally.{HasEntries, picked, entry, can_follow, tallied, Tallied};
 
@@ -39,7 +39,7 @@ pub fn may_follow(last: u8, kind: u8) -> bool
 
 // What can't be (0 where all can), the bytes inserted, all counts, those of retains, and how many neighbours may not
 // stand so.
-#[derive(Drop)]
+#[derive(Clone, Copy)]
 pub struct Tally {
     pub invalid: u32,
     pub inserts: u32,

@@ -1,5 +1,5 @@
 // The calls by their names.
-ghost use Rattle.core.specs.Prelude.{◌≡◌, length};
+ghost use Rattle.std.specs.Prelude.{◌≡◌, length};
 
 use harness::inner::line::State;
 use harness::inner::show;

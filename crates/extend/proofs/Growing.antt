@@ -1,5 +1,5 @@
 -- A record's last operations, and the operation that is added to them.
-use Rattle.core.specs.Prelude.{◌≡◌, ℕ, zero, suc, ◌+◌, ◌-◌, ◌^◌, ◌<◌, ◌≤◌, Bool, true, false, cond, T, eqb, List, [], ◌∷◌, ◌++◌, map, reverse, length}
+use Rattle.std.specs.Prelude.{◌≡◌, ℕ, zero, suc, ◌+◌, ◌-◌, ◌^◌, ◌<◌, ◌≤◌, Bool, true, false, cond, T, eqb, List, [], ◌∷◌, ◌++◌, map, reverse, length}
 use mathlib.Core.List.{append-nil, reverse_aux, reverse-reverse}
 use lib.Dec.{eqb→eq}
 use native.Mathlib.Omega.{arith}

@@ -1,5 +1,5 @@
 -- What the functions below the builders promise each other. No entry's contract cites this.
-use Rattle.core.specs.Prelude.{◌≡◌, ℕ, zero, suc, ◌+◌, ◌^◌, ◌≤◌, cond, List, ◌++◌, reverse, length, ◌==◌}
+use Rattle.std.specs.Prelude.{◌≡◌, ℕ, zero, suc, ◌+◌, ◌^◌, ◌≤◌, cond, List, ◌++◌, reverse, length, ◌==◌}
 use Rattle.buffers.specs.InnerOver.{over}
 use Rattle.characters.specs.Text.{Char, bytes}
 use Rattle.edits.specs.Op.{base, target, Op}

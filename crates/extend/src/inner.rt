@@ -2,7 +2,7 @@
 //
 // One operation more changes the last one or two operations only. All before them, and the text, is copied by blocks to its place in
 // the result; those that change are held by an emitter as its pending group, and written behind it.
-ghost use Rattle.core.specs.Prelude.{◌≡◌, ◌+◌, ◌^◌, ◌<◌, ◌≤◌, T, [], length};
+ghost use Rattle.std.specs.Prelude.{◌≡◌, ◌+◌, ◌^◌, ◌<◌, ◌≤◌, T, [], length};
 ghost use Rattle.buffers.specs.InnerOver.{over};
 ghost use Rattle.characters.specs.Form.{is_well_formed};
 ghost use Rattle.characters.specs.Chars.{number_of_chars};

@@ -1,5 +1,5 @@
 // Calls on a log by their names, each with its answer printed: no contract states that.
-ghost use Rattle.core.specs.Prelude.{◌≡◌, ◌≤◌, length};
+ghost use Rattle.std.specs.Prelude.{◌≡◌, ◌≤◌, length};
 
 use answers::WrittenPair;
 use harness::inner::line::State;

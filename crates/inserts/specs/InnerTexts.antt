@@ -1,5 +1,5 @@
 -- What the parts of the check promise each other of the inserted texts. Only inner contracts cite this.
-use Rattle.core.specs.Prelude.{◌≡◌, ℕ, ◌+◌, ◌≤◌, Bool, true, cond, not, ◌&&◌, T, List, [], ◌∷◌, length, drop, ◌==◌, slice_index}
+use Rattle.std.specs.Prelude.{◌≡◌, ℕ, ◌+◌, ◌≤◌, Bool, true, cond, not, ◌&&◌, T, List, [], ◌∷◌, length, drop, ◌==◌, slice_index}
 use Rattle.buffers.specs.Lists.{all_of}
 use Rattle.characters.specs.Chars.{is_continuation, number_of_chars}
 use Rattle.record.specs.Record.{Entry, text_of, byte_ops, well_inserted, entries, sound_entry, insert_bytes}

@@ -1,6 +1,6 @@
 // The inserted texts of a record, at the end of which they stand one behind the other: whether each is well-formed, how many
 // characters they have together, and where each begins.
-ghost use Rattle.core.specs.Prelude.{◌≡◌, ◌<◌, drop};
+ghost use Rattle.std.specs.Prelude.{◌≡◌, ◌<◌, drop};
 ghost use Rattle.edits.specs.Built.{chained};
 ghost use Rattle.record.specs.Record.{entries, byte_ops};
 ghost use Rattle.record.specs.Layout.{op_count_of, start_of_text, text_bytes_of};
@@ -33,7 +33,7 @@ pub fn start_well(rec: &[u8], n: usize, ordered: bool) -> bool
 }
 
 // An insert that isn't well-formed, or how many characters are inserted.
-#[derive(Drop)]
+#[derive(Clone, Copy)]
 pub enum Inserted {
     IllFormed,
     Chars(usize),

@@ -1,5 +1,5 @@
 -- What the functions of `invert` promise each other. No entry's contract cites this.
-use Rattle.core.specs.Prelude.{ℕ, ◌+◌, cond, nat_le}
+use Rattle.std.specs.Prelude.{ℕ, ◌+◌, cond, nat_le}
 use Rattle.answers.specs.declared.Refusal.TheVariants.{Limit, Room}
 use Rattle.record.specs.Layout.{start_of_text, max_size}
 use Rattle.invert.specs.declared.inner.Decided.{Decided}

@@ -1,5 +1,5 @@
 // What invert and undo share: whether a limit or the room refuses the inverse of a record that was checked on a text of its base.
-ghost use Rattle.core.specs.Prelude.{◌≡◌, ◌+◌, ◌≤◌, ◌&&◌, T, length, nat_le};
+ghost use Rattle.std.specs.Prelude.{◌≡◌, ◌+◌, ◌≤◌, ◌&&◌, T, length, nat_le};
 ghost use Rattle.characters.specs.Form.{is_well_formed};
 ghost use Rattle.characters.specs.Chars.{number_of_chars};
 ghost use Rattle.record.specs.Layout.{op_count_of, max_ops, base_of, start_of_text, max_size};
@@ -11,7 +11,7 @@ use answers::Refusal;
 use record::inner::MAX_SIZE;
 
 // Whether the inverse is written: nothing refuses it, or 9 or 10 does.
-#[derive(Drop)]
+#[derive(Clone, Copy)]
 pub enum Decided {
     Fits,
     Refused(Refusal),

@@ -1,5 +1,5 @@
 // The Rust's `invert`, on records.
-ghost use Rattle.core.specs.Prelude.{◌≡◌, T};
+ghost use Rattle.std.specs.Prelude.{◌≡◌, T};
 ghost use Rattle.characters.specs.Form.{is_well_formed};
 ghost use Rattle.characters.specs.Chars.{number_of_chars};
 ghost use Rattle.characters.specs.Text.{chars as chars_of};

@@ -1,5 +1,5 @@
 -- Each operation written to its place at once.
-use Rattle.core.specs.Prelude.{◌≡◌, ℕ, suc, ◌+◌, ◌-◌, ◌*◌, ◌/◌, ◌%◌, ◌<◌, ◌≤◌, Bool, true, false, cond, not, T, eqb, leb, List, [], ◌∷◌, ◌++◌, map, reverse, length, take, drop, set}
+use Rattle.std.specs.Prelude.{◌≡◌, ℕ, suc, ◌+◌, ◌-◌, ◌*◌, ◌/◌, ◌%◌, ◌<◌, ◌≤◌, Bool, true, false, cond, not, T, eqb, leb, List, [], ◌∷◌, ◌++◌, map, reverse, length, take, drop, set}
 use Prim.Native.Nat.{zero-le}
 use mathlib.Core.Path.{ap, ◌∙◌, refl, sym}
 use mathlib.Core.List.{append-nil, reverse-reverse}

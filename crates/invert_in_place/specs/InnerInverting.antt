@@ -1,5 +1,5 @@
 -- What the functions below `invert` promise each other. No entry's contract cites this.
-use Rattle.core.specs.Prelude.{◌≡◌, ℕ, ◌+◌, ◌-◌, ◌*◌, ◌<◌, ◌≤◌, Bool, true, false, cond, not, ◌&&◌, T, List, [], ◌∷◌, map, length, take, drop, ◌==◌, nat_le}
+use Rattle.std.specs.Prelude.{◌≡◌, ℕ, ◌+◌, ◌-◌, ◌*◌, ◌<◌, ◌≤◌, Bool, true, false, cond, not, ◌&&◌, T, List, [], ◌∷◌, map, length, take, drop, ◌==◌, nat_le}
 use Rattle.buffers.specs.InnerOver.{over}
 use Rattle.characters.specs.Text.{chars}
 use Rattle.characters.specs.Chars.{number_of_chars}

@@ -1,6 +1,6 @@
 // Each operation is inverted where it stands, so that the inverse's places are known from the start. That wants a text of base
 // characters, and no two inserts next to each other: one delete would undo both.
-ghost use Rattle.core.specs.Prelude.{◌≡◌, ◌+◌, ◌^◌, ◌<◌, ◌≤◌, T, length};
+ghost use Rattle.std.specs.Prelude.{◌≡◌, ◌+◌, ◌^◌, ◌<◌, ◌≤◌, T, length};
 ghost use Rattle.buffers.specs.InnerOver.{over, bytes16};
 ghost use Rattle.characters.specs.Form.{is_well_formed};
 ghost use Rattle.characters.specs.Chars.{number_of_chars};
@@ -15,7 +15,7 @@ use record::inner::{DELETE, INSERT, RETAIN};
 
 // How far the record and the text were gone through: the next operation, the places of the next insert's text and of the next
 // character, and the place of the next byte of text in the output.
-#[derive(Drop)]
+#[derive(Clone, Copy)]
 struct Inversion {
     k: usize,
     from: usize,

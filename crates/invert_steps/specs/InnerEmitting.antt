@@ -1,5 +1,5 @@
 -- What the steps of emitting an inverse promise each other. No entry's contract cites this.
-use Rattle.core.specs.Prelude.{ℕ, cond, List, take, ◌==◌}
+use Rattle.std.specs.Prelude.{ℕ, cond, List, take, ◌==◌}
 use Rattle.characters.specs.Text.{Char}
 use Rattle.edits.specs.Op.{Op, retain, insert, delete}
 use Rattle.record.specs.declared.inner.Front.{Front}

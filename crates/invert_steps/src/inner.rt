@@ -3,7 +3,7 @@
 // This way stands beside the one in place (crate invert_in_place), which is `invert`'s. The compiler inlines the way in place into
 // `invert` only as long as nothing else calls it, and without that every `invert` is 2 to 3 ns slower: whatever else needs an inverse
 // takes this way. The way in place also asks that no two inserts are neighbours, which M-110 allows; this way doesn't ask it.
-ghost use Rattle.core.specs.Prelude.{◌≡◌, ◌+◌, ◌^◌, ◌<◌, ◌≤◌, T, [], ◌∷◌, length, drop};
+ghost use Rattle.std.specs.Prelude.{◌≡◌, ◌+◌, ◌^◌, ◌<◌, ◌≤◌, T, [], ◌∷◌, length, drop};
 ghost use Rattle.characters.specs.Form.{is_well_formed};
 ghost use Rattle.characters.specs.Chars.{number_of_chars};
 ghost use Rattle.characters.specs.InnerPlaces.{Passes};

@@ -1,5 +1,5 @@
 -- A list's record, put together from a stage. Only contracts of inner functions cite this.
-use Rattle.core.specs.Prelude.{◌≡◌, ℕ, ◌≤◌, min, T, List, length}
+use Rattle.std.specs.Prelude.{◌≡◌, ℕ, ◌≤◌, min, T, List, length}
 use Rattle.record.specs.Layout.{start_of_text, max_ops}
 use Rattle.emitter.specs.declared.inner.Emitter.{Emitter}
 use Rattle.emitter.specs.InnerEmit.{Done, size_in}

@@ -1,6 +1,6 @@
 // Edits as JSON lists (RFC 8259), as a browser sends and takes them: a positive whole number retains, a negative one deletes, a string
 // inserts.
-ghost use Rattle.core.specs.Prelude.{◌≡◌, ◌≤◌, length};
+ghost use Rattle.std.specs.Prelude.{◌≡◌, ◌≤◌, length};
 ghost use Rattle.answers.specs.Answer.{written_of};
 ghost use Rattle.answers.specs.InnerGiven.{Gives};
 ghost use Rattle.record.specs.Layout.{start_of_text, max_ops};

@@ -1,5 +1,5 @@
 -- What is found of escapes and strings. Only contracts of inner functions cite this.
-use Rattle.core.specs.Prelude.{◌≡◌, ℕ, ◌+◌, ◌<◌, ◌≤◌, cond, ◌||◌, T, List, [], ◌++◌, length, drop, ◌==◌}
+use Rattle.std.specs.Prelude.{◌≡◌, ℕ, ◌+◌, ◌<◌, ◌≤◌, cond, ◌||◌, T, List, [], ◌++◌, length, drop, ◌==◌}
 use Rattle.std.proofs.Math.Option.{Option, none}
 use Rattle.characters.specs.Form.{is_well_formed}
 use Rattle.characters.specs.Chars.{number_of_chars}

@@ -1,5 +1,5 @@
 // The escapes of a string, and whole strings, scanned. Each function gives what it found and the place behind it by value.
-ghost use Rattle.core.specs.Prelude.{◌≡◌, ◌+◌, ◌<◌, ◌≤◌, length};
+ghost use Rattle.std.specs.Prelude.{◌≡◌, ◌+◌, ◌<◌, ◌≤◌, length};
 ghost use Rattle.json_lists.specs.Form.{after_escape, after_high};
 ghost use Rattle.json_lists.specs.InnerRuns.{width as width_of};
 ghost use Rattle.json_escapes.specs.InnerEscapes.{hex_or_none, short_or_none, Hex4At, after_u, EscapeAt, StringScanned};
@@ -52,7 +52,7 @@ fn four_digits(list: &[u8], at: usize) -> usize
 }
 
 // The scalar value that an escape names, and the place behind it.
-#[derive(Drop)]
+#[derive(Clone, Copy)]
 pub struct Escaped {
     pub code: usize,
     pub to: usize,
@@ -173,7 +173,7 @@ pub fn width(v: usize) -> usize
 }
 
 // What a string is found to be: none of the form's, or of so many bytes and characters, with the place behind it.
-#[derive(Drop)]
+#[derive(Clone, Copy)]
 pub enum Scanned {
     Outside,
     Text {

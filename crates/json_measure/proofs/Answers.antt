@@ -1,5 +1,5 @@
 -- From what is found to the answer.
-use Rattle.core.specs.Prelude.{◌≡◌, ℕ, ◌+◌, ◌≤◌, List, [], ◌∷◌}
+use Rattle.std.specs.Prelude.{◌≡◌, ℕ, ◌+◌, ◌≤◌, List, [], ◌∷◌}
 use native.Mathlib.Omega.{arith}
 use mathlib.Core.Path.{refl, ap₂}
 use Rattle.answers.specs.Answer.{refused, success, number, fact_of}

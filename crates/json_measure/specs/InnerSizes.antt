@@ -1,5 +1,5 @@
 -- How many bytes the parts of a list have. Only inner contracts cite this.
-use Rattle.core.specs.Prelude.{ℕ, ◌+◌, cond, List, [], ◌∷◌, length}
+use Rattle.std.specs.Prelude.{ℕ, ◌+◌, cond, List, [], ◌∷◌, length}
 use Rattle.buffers.specs.Lists.{all_of}
 use Rattle.characters.specs.Form.{is_well_formed}
 use Rattle.characters.specs.Chars.{number_of_chars}

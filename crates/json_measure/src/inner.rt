@@ -1,6 +1,6 @@
 // A record is checked as `operation::check` does it, but that one pass over its inserted text also finds how many bytes the text takes in a
 // list. So the list's length is known when the text was gone over once, and no byte is written before it is.
-ghost use Rattle.core.specs.Prelude.{◌≡◌, ◌+◌, ◌*◌, ◌<◌, ◌≤◌, length};
+ghost use Rattle.std.specs.Prelude.{◌≡◌, ◌+◌, ◌*◌, ◌<◌, ◌≤◌, length};
 ghost use Rattle.edits.specs.Built.{chained};
 ghost use Rattle.record.specs.Layout.{op_count_of, text_bytes_of, max_ops};
 ghost use Rattle.record.specs.Record.{byte_ops};
@@ -57,7 +57,7 @@ fn extra(b: u8) -> usize
 }
 
 // A text that isn't well-formed, or how many characters it has, and how many bytes it takes in strings.
-#[derive(Drop)]
+#[derive(Clone, Copy)]
 pub enum Texts {
     IllFormed,
     Of { chars: usize, bytes: usize },
@@ -145,7 +145,7 @@ fn marks(n: usize) -> usize
 }
 
 // A refusal of the check, or how many operations the record has and how many bytes its list.
-#[derive(Drop)]
+#[derive(Clone, Copy)]
 pub enum Measured {
     Refused(Refusal),
     Of { ops: usize, bytes: usize },

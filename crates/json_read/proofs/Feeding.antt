@@ -1,5 +1,5 @@
 -- A value goes to the emitter.
-use Rattle.core.specs.Prelude.{◌≡◌, ℕ, ◌≤◌, List}
+use Rattle.std.specs.Prelude.{◌≡◌, ℕ, ◌≤◌, List}
 use Rattle.edits.specs.Op.{delete}
 use Rattle.emitter.specs.declared.inner.Emitter.{Emitter}
 use Rattle.json_values.specs.declared.inner.Value.{Value}

@@ -1,5 +1,5 @@
 -- What the functions that read a list promise each other. Only contracts of inner functions cite this.
-use Rattle.core.specs.Prelude.{◌≡◌, ℕ, ◌+◌, ◌^◌, ◌<◌, ◌≤◌, min, true, false, T, ◌⊎◌, List, [], ◌++◌, map, reverse, length, drop}
+use Rattle.std.specs.Prelude.{◌≡◌, ℕ, ◌+◌, ◌^◌, ◌<◌, ◌≤◌, min, true, false, T, ◌⊎◌, List, [], ◌++◌, map, reverse, length, drop}
 use Rattle.characters.specs.Form.{is_well_formed}
 use Rattle.characters.specs.Chars.{number_of_chars}
 use Rattle.characters.specs.Text.{Char, chars}

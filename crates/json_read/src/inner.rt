@@ -1,6 +1,6 @@
 // A list is read value by value: each goes to an emitter as the builders take it. Once a limit is passed nothing more is emitted, since
 // the record is refused whatever follows; the rest is only scanned, since bytes outside the form are refused before that.
-ghost use Rattle.core.specs.Prelude.{◌≡◌, ◌^◌, ◌<◌, ◌≤◌, ◌&&◌, length, drop};
+ghost use Rattle.std.specs.Prelude.{◌≡◌, ◌^◌, ◌<◌, ◌≤◌, ◌&&◌, length, drop};
 ghost use Rattle.characters.specs.Form.{is_well_formed};
 ghost use Rattle.edits.specs.Op.{retain, delete};
 ghost use Rattle.record.specs.Layout.{start_of_text, max_size};
@@ -91,7 +91,7 @@ const BEGIN_ARRAY: u8 = 0x5B;
 const END_ARRAY: u8 = 0x5D;
 
 // What follows a value: a comma, with the place of the next value; the end of the list, with the place behind it; or neither.
-#[derive(Drop)]
+#[derive(Clone, Copy)]
 pub enum Follows {
     Outside,
     Value(usize),
@@ -135,7 +135,7 @@ fn behind(list: &[u8], at: usize, v: Value) -> Follows
 }
 
 // Whether values stood in the list up to its end, the place behind that, and what was emitted.
-#[derive(Drop)]
+#[derive(Clone, Copy)]
 pub struct Values {
     pub found: bool,
     pub at: usize,
@@ -180,7 +180,7 @@ fn read_values(list: &[u8], at: usize, out: &mut [u8], n: usize) -> Values
 }
 
 // What a list begins with: its bracket and the place of the first value, both brackets and the place behind them, or neither.
-#[derive(Drop)]
+#[derive(Clone, Copy)]
 pub enum Opening {
     Outside,
     Value(usize),
@@ -247,7 +247,7 @@ fn finish(out: &mut [u8], n: usize, e: Emitter) -> Emitter
 }
 
 // Whether bytes are a list of the form; and the sizes of the record of its values, of which all but the text is written.
-#[derive(Drop)]
+#[derive(Clone, Copy)]
 pub struct Reading {
     pub valid: bool,
     pub e: Emitter,

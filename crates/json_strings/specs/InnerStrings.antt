@@ -1,5 +1,5 @@
 -- What is found in a string. Only contracts of inner functions cite this.
-use Rattle.core.specs.Prelude.{ℕ, ◌-◌, ◌≤◌, Bool, ◌&&◌, T, List, length, take, drop, nat_lt}
+use Rattle.std.specs.Prelude.{ℕ, ◌-◌, ◌≤◌, Bool, ◌&&◌, T, List, length, take, drop, nat_lt}
 use Rattle.buffers.specs.Lists.{all_of}
 use Rattle.json_lists.specs.Grammar.{is_raw}
 

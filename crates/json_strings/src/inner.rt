@@ -1,6 +1,6 @@
 // The strings of a JSON list, scanned: plain characters many bytes at a time, and escapes. Each function gives what it found and the
 // place behind it by value; nothing is written.
-ghost use Rattle.core.specs.Prelude.{◌≡◌, ◌+◌, ◌<◌, ◌≤◌, length, take, drop};
+ghost use Rattle.std.specs.Prelude.{◌≡◌, ◌+◌, ◌<◌, ◌≤◌, length, take, drop};
 ghost use Rattle.buffers.specs.Lists.{all_of};
 ghost use Rattle.json_lists.specs.InnerRuns.{Run, Plain};
 ghost use Rattle.json_strings.specs.InnerStrings.{is_plain, Plains};
@@ -81,7 +81,7 @@ fn plain_ascii(text: &[u8], at: usize) -> usize
 }
 
 // The place behind characters that need no escape, and how many they are.
-#[derive(Drop)]
+#[derive(Clone, Copy)]
 pub struct Span {
     pub to: usize,
     pub chars: usize,

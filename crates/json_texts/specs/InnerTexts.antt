@@ -1,5 +1,5 @@
 -- The texts of a list's strings, and how they are copied. Only contracts of inner functions cite this.
-use Rattle.core.specs.Prelude.{◌≡◌, ℕ, ◌+◌, ◌≤◌, true, T, List, [], ◌∷◌, ◌++◌, length, drop}
+use Rattle.std.specs.Prelude.{◌≡◌, ℕ, ◌+◌, ◌≤◌, true, T, List, [], ◌∷◌, ◌++◌, length, drop}
 use Rattle.buffers.specs.InnerOver.{over}
 use Rattle.characters.specs.Form.{is_well_formed}
 use Rattle.json_lists.specs.Form.{Item, number, string, Place, is_end, reached, items}

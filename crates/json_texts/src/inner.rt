@@ -1,6 +1,6 @@
 // The texts of a list's strings are copied one behind another. The list is known to be of the form, so nothing is refused, and one pass
 // goes over it: bytes that stand for themselves are searched for the next that doesn't and copied at the same time.
-ghost use Rattle.core.specs.Prelude.{◌≡◌, ◌+◌, ◌<◌, ◌≤◌, false, T, [], length, drop, ◌==◌, slice_index};
+ghost use Rattle.std.specs.Prelude.{◌≡◌, ◌+◌, ◌<◌, ◌≤◌, false, T, [], length, drop, ◌==◌, slice_index};
 ghost use Rattle.buffers.specs.InnerOver.{over};
 ghost use Rattle.characters.specs.Form.{is_well_formed};
 ghost use Rattle.characters.specs.Scalar.{encode_scalar};
@@ -61,7 +61,7 @@ fn write_scalar(out: &mut [u8], at: usize, code: usize) -> usize
 }
 
 // How far the list is read, and how far the output is filled.
-#[derive(Drop)]
+#[derive(Clone, Copy)]
 struct Copied {
     from: usize,
     to: usize,

@@ -1,5 +1,5 @@
 -- What is found of values. Only contracts of inner functions cite this.
-use Rattle.core.specs.Prelude.{◌≡◌, ℕ, ◌+◌, ◌<◌, ◌≤◌, min, false, T, List, length, drop, slice_index}
+use Rattle.std.specs.Prelude.{◌≡◌, ℕ, ◌+◌, ◌<◌, ◌≤◌, min, false, T, List, length, drop, slice_index}
 use Rattle.characters.specs.Form.{is_well_formed}
 use Rattle.characters.specs.Chars.{number_of_chars}
 use Rattle.json_lists.specs.Form.{Sign, plus, minus, number, string, is_white_space, is_digit, value_of_digit, Place, in_number, after_value}

@@ -1,5 +1,5 @@
 // The values of a list, and the white space between them, scanned. Each function gives what it found and the place behind it by value.
-ghost use Rattle.core.specs.Prelude.{◌≡◌, ◌+◌, ◌-◌, ◌*◌, ◌<◌, ◌≤◌, min, length, slice_index};
+ghost use Rattle.std.specs.Prelude.{◌≡◌, ◌+◌, ◌-◌, ◌*◌, ◌<◌, ◌≤◌, min, length, slice_index};
 ghost use Rattle.json_lists.specs.Form.{is_white_space, after_minus, after_comma};
 ghost use Rattle.json_lists.specs.InnerRuns.{Run, over_limit};
 ghost use Rattle.json_values.specs.InnerValues.{DigitsAt, ValueFrom, NoSpace, OtherByte};
@@ -60,7 +60,7 @@ fn with_digit(value: usize, digit: usize) -> usize
 }
 
 // A number, or the first one over the limit; and the place behind its digits.
-#[derive(Drop)]
+#[derive(Clone, Copy)]
 pub struct Digits {
     pub value: usize,
     pub to: usize,
@@ -89,7 +89,7 @@ fn number(list: &[u8], at: usize) -> Digits
 
 // A value: none of the form's; a number, which retains or deletes; or a string, which inserts so many bytes and characters. Each with the
 // place behind it.
-#[derive(Drop)]
+#[derive(Clone, Copy)]
 pub enum Value {
     Outside,
     Retain {

@@ -1,5 +1,5 @@
 -- What the functions that write a list promise each other. Only inner contracts cite this.
-use Rattle.core.specs.Prelude.{◌≡◌, ℕ, ◌+◌, Bool, cond, List, [], ◌∷◌, ◌++◌, take, ◌==◌}
+use Rattle.std.specs.Prelude.{◌≡◌, ℕ, ◌+◌, Bool, cond, List, [], ◌∷◌, ◌++◌, take, ◌==◌}
 use Rattle.edits.specs.Sequence.{Seq}
 use Rattle.record.specs.Layout.{retain_kind, insert_kind}
 use Rattle.record.specs.InnerFront.{ops_left, Place}

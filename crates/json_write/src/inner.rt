@@ -1,5 +1,5 @@
 // The list of a record that was checked is written from the front on, each byte to its place: the output has room for all of them.
-ghost use Rattle.core.specs.Prelude.{◌≡◌, ◌+◌, ◌-◌, ◌<◌, ◌≤◌, length, drop};
+ghost use Rattle.std.specs.Prelude.{◌≡◌, ◌+◌, ◌-◌, ◌<◌, ◌≤◌, length, drop};
 ghost use Rattle.buffers.specs.InnerOver.{over};
 ghost use Rattle.record.specs.Layout.{op_count_of};
 ghost use Rattle.record.specs.Record.{record_fault, ops};
@@ -75,7 +75,7 @@ fn mark_behind(last: bool) -> u8
 
 // How far the record was gone through and the list written: the next operation, the place of the next insert's text, and that of the next
 // value.
-#[derive(Drop)]
+#[derive(Clone, Copy)]
 pub struct Progress {
     pub k: usize,
     pub from: usize,

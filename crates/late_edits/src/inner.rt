@@ -1,5 +1,5 @@
 // An edit that was written against an older revision is rebased in buffers that are as short as will do, and appended.
-ghost use Rattle.core.specs.Prelude.{◌≡◌, ◌-◌, ◌≤◌, length};
+ghost use Rattle.std.specs.Prelude.{◌≡◌, ◌-◌, ◌≤◌, length};
 ghost use Rattle.record.specs.Layout.{start_of_text, max_ops, max_record};
 ghost use Rattle.session_log.specs.Log.{count_of};
 ghost use Rattle.append.specs.InnerAccepting.{Admitted, Tries, Accepts, MovedPast};

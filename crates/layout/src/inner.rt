@@ -1,5 +1,5 @@
 // Where everything stands in a record: the four sizes, the kinds, the counts, the inserted text.
-ghost use Rattle.core.specs.Prelude.{◌≡◌, ◌+◌, ◌*◌, ◌^◌, ◌<◌, ◌≤◌, length};
+ghost use Rattle.std.specs.Prelude.{◌≡◌, ◌+◌, ◌*◌, ◌^◌, ◌<◌, ◌≤◌, length};
 ghost use Rattle.record.specs.Layout.{op_count_of, text_bytes_of, base_of, target_of, kinds_start, counts_start, start_of_text, kind_at, count_at};
 
 use record::inner::{HEADER, OP_BYTES};

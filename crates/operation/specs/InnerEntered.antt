@@ -1,5 +1,5 @@
 -- What the two parts of the check promise each other. Only contracts of `core` cite this.
-use Rattle.core.specs.Prelude.{ℕ, cond, List}
+use Rattle.std.specs.Prelude.{ℕ, cond, List}
 use Rattle.edits.specs.Op.{base, total}
 use Rattle.edits.specs.Built.{chained}
 use Rattle.answers.specs.declared.Refusal.TheVariants.{Size, Entry}

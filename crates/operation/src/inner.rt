@@ -1,6 +1,6 @@
 // The parts of the check, so that another crate can go over the entries or the inserted texts in its own way between them; and what the
 // crates above ask of a record that was checked.
-ghost use Rattle.core.specs.Prelude.{◌≡◌, ◌<◌, ◌≤◌};
+ghost use Rattle.std.specs.Prelude.{◌≡◌, ◌<◌, ◌≤◌};
 ghost use Rattle.answers.specs.Answer.{fact_of};
 ghost use Rattle.record.specs.Layout.{op_count_of, max_record};
 ghost use Rattle.record.specs.Record.{is_within_limits, record_fault};
@@ -38,7 +38,7 @@ pub fn in_limits(rec: &[u8]) -> bool
 
 // How many operations and bytes of text a record has, and what its kinds and counts come to: whether all neighbours may stand so, the
 // characters of the text before the edit, and those of them that stay.
-#[derive(Drop)]
+#[derive(Clone, Copy)]
 pub struct Totals {
     pub ops: usize,
     pub text: usize,
@@ -48,7 +48,7 @@ pub struct Totals {
 }
 
 // Refusal 1 or 2, or the totals.
-#[derive(Drop)]
+#[derive(Clone, Copy)]
 pub enum Entered {
     Refused(Refusal),
     Of(Totals),

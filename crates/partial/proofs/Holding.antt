@@ -1,5 +1,5 @@
 -- A partial result, written to a buffer and read again.
-use Rattle.core.specs.Prelude.{◌≡◌, ℕ, zero, suc, ◌-◌, ◌^◌, ◌≤◌, Bool, true, false, T, List, [], ◌∷◌, ◌++◌, map, length, take, drop}
+use Rattle.std.specs.Prelude.{◌≡◌, ℕ, zero, suc, ◌-◌, ◌^◌, ◌≤◌, Bool, true, false, T, List, [], ◌∷◌, ◌++◌, map, length, take, drop}
 use native.Mathlib.Omega.{arith}
 use lib.ListN.{length-append, take-append-drop}
 use mathlib.Core.Path.{ap, ap₂, ◌∙◌, sym, refl}

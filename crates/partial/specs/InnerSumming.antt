@@ -1,5 +1,5 @@
 -- What the functions below `summary` promise each other. No entry's contract cites this.
-use Rattle.core.specs.Prelude.{◌≡◌, ℕ, ◌≤◌, true, false, T, List, length, take}
+use Rattle.std.specs.Prelude.{◌≡◌, ℕ, ◌≤◌, true, false, T, List, length, take}
 use Rattle.edits.specs.Built.{Built}
 use Rattle.edits.specs.Sequence.{Seq}
 use Rattle.answers.specs.Answer.{number}

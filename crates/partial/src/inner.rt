@@ -1,5 +1,5 @@
 // The partial results of composing a log's revisions, each in the buffer of the one before.
-ghost use Rattle.core.specs.Prelude.{◌≡◌, ◌≤◌, T, length};
+ghost use Rattle.std.specs.Prelude.{◌≡◌, ◌≤◌, T, length};
 ghost use Rattle.edits.specs.Compose.{compose as composeOf};
 ghost use Rattle.record.specs.Layout.{max_record, max_size, base_of, target_of};
 ghost use Rattle.record.specs.Record.{ops, record_fault};

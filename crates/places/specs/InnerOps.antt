@@ -1,5 +1,5 @@
 -- Operations at their places in a record. Only contracts of `core` cite this.
-use Rattle.core.specs.Prelude.{ℕ, ◌+◌, ◌*◌, List, [], ◌∷◌, take, drop}
+use Rattle.std.specs.Prelude.{ℕ, ◌+◌, ◌*◌, List, [], ◌∷◌, take, drop}
 use Rattle.buffers.specs.InnerOver.{over, bytes16}
 use Rattle.edits.specs.Op.{if_zero}
 use Rattle.record.specs.Layout.{kinds_start, counts_start, delete_kind, insert_kind, retain_kind, start_of_text}

@@ -1,6 +1,6 @@
 // Operations at their places in a record of n, by their numbers: one is written, the up to three of a group are, and those of a record
 // with more places are moved to their own. A byte that has no place in the buffer is not written, but where a contract asks for room.
-ghost use Rattle.core.specs.Prelude.{◌≡◌, ◌+◌, ◌*◌, ◌^◌, ◌<◌, ◌≤◌, ◌&&◌, length, nat_le};
+ghost use Rattle.std.specs.Prelude.{◌≡◌, ◌+◌, ◌*◌, ◌^◌, ◌<◌, ◌≤◌, ◌&&◌, length, nat_le};
 ghost use Rattle.record.specs.Layout.{counts_start, start_of_text};
 ghost use Rattle.places.specs.InnerOps.{one, written_op_if_any, written_op, flushed_at, relocated_ops, relocated};
 

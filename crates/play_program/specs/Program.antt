@@ -1,5 +1,5 @@
 -- The program `play`: what it writes for its standard input. Document 01, "The program `play` ..".
-use Rattle.core.specs.Prelude.{◌≡◌, ℕ, ◌+◌, ◌/◌, ◌%◌, ◌≤◌, cond, List, [], ◌∷◌, ◌++◌, length, drop, nat_le, nat_lt}
+use Rattle.std.specs.Prelude.{◌≡◌, ℕ, ◌+◌, ◌/◌, ◌%◌, ◌≤◌, cond, List, [], ◌∷◌, ◌++◌, length, drop, nat_le, nat_lt}
 use Rattle.buffers.specs.Buffers.{put_at_front}
 use Rattle.answers.specs.Answer.{needs, or_else, unless_refused}
 use Rattle.session_log.specs.Log.{size_of_log, readable}

@@ -1,5 +1,5 @@
 // What the programs share: reading and writing, which no contract can state.
-ghost use Rattle.core.specs.Prelude.{◌≡◌, length};
+ghost use Rattle.std.specs.Prelude.{◌≡◌, length};
 
 use crate::MAX_INPUT;
 

@@ -1,5 +1,5 @@
 // Playing a log's revisions on a text, oldest first.
-ghost use Rattle.core.specs.Prelude.{◌≡◌, length};
+ghost use Rattle.std.specs.Prelude.{◌≡◌, length};
 ghost use Rattle.answers.specs.Answer.{written_of};
 ghost use Rattle.session.specs.Session.{play_call};
 

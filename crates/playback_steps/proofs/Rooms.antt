@@ -1,5 +1,5 @@
 -- Whether the scratch buffers have room for every text on the way.
-use Rattle.core.specs.Prelude.{◌≡◌, ℕ, ◌<◌, ◌≤◌, max, Bool, true, false, ◌&&◌, leb, List, [], ◌∷◌, length}
+use Rattle.std.specs.Prelude.{◌≡◌, ℕ, ◌<◌, ◌≤◌, max, Bool, true, false, ◌&&◌, leb, List, [], ◌∷◌, length}
 use mathlib.Core.Path.{refl, sym, ◌∙◌, ap₂}
 use borrow.Author.Tests.{le-leb, lt-leb, leb-false, leb-true}
 use native.Mathlib.Omega.{arith}

@@ -1,5 +1,5 @@
 -- From one text to the next.
-use Rattle.core.specs.Prelude.{◌≡◌, ℕ, suc, ◌+◌, ◌-◌, ◌<◌, ◌≤◌, Bool, true, false, not, T, List, [], ◌∷◌, ◌++◌, length, take, drop}
+use Rattle.std.specs.Prelude.{◌≡◌, ℕ, suc, ◌+◌, ◌-◌, ◌<◌, ◌≤◌, Bool, true, false, not, T, List, [], ◌∷◌, ◌++◌, length, take, drop}
 use native.Mathlib.Nat.{zero-add}
 use mathlib.Core.Path.{sym, ap, ◌∙◌, ap₂, refl}
 use lib.ListN.{length-take}

@@ -1,5 +1,5 @@
 // The first revisions of a log are played on a text, oldest first, each from the first scratch buffer into the second and back.
-ghost use Rattle.core.specs.Prelude.{◌≡◌, ◌≤◌, T, length, take};
+ghost use Rattle.std.specs.Prelude.{◌≡◌, ◌≤◌, T, length, take};
 ghost use Rattle.characters.specs.Form.{is_well_formed};
 ghost use Rattle.characters.specs.Chars.{number_of_chars};
 ghost use Rattle.record.specs.Layout.{base_of};
@@ -11,14 +11,14 @@ use session_log::inner::LOG_HEADER;
 
 // How many bytes the text at the front of the first scratch buffer has, and where the next revision begins; or one of the two buffers
 // was too short.
-#[derive(Drop)]
+#[derive(Clone, Copy)]
 pub enum Played {
     Short,
     Of(usize, usize),
 }
 
 // The text after one revision: how many bytes it has.
-#[derive(Drop)]
+#[derive(Clone, Copy)]
 pub(crate) enum Reached {
     Short,
     Of(usize),

@@ -1,5 +1,5 @@
 // What the crates above use to go through a record that was checked: its sizes, its operations, and the front of what lies ahead.
-ghost use Rattle.core.specs.Prelude.{◌≡◌, ◌<◌, ◌≤◌, length};
+ghost use Rattle.std.specs.Prelude.{◌≡◌, ◌<◌, ◌≤◌, length};
 ghost use Rattle.record.specs.Layout.{op_count_of, max_ops, base_of, target_of, text_bytes_of, size_of, max_record, kind_at, count_at};
 ghost use Rattle.record.specs.Record.{record_fault, ops};
 ghost use Rattle.record.specs.InnerFront.{Stands, ahead, Place, Loads, Cut, Leaves};

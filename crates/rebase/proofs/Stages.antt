@@ -1,5 +1,5 @@
 -- Both sides of a transform, written to stages by one run.
-use Rattle.core.specs.Prelude.{◌≡◌, ℕ, Bool, true, false, not, List, length}
+use Rattle.std.specs.Prelude.{◌≡◌, ℕ, Bool, true, false, not, List, length}
 use mathlib.Core.Path.{sym, subst, ◌∙◌}
 use borrow.Author.Tests.{not-true, not-false}
 use Rattle.characters.specs.Order.{order}

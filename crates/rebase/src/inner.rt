@@ -1,6 +1,6 @@
 // An edit is moved past revisions. It stands in a buffer; what it and a revision become is written to two stages without text, by one
 // run over both, and goes from there to its place, with the text, which is always the edit's own and the revision's own.
-ghost use Rattle.core.specs.Prelude.{◌≡◌, ◌^◌, ◌≤◌, length, drop};
+ghost use Rattle.std.specs.Prelude.{◌≡◌, ◌^◌, ◌≤◌, length, drop};
 ghost use Rattle.record.specs.Layout.{start_of_text, base_of};
 ghost use Rattle.record.specs.Record.{ops, record_fault};
 ghost use Rattle.session_log.specs.Log.{edits_in, max_revisions};

@@ -1,5 +1,5 @@
 // One step over the front operations of an edit and of a revision: what either becomes past the other.
-ghost use Rattle.core.specs.Prelude.{◌≡◌, ◌^◌, ◌<◌, ◌≤◌, true, length};
+ghost use Rattle.std.specs.Prelude.{◌≡◌, ◌^◌, ◌<◌, ◌≤◌, true, length};
 ghost use Rattle.characters.specs.Order.{order};
 ghost use Rattle.edits.specs.Transform.{transform_turn};
 ghost use Rattle.record.specs.InnerFront.{Cut};

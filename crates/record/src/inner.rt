@@ -31,7 +31,7 @@ pub const AT_DELETE: usize = 3;
 
 // The front of what lies ahead in a record: a kind (0 at the end), how many characters are left of it, the bytes of
 // its text, and the operation behind it. The text of the operations behind it begins at `to`.
-#[derive(Drop)]
+#[derive(Clone, Copy)]
 pub struct Front {
     pub kind: usize,
     pub left: usize,

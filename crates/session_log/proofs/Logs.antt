@@ -1,5 +1,5 @@
 -- Logs: what is written is read again, and what can be read is what was written.
-use Rattle.core.specs.Prelude.{◌≡◌, ℕ, zero, suc, ◌+◌, ◌≤◌, T, eqb, List, [], ◌∷◌, ◌++◌, map, length, take, drop}
+use Rattle.std.specs.Prelude.{◌≡◌, ℕ, zero, suc, ◌+◌, ◌≤◌, T, eqb, List, [], ◌∷◌, ◌++◌, map, length, take, drop}
 use mathlib.Core.List.{append_assoc, append-nil}
 use lib.ListN.{length-append, take-append-drop}
 use mathlib.Core.Path.{refl, sym, ap, ap₂, ◌∙◌}

@@ -1,5 +1,5 @@
 -- Rows of edits: each one's base is the length before it.
-use Rattle.core.specs.Prelude.{◌≡◌, ℕ, List, [], ◌∷◌, ◌++◌}
+use Rattle.std.specs.Prelude.{◌≡◌, ℕ, List, [], ◌∷◌, ◌++◌}
 use mathlib.Core.Path.{refl}
 use Rattle.edits.specs.Op.{target, base}
 use Rattle.edits.specs.Sequence.{Seq}

@@ -1,5 +1,5 @@
 -- Going through a log, record by record.
-use Rattle.core.specs.Prelude.{◌≡◌, ℕ, zero, suc, ◌+◌, ◌-◌, ◌<◌, ◌≤◌, Bool, true, false, cond, T, eqb, List, [], ◌∷◌, length, take, drop}
+use Rattle.std.specs.Prelude.{◌≡◌, ℕ, zero, suc, ◌+◌, ◌-◌, ◌<◌, ◌≤◌, Bool, true, false, cond, T, eqb, List, [], ◌∷◌, length, take, drop}
 use native.Mathlib.Omega.{arith}
 use mathlib.Core.Path.{sym, ap, refl, ◌∙◌, ap₂}
 use lib.ListN.{length-drop}

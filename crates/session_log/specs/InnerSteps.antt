@@ -1,5 +1,5 @@
 -- What the steps of a scan promise each other. No entry's contract cites this.
-use Rattle.core.specs.Prelude.{◌≡◌, ℕ, suc, ◌+◌, ◌-◌, ◌<◌, ◌≤◌, false, List, length, drop}
+use Rattle.std.specs.Prelude.{◌≡◌, ℕ, suc, ◌+◌, ◌-◌, ◌<◌, ◌≤◌, false, List, length, drop}
 use Rattle.record.specs.Layout.{size_of, base_of, target_of}
 use Rattle.record.specs.Record.{record_fault}
 use Rattle.session_log.specs.declared.inner.Spot.{Spot}

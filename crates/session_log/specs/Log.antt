@@ -1,5 +1,5 @@
 -- The log of a session, as bytes: document 01, "Session", and refusal 6.
-use Rattle.core.specs.Prelude.{ℕ, zero, suc, ◌+◌, Bool, true, ◌&&◌, List, [], ◌∷◌, ◌++◌, length, take, drop, ◌==◌, nat_le}
+use Rattle.std.specs.Prelude.{ℕ, zero, suc, ◌+◌, Bool, true, ◌&&◌, List, [], ◌∷◌, ◌++◌, length, take, drop, ◌==◌, nat_le}
 use Rattle.buffers.specs.Words.{words, word_at}
 use Rattle.edits.specs.Sequence.{Seq}
 use Rattle.record.specs.Record.{encode, ops, record_fault}

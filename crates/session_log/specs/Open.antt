@@ -1,5 +1,5 @@
 -- "Opening writes these four bytes with 0 revisions (9 if the length is over 32,768)."
-use Rattle.core.specs.Prelude.{ℕ, List, [], ◌∷◌, nat_le}
+use Rattle.std.specs.Prelude.{ℕ, List, [], ◌∷◌, nat_le}
 use Rattle.buffers.specs.Words.{words}
 use Rattle.answers.specs.Answer.{needs}
 use Rattle.answers.specs.Output.{Out, writing}

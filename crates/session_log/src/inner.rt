@@ -1,5 +1,5 @@
 // A log gone through once.
-ghost use Rattle.core.specs.Prelude.{◌≡◌, ◌≤◌, length, if◌then◌else◌, nat_eq};
+ghost use Rattle.std.specs.Prelude.{◌≡◌, ◌≤◌, length, if◌then◌else◌, nat_eq};
 ghost use Rattle.record.specs.Layout.{max_size};
 ghost use Rattle.session_log.specs.InnerScan.{Scans};
 ghost use Rattle.session_log.specs.Log.{count_of, start_of, max_revisions};
@@ -16,7 +16,7 @@ pub const LOG_HEADER: usize = 4;
 
 // The number of revisions, the starting length and the size of the contents; where revision r ends, and the length after it
 // (where there is no revision r, the last two are 0).
-#[derive(Drop)]
+#[derive(Clone, Copy)]
 pub struct Scan {
     pub count: usize,
     pub start: usize,
@@ -25,20 +25,20 @@ pub struct Scan {
     pub len: usize,
 }
 
-#[derive(Drop)]
+#[derive(Clone, Copy)]
 pub enum Scanned {
     Unreadable,
     Of(Scan),
 }
 
 // On the way: where a revision ends, and the length after it.
-#[derive(Drop)]
+#[derive(Clone, Copy)]
 pub(crate) struct Spot {
     pub at: usize,
     pub len: usize,
 }
 
-#[derive(Drop)]
+#[derive(Clone, Copy)]
 pub(crate) enum Stepped {
     Stopped,
     On(Spot),

@@ -1,5 +1,5 @@
 // The log of a session: opened, and gone through.
-ghost use Rattle.core.specs.Prelude.{◌≡◌};
+ghost use Rattle.std.specs.Prelude.{◌≡◌};
 ghost use Rattle.answers.specs.Answer.{written_of};
 ghost use Rattle.session_log.specs.Open.{open_call};
 

@@ -1,5 +1,5 @@
 -- Where both records are ready for a step, so is each of them by itself.
-use Rattle.core.specs.Prelude.{ℕ, ◌<◌, List}
+use Rattle.std.specs.Prelude.{ℕ, ◌<◌, List}
 use Rattle.steps.specs.declared.inner.Both.{Both}
 use Rattle.steps.specs.InnerSteps.{Operands}
 use Rattle.steps.specs.InnerBoth.{Fed, ReadyBoth}

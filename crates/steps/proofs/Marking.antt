@@ -1,5 +1,5 @@
 -- Both sides from stages without text: counted, sized, and moved to their places with the text of the operands.
-use Rattle.core.specs.Prelude.{◌≡◌, ℕ, ◌+◌, ◌-◌, ◌≤◌, min, Bool, true, false, ◌&&◌, List, map, length, take, drop}
+use Rattle.std.specs.Prelude.{◌≡◌, ℕ, ◌+◌, ◌-◌, ◌≤◌, min, Bool, true, false, ◌&&◌, List, map, length, take, drop}
 use mathlib.Core.Path.{◌∙◌, ap, sym, refl}
 use mathlib.Core.Bool.{and-eq-true_iff}
 use native.Mathlib.Omega.{arith}

@@ -1,6 +1,6 @@
 -- What the functions below `transform` and `rebase` promise each other of both sides, which one run writes: one with places for m
 -- operations, the other for n. No entry's contract cites this.
-use Rattle.core.specs.Prelude.{◌≡◌, ℕ, ◌^◌, ◌<◌, ◌≤◌, List, length}
+use Rattle.std.specs.Prelude.{◌≡◌, ℕ, ◌^◌, ◌<◌, ◌≤◌, List, length}
 use Rattle.characters.specs.Order.{order}
 use Rattle.characters.specs.Text.{Char}
 use Rattle.edits.specs.Op.{target, cut}

@@ -1,5 +1,5 @@
 -- What the functions below `transform` promise each other. No entry's contract cites this.
-use Rattle.core.specs.Prelude.{◌≡◌, ℕ, min, cond, List, [], ◌∷◌, ◌==◌}
+use Rattle.std.specs.Prelude.{◌≡◌, ℕ, min, cond, List, [], ◌∷◌, ◌==◌}
 use Rattle.edits.specs.Op.{gives, cut}
 use Rattle.edits.specs.Transform.{past, keep_both}
 use Rattle.record.specs.declared.inner.Front.{Front}

@@ -1,5 +1,5 @@
 -- Steps over the fronts of two records. Only contracts of `core` and of the crates above cite this.
-use Rattle.core.specs.Prelude.{◌≡◌, ℕ, ◌+◌, ◌^◌, ◌<◌, ◌≤◌, Bool, not, ◌&&◌, ◌⊎◌, List, length, ◌==◌}
+use Rattle.std.specs.Prelude.{◌≡◌, ℕ, ◌+◌, ◌^◌, ◌<◌, ◌≤◌, Bool, not, ◌&&◌, ◌⊎◌, List, length, ◌==◌}
 use Rattle.characters.specs.Text.{Char}
 use Rattle.edits.specs.Op.{cut, Op}
 use Rattle.edits.specs.Align.{Step, one, two, both, steps, each}

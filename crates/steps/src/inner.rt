@@ -1,5 +1,5 @@
 // The way of compose or transform over the two front records: how it begins, and whether it goes on.
-ghost use Rattle.core.specs.Prelude.{◌≡◌, ◌+◌, ◌^◌, ◌<◌, ◌≤◌, true, length, take, drop};
+ghost use Rattle.std.specs.Prelude.{◌≡◌, ◌+◌, ◌^◌, ◌<◌, ◌≤◌, true, length, take, drop};
 ghost use Rattle.buffers.specs.InnerOver.{over};
 ghost use Rattle.characters.specs.Order.{byte_order, order};
 ghost use Rattle.edits.specs.Transform.{transform_turn, transform as transformOf};
@@ -67,14 +67,14 @@ pub fn gives(f: Front) -> usize
 }
 
 // What was emitted of both sides.
-#[derive(Drop)]
+#[derive(Clone, Copy)]
 pub struct Pair {
     pub e: Emitter,
     pub f: Emitter,
 }
 
 // On the way: the two fronts, and what was emitted of either side.
-#[derive(Drop)]
+#[derive(Clone, Copy)]
 pub struct Both {
     pub x: Front,
     pub y: Front,
@@ -83,7 +83,7 @@ pub struct Both {
 }
 
 // How many records either side has, and the target, which is one for both.
-#[derive(Drop)]
+#[derive(Clone, Copy)]
 pub struct Counts {
     pub left: usize,
     pub right: usize,
@@ -138,7 +138,7 @@ pub fn place_with_text(out: &mut [u8], stage: &[u8], slots: usize, e: Emitter, r
 }
 
 // A step uses the first front, the second, or as many characters of both.
-#[derive(Drop)]
+#[derive(Clone, Copy)]
 pub enum Turn {
     First,
     Second,
@@ -146,7 +146,7 @@ pub enum Turn {
 }
 
 // On the way: the two fronts, and what was emitted.
-#[derive(Drop)]
+#[derive(Clone, Copy)]
 pub struct State {
     pub x: Front,
     pub y: Front,

@@ -1,5 +1,5 @@
 // The revisions of a log composed into one record.
-ghost use Rattle.core.specs.Prelude.{◌≡◌, ◌≤◌, T, length, take};
+ghost use Rattle.std.specs.Prelude.{◌≡◌, ◌≤◌, T, length, take};
 ghost use Rattle.answers.specs.Answer.{written_of};
 ghost use Rattle.answers.specs.InnerGiven.{Gives};
 ghost use Rattle.answers.specs.Output.{writing};

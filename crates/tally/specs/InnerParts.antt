@@ -1,5 +1,5 @@
 -- What the passes in 16 and 8 bits promise each other. Only inner contracts cite this.
-use Rattle.core.specs.Prelude.{◌≡◌, ℕ, ◌+◌, ◌<◌, ◌≤◌, List, ◌==◌}
+use Rattle.std.specs.Prelude.{◌≡◌, ℕ, ◌+◌, ◌<◌, ◌≤◌, List, ◌==◌}
 use Rattle.record.specs.Record.{Entry}
 use Rattle.record.specs.Layout.{delete_kind, insert_kind, retain_kind}
 use Rattle.entries.specs.InnerTally.{picked, of_kind, sum_of}

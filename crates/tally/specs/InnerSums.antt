@@ -1,5 +1,5 @@
 -- What the kinds and the counts come to. Only inner contracts cite this.
-use Rattle.core.specs.Prelude.{ℕ, cond, List}
+use Rattle.std.specs.Prelude.{ℕ, cond, List}
 use Rattle.buffers.specs.Lists.{all_of}
 use Rattle.edits.specs.Op.{Op, retain, insert, delete, total, base}
 use Rattle.edits.specs.Built.{chained}

@@ -1,6 +1,6 @@
 // The passes of the check over the kinds and the counts of many entries, in 16 and 8 bits. They are branch-free, so that the compiler
 // vectorises them: the narrower their numbers, the more entries are done at once. Others are gone through by `entries`.
-ghost use Rattle.core.specs.Prelude.{◌≡◌, ◌+◌, ◌-◌, ◌<◌, ◌≤◌, length};
+ghost use Rattle.std.specs.Prelude.{◌≡◌, ◌+◌, ◌-◌, ◌<◌, ◌≤◌, length};
 ghost use Rattle.record.specs.Layout.{op_count_of, start_of_text, max_ops};
 ghost use Rattle.entries.specs.InnerTally.{HasEntries, picked, entry, Tallied, sum_from, clash_at};
 ghost use Rattle.tally.specs.InnerParts.{parted_by, Parted, Whole};
@@ -11,7 +11,7 @@ use record::inner::{DELETE, INSERT, RETAIN};
 
 // What the kinds and the counts come to: the bytes inserted, whether all neighbours may stand so, the characters of
 // the text before the edit, and those of them that stay.
-#[derive(Drop)]
+#[derive(Clone, Copy)]
 pub struct Sums {
     pub inserts: usize,
     pub ordered: bool,
@@ -20,7 +20,7 @@ pub struct Sums {
 }
 
 // A kind or a count that can't be, or the sums.
-#[derive(Drop)]
+#[derive(Clone, Copy)]
 pub enum Entries {
     Unsound,
     Of(Sums),
@@ -57,7 +57,7 @@ fn all_counts(rec: &[u8], n: usize) -> u32
 }
 
 // How many counts are 0, and the counts of each kind.
-#[derive(Drop)]
+#[derive(Clone, Copy)]
 struct Parts {
     empty: u16,
     inserts: u16,

@@ -1,5 +1,5 @@
 // Two inserts that meet: the lesser goes first, and of two that are equal both are kept, neither before the other.
-ghost use Rattle.core.specs.Prelude.{◌≡◌, ◌<◌, ◌≤◌};
+ghost use Rattle.std.specs.Prelude.{◌≡◌, ◌<◌, ◌≤◌};
 ghost use Rattle.characters.specs.Order.{order};
 ghost use Rattle.edits.specs.Transform.{transform_turn};
 ghost use Rattle.record.specs.Layout.{insert_kind};

@@ -1,5 +1,5 @@
 -- What the functions of `transform` promise each other: the answer with both outputs, and how many operations a stage has places for.
-use Rattle.core.specs.Prelude.{◌≡◌, ℕ, List}
+use Rattle.std.specs.Prelude.{◌≡◌, ℕ, List}
 use Rattle.answers.specs.declared.WrittenPair.{WrittenPair}
 use Rattle.answers.specs.Answer.{pair_of}
 use Rattle.operational_transform.specs.Calls.{transform_call}

@@ -1,5 +1,5 @@
 // Transform over the fronts of two records that were checked: what either becomes past the other, by one run over both.
-ghost use Rattle.core.specs.Prelude.{◌≡◌, ◌+◌, ◌^◌, ◌≤◌, min, length};
+ghost use Rattle.std.specs.Prelude.{◌≡◌, ◌+◌, ◌^◌, ◌≤◌, min, length};
 ghost use Rattle.characters.specs.Order.{order};
 ghost use Rattle.edits.specs.Transform.{transform as transformOf};
 ghost use Rattle.record.specs.Layout.{max_ops, start_of_text, base_of};

@@ -1,5 +1,5 @@
 // The Rust's `transform`, on records.
-ghost use Rattle.core.specs.Prelude.{◌≡◌};
+ghost use Rattle.std.specs.Prelude.{◌≡◌};
 ghost use Rattle.answers.specs.Answer.{pair_of};
 ghost use Rattle.record.specs.Record.{record_fault};
 ghost use Rattle.operational_transform.specs.Calls.{transform_call};

@@ -1,5 +1,5 @@
 // One step of transform over the front operations of two records that were checked: what either becomes past the other.
-ghost use Rattle.core.specs.Prelude.{◌≡◌, ◌<◌, ◌≤◌, true, false, ◌==◌};
+ghost use Rattle.std.specs.Prelude.{◌≡◌, ◌<◌, ◌≤◌, true, false, ◌==◌};
 ghost use Rattle.characters.specs.Order.{order};
 ghost use Rattle.edits.specs.Transform.{transform_turn};
 ghost use Rattle.record.specs.Layout.{insert_kind};

@@ -1,5 +1,5 @@
 // A revision is taken back although others came after it.
-ghost use Rattle.core.specs.Prelude.{◌≡◌, ◌+◌, ◌≤◌, T, length, nat_le};
+ghost use Rattle.std.specs.Prelude.{◌≡◌, ◌+◌, ◌≤◌, T, length, nat_le};
 ghost use Rattle.characters.specs.Form.{is_well_formed};
 ghost use Rattle.characters.specs.Chars.{number_of_chars};
 ghost use Rattle.characters.specs.Text.{chars as chars_of};

@@ -1,5 +1,5 @@
 -- One character of several bytes. Only contracts of inner functions cite this.
-use Rattle.core.specs.Prelude.{◌≡◌, ℕ, suc, ◌+◌, ◌≤◌, false, T, List, length, take, drop, slice_index}
+use Rattle.std.specs.Prelude.{◌≡◌, ℕ, suc, ◌+◌, ◌≤◌, false, T, List, length, take, drop, slice_index}
 use Rattle.characters.specs.Form.{is_well_formed, well_char}
 
 -- a character stands at `at`, with so many bytes behind its first, which is not ASCII; or, where there are none, no such character does

@@ -1,5 +1,5 @@
 // What the crates above need of text in bytes.
-ghost use Rattle.core.specs.Prelude.{◌≡◌, ◌+◌, ◌<◌, ◌≤◌, T, length, drop};
+ghost use Rattle.std.specs.Prelude.{◌≡◌, ◌+◌, ◌<◌, ◌≤◌, T, length, drop};
 ghost use Rattle.characters.specs.Chars.{is_continuation, take_chars};
 ghost use Rattle.characters.specs.InnerPassed.{form_of};
 ghost use Rattle.characters.specs.Form.{is_well_formed};

@@ -1,6 +1,6 @@
 -- "A step gives the kind and count found there and moves on by one; past the last record, and wherever the record is
 -- refused, it gives the end."
-use Rattle.core.specs.Prelude.{ℕ, zero, suc, ◌+◌, cond, List, [], ◌∷◌, nat_lt}
+use Rattle.std.specs.Prelude.{ℕ, zero, suc, ◌+◌, cond, List, [], ◌∷◌, nat_lt}
 use Rattle.answers.specs.Answer.{Answer, success, refused, unless_refused}
 use Rattle.record.specs.Layout.{op_count_of, kind_at, count_at}
 use Rattle.record.specs.Record.{record_fault}

@@ -1,5 +1,5 @@
 // A walk from the start, with plain parameters.
-ghost use Rattle.core.specs.Prelude.{◌≡◌};
+ghost use Rattle.std.specs.Prelude.{◌≡◌};
 ghost use Rattle.walker.specs.Walk.{found_of, step_call, position_after};
 
 use crate::{Found, Walker};

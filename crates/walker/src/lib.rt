@@ -1,26 +1,26 @@
 // To go through a record: a walker carries the borrowed record along with its position.
-ghost use Rattle.core.specs.Prelude.{◌≡◌};
+ghost use Rattle.std.specs.Prelude.{◌≡◌};
 ghost use Rattle.walker.specs.Walk.{found_of, step_call, next_at};
 
 use answers::Fact;
 
 pub mod inner;
 
-#[derive(Drop)]
+#[derive(Clone, Copy)]
 pub struct Walker<'a> {
     pub rec: &'a [u8],
     pub at: usize,
 }
 
 // What a step finds: a kind (1 retain, 2 insert, 3 delete) and its count, an insert's in bytes; or the end.
-#[derive(Drop)]
+#[derive(Clone, Copy)]
 pub enum Found {
     Op { kind: u8, count: u16 },
     End,
 }
 
 // What is found at a position, and the position behind it.
-#[derive(Drop)]
+#[derive(Clone, Copy)]
 struct Moved {
     step: Found,
     at: usize,

@@ -1,8 +1,8 @@
 // One line of the list, taken a byte at a time: a call's name, then its operands as bytes.
-ghost use Rattle.core.specs.Prelude.{◌≤◌};
+ghost use Rattle.std.specs.Prelude.{◌≤◌};
 
 // Modes: 0 the name; 1 an operand; 2 text in quotes; 3 to 5 and 7 a decimal number behind `=`, `#`, `]` or `>`; 6 a remark.
-#[derive(Drop)]
+#[derive(Clone, Copy)]
 pub struct State {
     // where the line begins in the input, where it ends, and where the next one begins
     pub start: usize,
@@ -248,7 +248,7 @@ pub fn read(input: &[u8], from: usize, buf: &mut [u8]) -> State {
 }
 
 // Where the name, the first operand and the second end in a buffer of n bytes. The `ensures` is what taking them out needs.
-#[derive(Drop)]
+#[derive(Clone, Copy)]
 pub struct Parts {
     pub name: usize,
     pub first: usize,

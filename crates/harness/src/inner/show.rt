@@ -1,5 +1,5 @@
 // Answers in words on standard output.
-ghost use Rattle.core.specs.Prelude.{◌<◌};
+ghost use Rattle.std.specs.Prelude.{◌<◌};
 
 use crate::inner::line::State;
 use answers::{Fact, Noop, Refusal, Written, WrittenPair};

@@ -1,5 +1,5 @@
 // Records in words: R, I and D with their counts and texts.
-ghost use Rattle.core.specs.Prelude.{◌<◌};
+ghost use Rattle.std.specs.Prelude.{◌<◌};
 
 use crate::inner::show;
 use answers::Fact;

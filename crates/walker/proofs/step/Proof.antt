@@ -1,5 +1,5 @@
 -- `step` meets its contract: a walk of its MIR, by hand. The slice and the number make a walker, which is passed to `peek`.
-use Rattle.core.specs.Prelude.{◌≡◌, ℕ, ◌^◌, ◌<◌, List, [], ◌∷◌, length}
+use Rattle.std.specs.Prelude.{◌≡◌, ℕ, ◌^◌, ◌<◌, List, [], ◌∷◌, length}
 use mathlib.Core.Path.{refl}
 use seplogic.Ra.Ura.{Ura}
 use mir.Syntax.{named, w64}

@@ -1,7 +1,7 @@
 -- `Walker::new` meets its contract: a walk of its MIR, by hand. A walker is made of the slice passed and 0, in the result's local.
 -- A `&[u8]` is Copy, so what it owns is had twice: once for `rec` at exit, and once inside the result, beside the facts of `at`.
 use mathlib.Core.Path.{refl}
-use Rattle.core.specs.Prelude.{ℕ, List, [], ◌∷◌, length}
+use Rattle.std.specs.Prelude.{ℕ, List, [], ◌∷◌, length}
 use lib.Dec.{lit<}
 use seplogic.Ra.Ura.{Ura}
 use mir.Syntax.{named, w64}

@@ -1,5 +1,5 @@
 -- `Walker::next` meets its contract: a walk of its MIR, by hand. The borrow is opened, the struct is taken apart, and `move_at` is called on the slice and the number; the number that it gives is stored, and the borrow is closed at the walker with it.
-use Rattle.core.specs.Prelude.{◌≡◌, ℕ, ◌^◌, ◌<◌, List, [], ◌∷◌, length}
+use Rattle.std.specs.Prelude.{◌≡◌, ℕ, ◌^◌, ◌<◌, List, [], ◌∷◌, length}
 use mathlib.Core.Path.{refl, ap}
 use seplogic.Ra.Ura.{Ura}
 use seplogic.Ra.TreeShare.{full_share}

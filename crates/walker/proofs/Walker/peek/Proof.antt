@@ -1,6 +1,6 @@
 -- `Walker::peek` meets its contract: a walk of its MIR, by hand. The struct is taken apart, and `step_at` is called on the slice and the number.
 -- The struct is Copy: what it owns is had twice; one copy is kept for the exit, and of the other what `rec` owns goes to the callee, beside the lifetime's token, which comes back.
-use Rattle.core.specs.Prelude.{◌≡◌, ◌^◌, ◌<◌, T as Holds, [], ◌∷◌, length}
+use Rattle.std.specs.Prelude.{◌≡◌, ◌^◌, ◌<◌, T as Holds, [], ◌∷◌, length}
 use mathlib.Core.Path.{refl}
 use seplogic.Ra.Ura.{Ura}
 use mir.Syntax.{named, w64}

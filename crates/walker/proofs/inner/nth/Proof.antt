@@ -1,5 +1,5 @@
 -- `inner::nth` meets its contract: a walk of its MIR, by hand, with a loop. `Walker::new` makes a walker in a local, which is lent to `Walker::next` in each turn and once after the loop, each time for a lifetime that is made for the call, and comes back moved on.
-use Rattle.core.specs.Prelude.{◌≡◌, ℕ, ◌+◌, ◌-◌, ◌^◌, ◌<◌, ◌≤◌, Bool, true, false, not, T as Holds, ltb, List, [], ◌∷◌, length}
+use Rattle.std.specs.Prelude.{◌≡◌, ℕ, ◌+◌, ◌-◌, ◌^◌, ◌<◌, ◌≤◌, Bool, true, false, not, T as Holds, ltb, List, [], ◌∷◌, length}
 use mathlib.Core.Path.{refl, sym, ap, subst, ◌∙◌}
 use Prim.Native.Nat.{zero-le}
 use native.Mathlib.Nat.{le_antisymm}

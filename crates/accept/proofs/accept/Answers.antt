@@ -1,0 +1,13 @@
+use Rattle.answers.specs.declared.WrittenPair.TheVariants.{Refused}
+use Rattle.record.proofs.Checked.{passed}
+use Rattle.append.specs.InnerAccepting.{Accepts}
+use Rattle.append.proofs.Answering.{accepts_edit}
+use Rattle.accept.proofs.accept.Goals as goal
+
+pub checked-requires : goal.checked-requires
+checked-requires c = search passed
+
+pub returns-in-Refused : goal.returns-in-Refused
+returns-in-Refused c = let a = c.args in
+    let w : Accepts a.edit.now a.r a.log.now a.out.now (Refused c.x-1.given.0.0) a.log.now a.out.now = search accepts_edit in
+    (w.answer, w.log_is, w.out_is)

@@ -1,0 +1,37 @@
+use Rattle.characters.proofs.Passed.{form_ill, form_holds, form_num}
+use Rattle.answers.specs.declared.Refusal.TheVariants.{Utf8, Limit}
+use Rattle.answers.specs.declared.Written.TheVariants as written
+use Rattle.answers.specs.InnerGiven.{Gives}
+use Rattle.record.proofs.Checked.{passed}
+use Rattle.operational_transform.specs.Calls.{insert_call}
+use Rattle.emitter.proofs.Giving.{text_refused, text_ill, text_passed}
+use Rattle.builders.proofs.Extending.{insert_limit}
+use borrow.Author.Rules.{rules}
+use Rattle.builders.proofs.insert.Goals as goal
+
+pub returns-in_default : goal.returns-in_default
+unfolding insert_call
+returns-in_default c = let a = c.args in
+    let w : Gives (insert_call a.rec.now a.text.now a.out.now) (written.Refused Utf8) a.out.now = search (passed, text_ill, form_ill) in
+    (w.answer, w.out)
+
+pub returns-then-text-gt-MAX_SIZE : goal.returns-then-text-gt-MAX_SIZE
+unfolding insert_call
+returns-then-text-gt-MAX_SIZE c = let a = c.args in
+    let w : Gives (insert_call a.rec.now a.text.now a.out.now) (written.Refused Limit) a.out.now = search (passed, text_passed, form_holds, insert_limit) in
+    (w.answer, w.out)
+
+pub inserted-requires : goal.inserted-requires
+inserted-requires c = (search passed, search form_holds, search form_num, search rules)
+
+pub returns-in-Refused : goal.returns-in-Refused
+unfolding insert_call
+returns-in-Refused c = let a = c.args in
+    let w : Gives (insert_call a.rec.now a.text.now a.out.now) (written.Refused c.y-1.given.0.0) a.out.now = search (text_refused) in
+    (w.answer, w.out)
+
+pub returns-else-text-gt-MAX_SIZE : goal.returns-else-text-gt-MAX_SIZE
+unfolding insert_call
+returns-else-text-gt-MAX_SIZE c = let a = c.args in
+    let w : Gives (insert_call a.rec.now a.text.now a.out.now) c.inserted.result c.inserted.new.1.1.1.0 = search (passed, text_passed, form_holds) in
+    (w.answer, w.out)

@@ -1,0 +1,6 @@
+use mathlib.Core.Path.{ap, ◌∙◌}
+use Rattle.packing.specs.Numbers.{packed}
+use Rattle.c_api.proofs.ot_base_len.Goals as goal
+
+pub returns : goal.returns
+returns c = c.fact.ensures ∙ ap packed c.base_len.ensures

@@ -1,0 +1,8 @@
+use Rattle.json_texts.proofs.Moves.{code_small, room_scalar, moved_scalar}
+use Rattle.json_texts.proofs.inner.copy_escape.Goals as goal
+
+pub write_scalar-end-requires : goal.write_scalar-end-requires
+write_scalar-end-requires c = search (code_small, room_scalar)
+
+pub returns : goal.returns
+returns c = search moved_scalar

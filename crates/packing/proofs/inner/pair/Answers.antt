@@ -1,0 +1,18 @@
+use Prim.Native.Nat.{◌≤◌}
+use native.Mathlib.Omega.{arith}
+use Rattle.packing.proofs.Packing.{pair_is, pair_first, pair_second, pair_refused}
+use Rattle.packing.proofs.inner.pair.Goals as goal
+
+pub overflow_mul-result : goal.overflow_mul-result
+overflow_mul-result c = let h : c.x-1.given.0.1.0 ≤ 9177088 = search pair_second in omega arith
+
+pub overflow_add-result : goal.overflow_add-result
+overflow_add-result c = let g : c.x-1.given.0.0 ≤ 9177088 = search pair_first in
+    let h : c.x-1.given.0.1.0 ≤ 9177088 = search pair_second in
+    omega arith
+
+pub returns-in-Bytes : goal.returns-in-Bytes
+returns-in-Bytes c = search pair_is
+
+pub returns-in-Refused : goal.returns-in-Refused
+returns-in-Refused c = search pair_refused

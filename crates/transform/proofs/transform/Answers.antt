@@ -1,0 +1,13 @@
+use Rattle.answers.specs.declared.WrittenPair.TheVariants.{Refused}
+use Rattle.record.proofs.Checked.{passed}
+use Rattle.transform.specs.InnerPairs.{Transforms}
+use Rattle.transform.proofs.Answering.{transforms_first}
+use Rattle.transform.proofs.transform.Goals as goal
+
+pub transformed_with-requires : goal.transformed_with-requires
+transformed_with-requires c = search passed
+
+pub returns-in-Refused : goal.returns-in-Refused
+returns-in-Refused c = let a = c.args in
+    let w : Transforms a.a.now a.b.now a.out_a.now a.out_b.now (Refused c.x-1.given.0.0) a.out_a.now a.out_b.now = search transforms_first in
+    (w.answer, w.out_a, w.out_b)
