@@ -3,7 +3,7 @@ use Rattle.std.specs.Prelude.{◌≡◌, ℕ, ◌+◌, ◌-◌, ◌<◌, ◌≤�
 use Prim.Native.Nat.{zero-le}
 use native.Mathlib.Omega.{arith}
 use mathlib.Core.Path.{refl, sym, ap, ◌∙◌}
-use borrow.Author.Tests.{eqb-true, eqb_false}
+use borrow.Author.Tests.{eqb-true, eqb-false}
 use lib.ListN.{length-drop}
 use Rattle.characters.specs.Form.{is_well_formed}
 use Rattle.characters.specs.Chars.{number_of_chars, take_chars}
@@ -59,7 +59,7 @@ module _ (r t : List ℕ) (n k from at kind count : ℕ) (g : Along r t k from a
     where
       go : (b : Bool) → eqb kind 1 ≡ b → number_of_chars (drop at t) ≡ count + base (ops_left r (k + 1) from)
       go true y = sym (chars_length (drop at t) g.well) ∙ g.takes_all ∙ ap base (begins_retain r n k from kind count p g.place h q c small (eqb-true kind 1 y)).has
-      go false y = sym (chars_length (drop at t) g.well) ∙ g.takes_all ∙ ap base (begins_delete r n k from kind count p g.place h q c small (eqb_false kind 1 y) z).has
+      go false y = sym (chars_length (drop at t) g.well) ∙ g.takes_all ∙ ap base (begins_delete r n k from kind count p g.place h q c small (eqb-false kind 1 y) z).has
 
   pub along_room : count ≤ number_of_chars (drop at t)
   along_room = omega (arith, leaves)

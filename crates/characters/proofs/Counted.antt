@@ -35,6 +35,21 @@ module _ (s : List ℕ) (i n : ℕ) (c : Counted s i n) where
     counted_cont x =
         record { below = omega arith; few = omega (arith, c.few); num = omega (arith, c.num, num_cont s i h (sym e ∙ not-false a x)) }
 
+  -- k bytes more, r of them no continuations
+  pub counted_part : (k r : ℕ) → k ≤ length s - i → r ≡ number_of_chars (take (i + k - i) (drop i s)) → Counted s (i + k) (n + r)
+  counted_part k r h e =
+      let b = c.below in
+      let l = drop i s in
+      let z : i + k - i ≡ k = omega arith in
+      record {
+        below = omega arith;
+        few = omega (arith, c.few, ap (λ j. number_of_chars (take j l)) z, num_le (take k l), length-take k l);
+        num = omega (arith, c.num, ap (λ j. number_of_chars (take j l)) z, ap number_of_chars (take-append-drop k l), num_append (take k l) (drop k l), ap number_of_chars (drop-drop k i s));
+      }
+
+  pub counted_rest : (r : ℕ) → r ≡ number_of_chars (drop i s) → n + r ≡ number_of_chars s
+  counted_rest r e = omega (arith, c.num)
+
 -- eight bytes more, r of them no continuations
 pub counted_eight : (s : List ℕ) (k n r : ℕ) → Counted s (8 * k) n → k < length s / 8 → r ≡ number_of_chars (take 8 (drop (8 * k) s)) → Counted s (8 * (k + 1)) (n + r)
 counted_eight s k n r c h e =

@@ -1,9 +1,9 @@
--- Marks of bytes that are no continuations: in a word, counted, and in the last word.
+-- Marks of bytes that are no continuations: in a word, in a sum of words, counted, and in the last word.
 use Prim.Native.Nat.{ℕ, zero, suc, ◌+◌, ◌*◌, ◌^◌, ◌≤◌, ◌-◌, ◌/◌, ◌%◌, ◌<◌}
 use native.Mathlib.Omega.{arith}
 use mathlib.Core.List.{List, [], ◌∷◌}
 use lib.Dec.{lit≤, eqb, lit<}
-use lib.ListN.{length, take, drop, length-take, length-drop}
+use lib.ListN.{length, take, drop, length-take, length-drop, take-append-drop, drop_of_length-le}
 use mathlib.Core.Path.{◌≡◌, refl, ap, ap₂, ◌∙◌, sym}
 use mathlib.Core.Bool.{cond, Bool, true, false}
 use lib.Bits.{bit_or, bit_and, and_block, or_block, and_mask, and_mod, or_mod, or_lt, and_le_r, and_shr, or_shr}
@@ -14,11 +14,11 @@ use lib.Pow as Pow
 use Rattle.characters.specs.InnerAscii.{word_of}
 use Rattle.characters.specs.Form.{within}
 use Rattle.characters.specs.Chars.{is_continuation, number_of_chars}
-use Rattle.characters.specs.InnerMarks.{low_bits, marks_of, Starts}
+use Rattle.characters.specs.InnerMarks.{low_bits, marks_of, count_mod255, Starts}
 use Rattle.characters.proofs.Runs.{Bytes, bytes_take}
 use Rattle.characters.proofs.Bytes.{each_at}
 use Rattle.characters.proofs.Bits.{not_and}
-use Rattle.characters.proofs.Chars.{num_le}
+use Rattle.characters.proofs.Chars.{num_append, num_le}
 
 -- ---- in a word
 
@@ -70,7 +70,7 @@ word_lt t at x e l h =
     let n : length bs ≡ 8 = simp (length-take, length-drop) (omega arith) in
     omega (arith, below bs (bytes_take 8 (drop at t) (λ k. rw get_or-drop (h (at + k)))), ap full n)
 
-word_marks : (t : List ℕ) (at x : ℕ) → x ≡ word_of (take 8 (drop at t)) → at + 8 ≤ length t → Bytes t
+pub word_marks : (t : List ℕ) (at x : ℕ) → x ≡ word_of (take 8 (drop at t)) → at + 8 ≤ length t → Bytes t
     → bit_and (bit_or ((0xFFFF_FFFF_FFFF_FFFF - x) / 128) (x / 64)) low_bits ≡ marks_of (take 8 (drop at t))
 unfolding lows full
 word_marks t at x e l h =
@@ -105,6 +105,67 @@ word_starts t at x e l h =
           ∙ word_marks t at x e l h;
     }
 
+-- ---- in a sum
+
+-- 256 is 255 and 1, so that all but the number of marks is a multiple of 255
+over_255 : List ℕ → ℕ
+over_255 [] = 0
+over_255 (b ∷ bs) = marks_of bs + over_255 bs
+
+sum_255 : (l : List ℕ) → marks_of l ≡ 255 * over_255 l + number_of_chars l
+unfolding over_255
+sum_255 [] = refl
+sum_255 (b ∷ bs) = go (is_continuation b) (sum_255 bs)
+  where
+    go : (c : Bool) → marks_of bs ≡ 255 * over_255 bs + number_of_chars bs → marks_of bs * 256 + cond c 0 1 ≡ 255 * (marks_of bs + over_255 bs) + cond c (number_of_chars bs) (suc (number_of_chars bs))
+    go true e = omega arith
+    go false e = omega arith
+
+word_num : (t : List ℕ) (at : ℕ) → number_of_chars (drop at t) ≡ number_of_chars (take 8 (drop at t)) + number_of_chars (drop (at + 8) t)
+word_num t at = ap number_of_chars (sym (take-append-drop 8 (drop at t))) ∙ num_append (take 8 (drop at t)) (drop 8 (drop at t)) ∙ ap (λ l. number_of_chars (take 8 (drop at t)) + number_of_chars l) (drop-drop 8 at t)
+
+module _ (t : List ℕ) where
+  pub told_word : (at sum m : ℕ) → m ≡ marks_of (take 8 (drop at t)) → count_mod255 t (at + 8) (sum + m) ≡ count_mod255 t at sum
+  unfolding count_mod255
+  told_word at sum m e =
+      let q = over_255 (take 8 (drop at t)) in
+      let x : sum + m + number_of_chars (drop (at + 8) t) ≡ 255 * q + (sum + number_of_chars (drop at t)) = omega (arith, sum_255 (take 8 (drop at t)), word_num t at) in
+      ap (λ z. z % 255) x ∙ omega arith
+
+  pub told_two : (at sum m n : ℕ) → m ≡ marks_of (take 8 (drop at t)) → n ≡ marks_of (take 8 (drop (at + 8) t)) → count_mod255 t (at + 16) (sum + m + n) ≡ count_mod255 t at sum
+  told_two at sum m n p q =
+      let e : at + 8 + 8 ≡ at + 16 = omega arith in
+      ap (λ i. count_mod255 t i (sum + m + n)) (sym e) ∙ told_word (at + 8) (sum + m) n q ∙ told_word at sum m p
+
+  pub told_four : (at m n o p : ℕ) → m ≡ marks_of (take 8 (drop at t)) → n ≡ marks_of (take 8 (drop (at + 8) t)) → o ≡ marks_of (take 8 (drop (at + 16) t)) → p ≡ marks_of (take 8 (drop (at + 24) t))
+      → count_mod255 t (at + 32) (m + n + o + p) ≡ count_mod255 t at 0
+  told_four at m n o p e f g h =
+      let x : at + 16 + 8 ≡ at + 24 = omega arith in
+      let y : at + 16 + 16 ≡ at + 32 = omega arith in
+      let z : 0 + m + n ≡ m + n = omega arith in
+      (λ i. count_mod255 t (sym y i) (sym z i + o + p)) ∙ told_two (at + 16) (0 + m + n) o p g (h ∙ ap (λ i. marks_of (take 8 (drop i t))) (sym x)) ∙ told_two at 0 m n e f
+
+  -- the end: nothing is left, or what the last marks tell of
+  pub told_end : (at sum : ℕ) → length t - at ≡ 0 → sum % 255 ≡ count_mod255 t at sum
+  unfolding count_mod255
+  told_end at sum h = let l : length t ≤ at = omega arith in let e = ap number_of_chars (drop_of_length-le t l) in ap (λ n. n % 255) (omega arith)
+
+  pub told_last : (at sum n m : ℕ) → at ≤ length t → n ≡ length t - at → m ≡ marks_of (drop (length t - n) t) → (sum + m) % 255 ≡ count_mod255 t at sum
+  unfolding count_mod255
+  told_last at sum n m h e p =
+      let l = drop at t in
+      let x : length t - n ≡ at = omega arith in
+      let y : sum + m ≡ 255 * over_255 l + (sum + number_of_chars l) = omega (arith, ap (λ i. marks_of (drop i t)) x, sum_255 l) in
+      ap (λ z. z % 255) y ∙ omega arith
+
+  -- all of them
+  pub told_all : (from r : ℕ) → length t - from < 64 → r % 255 ≡ count_mod255 t from 0 → (r % 255 ≡ number_of_chars (drop from t)) × (r % 255 ≤ length t - from)
+  unfolding count_mod255
+  told_all from r h e =
+      let l = length-drop from t in
+      let n = num_le (drop from t) in
+      (omega arith, omega arith)
+
 -- ---- counted
 
 -- the ones of the marks
@@ -138,7 +199,7 @@ down (suc k) (b ∷ bs) =
     go true = omega arith
     go false = omega arith
 
-last_marks : (t : List ℕ) (n m : ℕ) → 8 ≤ length t → n < 8 → m ≡ marks_of (take 8 (drop (length t - 8) t)) → m / 2 ^ (64 - 8 * n) ≡ marks_of (drop (length t - n) t)
+pub last_marks : (t : List ℕ) (n m : ℕ) → 8 ≤ length t → n < 8 → m ≡ marks_of (take 8 (drop (length t - 8) t)) → m / 2 ^ (64 - 8 * n) ≡ marks_of (drop (length t - n) t)
 last_marks t n m h l e =
     let k = 8 - n in
     let x : 64 - 8 * n ≡ 8 * k = omega arith in

@@ -4,7 +4,7 @@ use native.Mathlib.Omega.{arith}
 use mathlib.Core.Path.{refl, ap, ap₂, sym, ◌∙◌}
 use mathlib.Core.Logic.{inl, inr}
 use mathlib.Core.Bool.{false≢true}
-use borrow.Author.Tests.{eqb-true, eqb_false, eq-eqb}
+use borrow.Author.Tests.{eqb-true, eqb-false, eq-eqb}
 use Rattle.characters.specs.Text.{chars, Char}
 use Rattle.characters.proofs.Leads.{within_bounds}
 use Rattle.edits.specs.Align as align
@@ -28,7 +28,7 @@ one_or_two r f s p q = go (eqb f.kind 1) refl
   where
     go : (t : Bool) → eqb f.kind 1 ≡ t → (f.kind ≡ 1) ⊎ (f.kind ≡ 2)
     go true e = inl (eqb-true f.kind 1 e)
-    go false e = let n = eqb_false f.kind 1 e in inr (omega (arith, within_bounds 0 3 f.kind s.known))
+    go false e = let n = eqb-false f.kind 1 e in inr (omega (arith, within_bounds 0 3 f.kind s.known))
 
 -- ---- whose turn it is
 
@@ -46,14 +46,14 @@ module _ (a b : List ℕ) (x y : Front) where
 
       go : (t : Bool) → eqb x.kind 0 ≡ t → (x.kind ≡ 0) ⊎ (compose_turn (front_op a x) (front_op b y) ≡ align.second)
       go true t = inl (eqb-true x.kind 0 t)
-      go false t = inr (second (one_or_two a x s (eqb_false x.kind 0 t) r))
+      go false t = inr (second (one_or_two a x s (eqb-false x.kind 0 t) r))
 
   pub choose_second : live_is x y ≡ true → x.kind ≡ 0 → Chooses compose_turn a b x y Second
   choose_second l e = record { chosen = (go (eqb y.kind 0) refl, inl e) }
     where
       go : (t : Bool) → eqb y.kind 0 ≡ t → 0 < y.kind
       go true t = absurd (false≢true (rw (eq-eqb x.kind 0 e, t) at l))
-      go false t = let n = eqb_false y.kind 0 t in omega arith
+      go false t = let n = eqb-false y.kind 0 t in omega arith
 
   module _ (p : x.kind ≡ 0 → ⊥) where
     pub choose_first : y.kind ≡ 0 → Chooses compose_turn a b x y First
@@ -64,9 +64,9 @@ module _ (a b : List ℕ) (x y : Front) where
       where
         together : (x.kind ≡ 1) ⊎ (x.kind ≡ 2) → (t : Bool) → eqb y.kind 1 ≡ t → compose_turn (front_op a x) (front_op b y) ≡ align.together
         together (inl z) true t = ap₂ compose_turn (op_retain a x z) (op_retain b y (eqb-true y.kind 1 t))
-        together (inl z) false t = ap₂ compose_turn (op_retain a x z) (op_delete b y (eqb_false y.kind 1 t) u)
+        together (inl z) false t = ap₂ compose_turn (op_retain a x z) (op_delete b y (eqb-false y.kind 1 t) u)
         together (inr z) true t = ap₂ compose_turn (op_insert a x z) (op_retain b y (eqb-true y.kind 1 t))
-        together (inr z) false t = ap₂ compose_turn (op_insert a x z) (op_delete b y (eqb_false y.kind 1 t) u)
+        together (inr z) false t = ap₂ compose_turn (op_insert a x z) (op_delete b y (eqb-false y.kind 1 t) u)
 
 pub ruleset Choose = (choose_delete, choose_insert, choose_second, choose_first, choose_both)
 
@@ -87,14 +87,14 @@ module _ (a b : List ℕ) (x y : Front) (c : Chooses compose_turn a b x y Togeth
     where
       go : (t : Bool) → eqb x.kind 2 ≡ t → x.kind ≡ 2
       go true e = eqb-true x.kind 2 e
-      go false e = absurd (first_not_together (sym (ap (λ o. compose_turn o (front_op b y)) (op_delete a x z (eqb_false x.kind 2 e))) ∙ turn_is))
+      go false e = absurd (first_not_together (sym (ap (λ o. compose_turn o (front_op b y)) (op_delete a x z (eqb-false x.kind 2 e))) ∙ turn_is))
 
   pub first_retains : (x.kind ≡ 2 → ⊥) → x.kind ≡ 1
   first_retains z = go (eqb x.kind 1) refl
     where
       go : (t : Bool) → eqb x.kind 1 ≡ t → x.kind ≡ 1
       go true e = eqb-true x.kind 1 e
-      go false e = absurd (z (first_inserts (eqb_false x.kind 1 e)))
+      go false e = absurd (z (first_inserts (eqb-false x.kind 1 e)))
 
   -- what goes together with the first's is no insert
   second_keeps : y.kind ≡ 2 → ⊥
@@ -102,7 +102,7 @@ module _ (a b : List ℕ) (x y : Front) (c : Chooses compose_turn a b x y Togeth
     where
       go : (t : Bool) → eqb x.kind 1 ≡ t → ⊥
       go true t = second_not_together (sym (ap₂ compose_turn (op_retain a x (eqb-true x.kind 1 t)) (op_insert b y e)) ∙ turn_is)
-      go false t = second_not_together (sym (ap₂ compose_turn (op_insert a x (first_inserts (eqb_false x.kind 1 t))) (op_insert b y e)) ∙ turn_is)
+      go false t = second_not_together (sym (ap₂ compose_turn (op_insert a x (first_inserts (eqb-false x.kind 1 t))) (op_insert b y e)) ∙ turn_is)
 
   pub second_deletes : Stands b y → (y.kind ≡ 1 → ⊥) → y.kind ≡ 3
   second_deletes s z = let n = second_keeps in omega (arith, within_bounds 0 3 y.kind s.known, c.chosen.1.0)

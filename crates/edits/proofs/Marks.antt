@@ -183,6 +183,7 @@ module _ {C : Type 0} where
 
   marked_gone : (n : ℕ) (ms ns : List Bool) (t : List C) → Within ms (replicate n false ++ ns) → marked ms t ≡ marked (drop n ms) (drop n t)
   marked_gone zero ms ns t w = refl
+  marked_gone (suc n) [] ns t w = elim w [ ]
   marked_gone (suc n) (true ∷ ms) ns t (more f w) = absurd (f tt)
   marked_gone (suc n) (false ∷ ms) ns [] (more f w) = sym (marked_none (drop n ms))
   marked_gone (suc n) (false ∷ ms) ns (c ∷ t) (more f w) = marked_gone n ms ns t w
@@ -195,6 +196,7 @@ module _ {C : Type 0} where
   pub marked_carry : (s : List (Op C)) (ms : List Bool) (t : List C) → length t ≡ length ms → Within ms (stays s)
       → marked (carry false s ms) (apply s t) ≡ marked ms t
   marked_carry [] [] t e none = refl
+  marked_carry [] (_ ∷ _) t e w = elim w [ ]
   marked_carry (retain n ∷ s) ms t e w =
       marked_append (take n ms) _ (take n t) _ (simp length-take (omega arith))
       ∙ ap (λ l. marked (take n ms) (take n t) ++ l) (marked_carry s (drop n ms) (drop n t) (simp length-drop (omega arith)) (within_rest n true ms (stays s) w))

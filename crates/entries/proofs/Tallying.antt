@@ -3,7 +3,7 @@ use Rattle.std.specs.Prelude.{◌≡◌, ℕ, zero, suc, ◌+◌, ◌-◌, ◌<�
 use native.Mathlib.Nat.{add-zero, zero-add}
 use native.Mathlib.Omega.{arith}
 use mathlib.Core.Path.{refl, sym, ap, ◌∙◌, ap₂}
-use borrow.Author.Tests.{eq-eqb, ne_eqb, le-leb, eqb-true, eqb_false}
+use borrow.Author.Tests.{eq-eqb, ne_eqb, le-leb, eqb-true, eqb-false}
 use native.Mathlib.Numerals.{add-one}
 use mathlib.Core.Logic.{inl, inr}
 use lib.Seq.{take-add}
@@ -77,7 +77,7 @@ module _ (k n : ℕ) where
     where
       unknown : (c : Bool) → eqb k 0 ≡ c → sound_entry (entry k n) ≡ false
       unknown true e = sym (sound_low (eqb-true k 0 e))
-      unknown false e = sym (sound_high (omega (arith, eqb_false k 0 e)))
+      unknown false e = sym (sound_high (omega (arith, eqb-false k 0 e)))
 
 pub picked_le : (b : Bool) (n : ℕ) → picked b n ≤ n
 picked_le true n = omega arith

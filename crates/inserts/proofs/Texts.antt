@@ -4,7 +4,7 @@ use mathlib.Core.Path.{refl, sym, ap, ap₂, ◌∙◌}
 use mathlib.Core.Bool.{and-true, and-false}
 use lib.Dec.{leb→le}
 use lib.ListN.{length-drop}
-use borrow.Author.Tests.{not-true, eqb-true, eqb_false, eq-eqb, ne_eqb, leb-true, leb-false, not-false}
+use borrow.Author.Tests.{not-true, eqb-true, eqb-false, eq-eqb, ne_eqb, leb-true, leb-false, not-false}
 use native.Mathlib.Omega.{arith}
 use lib.Seq.{take-add, length-take-le, drop-drop, get_or-drop}
 use mathlib.Core.Logic.{inl, inr}
@@ -142,7 +142,7 @@ reach r s (suc k) h = go (eqb (kind_at r k) 2) refl (reach r s k (omega arith))
   where
     go : (b : Bool) → eqb (kind_at r k) 2 ≡ b → Reach r k → Reach r (suc k)
     go true e g = record { at = g.at + count_at r k; reached = rw (← add-one k) (reached_insert r (op_count_of r) k g.at (kind_at r k) h refl g.reached refl (count_at r k) refl (eqb-true (kind_at r k) 2 e)) }
-    go false e g = record { at = g.at; reached = rw (← add-one k) (reached_other r (op_count_of r) k g.at (kind_at r k) h refl g.reached refl (eqb_false (kind_at r k) 2 e)) }
+    go false e g = record { at = g.at; reached = rw (← add-one k) (reached_other r (op_count_of r) k g.at (kind_at r k) h refl g.reached refl (eqb-false (kind_at r k) 2 e)) }
 
 -- ---- whether inserts begin with a continuation
 

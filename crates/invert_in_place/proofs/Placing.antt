@@ -4,7 +4,7 @@ use Prim.Native.Nat.{zero-le}
 use mathlib.Core.Path.{ap, ◌∙◌, refl, sym}
 use mathlib.Core.List.{append-nil, reverse-reverse}
 use lib.ListN.{length-drop, length-append, length-reverse}
-use borrow.Author.Tests.{le-leb, lt-leb, eqb-true, eqb_false, leb-true, leb-false}
+use borrow.Author.Tests.{le-leb, lt-leb, eqb-true, eqb-false, leb-true, leb-false}
 use native.Mathlib.Omega.{arith}
 use lib.Seq.{length-take-le}
 use Rattle.buffers.specs.InnerOver.{over, bytes16}
@@ -183,13 +183,13 @@ module _ (r : List ℕ) (n k : ℕ) where
       other : (i : k + 1 < op_count_of r) → (kind_at r (k + 1) ≡ 3 → ⊥) → (b : Bool) → eqb (kind_at r (k + 1)) 1 ≡ b → T (next (delete 0) (ops_left r (k + 1) at))
       other i z true u = rw (ap (map in_chars) (left_retain r (k + 1) i at (eqb-true (kind_at r (k + 1)) 1 u))) tt
       other i z false u =
-          let j = eqb_false (kind_at r (k + 1)) 1 u in
+          let j = eqb-false (kind_at r (k + 1)) 1 u in
           let s = sound_next r (k + 1) i p.sound in
           absurd (rw (ap (map in_chars) (left_insert r (k + 1) i at (omega (arith, s.least, s.most)))) at f)
 
       go : (b : Bool) → leb n (k + 1) ≡ b → cond b false (eqb (kind_at r (k + 1)) 3) ≡ false → T (next (delete 0) (ops_left r (k + 1) at))
       go true u d = rw (begins_none r n (k + 1) at e (leb-true n (k + 1) u)) tt
-      go false u d = other (omega (arith, leb-false n (k + 1) u)) (eqb_false (kind_at r (k + 1)) 3 d) (eqb (kind_at r (k + 1)) 1) refl
+      go false u d = other (omega (arith, leb-false n (k + 1) u)) (eqb-false (kind_at r (k + 1)) 3 d) (eqb (kind_at r (k + 1)) 1) refl
 
 -- ---- one step
 

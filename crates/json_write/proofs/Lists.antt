@@ -5,7 +5,7 @@ use native.Mathlib.Omega.{arith}
 use mathlib.Core.Path.{refl, sym, ap, ap₂, ◌∙◌}
 use mathlib.Core.List.{append_assoc}
 use lib.ListN.{length-append, length-set}
-use borrow.Author.Tests.{eq-eqb, ne_eqb, eqb-true, eqb_false, leb-true, leb-false}
+use borrow.Author.Tests.{eq-eqb, ne_eqb, eqb-true, eqb-false, leb-true, leb-false}
 use Rattle.buffers.specs.InnerOver.{over}
 use Rattle.characters.specs.Text.{Char, chars}
 use Rattle.characters.proofs.Texts.{bytes_chars}
@@ -78,7 +78,7 @@ module _ (r : List ℕ) (n k from kind count : ℕ) (e : n ≡ op_count_of r) (p
       go : (a b : Bool) → eqb kind 1 ≡ a → eqb kind 2 ≡ b → Front r k from kind count
       go true b y z = front_retain (eqb-true kind 1 y)
       go false true y z = front_insert (eqb-true kind 2 z)
-      go false false y z = front_delete (eqb_false kind 1 y) (eqb_false kind 2 z)
+      go false false y z = front_delete (eqb-false kind 1 y) (eqb-false kind 2 z)
 
   pub value_inside : from + bytes_of_text kind count ≤ length r
   value_inside = front.inside

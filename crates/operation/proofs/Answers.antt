@@ -3,7 +3,7 @@ use Rattle.std.specs.Prelude.{◌≡◌, ℕ, zero, suc, ◌+◌, ◌-◌, ◌^�
 use native.Mathlib.Omega.{arith}
 use mathlib.Core.Path.{refl, sym, ap, ◌∙◌, ap₂}
 use lib.ListN.{length-take, length-map, get_or-map, get_or-eq_default}
-use borrow.Author.Tests.{eq-eqb, ne_eqb, not-true, not-false, eqb-true, eqb_false, leb-true, leb-false, ltb-true, ltb-false}
+use borrow.Author.Tests.{eq-eqb, ne_eqb, not-true, not-false, eqb-true, eqb-false, leb-true, leb-false, ltb-true, ltb-false}
 use native.Mathlib.Nat.{add-zero}
 use lib.Seq.{get_or-drop}
 use Rattle.buffers.specs.Lists.{all_of}
@@ -324,11 +324,11 @@ module _ (r : List ℕ) (f : Fact) (p : fact_of f ≡ check_call r) where
             go false e = other (eqb kind 2) refl
               where
                 no : kind_at r 0 ≡ 1 → ⊥
-                no y = eqb_false kind 1 e (pk ∙ y)
+                no y = eqb-false kind 1 e (pk ∙ y)
 
                 other : (b : Bool) → eqb kind 2 ≡ b → noop_of (noop.Is false) ≡ noop_call r
                 other true g = one _ 0 _ (left_insert r 0 (omega arith) _ (sym pk ∙ eqb-true kind 2 g)) refl
-                other false g = one _ 0 _ (left_delete r 0 (omega arith) _ no (λ y. eqb_false kind 2 g (pk ∙ y))) refl
+                other false g = one _ 0 _ (left_delete r 0 (omega arith) _ no (λ y. eqb-false kind 2 g (pk ∙ y))) refl
 
     -- ---- the text of operation k
 
@@ -358,7 +358,7 @@ module _ (r : List ℕ) (f : Fact) (p : fact_of f ≡ check_call r) where
 
             go : (b : Bool) → eqb kind 1 ≡ b → [] ≡ text_call r k
             go true e = at_front g.at _ _ g.reached (left_retain r k (omega arith) g.at (sym pk ∙ eqb-true kind 1 e))
-            go false e = at_front g.at _ _ g.reached (left_delete r k (omega arith) g.at (λ y. eqb_false kind 1 e (pk ∙ y)) (λ y. z (pk ∙ y)))
+            go false e = at_front g.at _ _ g.reached (left_delete r k (omega arith) g.at (λ y. eqb-false kind 1 e (pk ∙ y)) (λ y. z (pk ∙ y)))
 
         module _ (from count : ℕ) (z : kind ≡ 2) (g : Reached r k from) (pc : count ≡ count_at r k) where
           pub text_room : from + count ≤ length r
@@ -405,7 +405,7 @@ module _ (r : List ℕ) (k : ℕ) (h : 0 < length (text_call r k)) where
     where
       go : (b : Bool) → eqb (kind_at r k) 2 ≡ b → kind_at r k ≡ 2
       go true e = eqb-true (kind_at r k) 2 e
-      go false e = absurd (omega (arith, ap length (text_other r (fact.Is (size_of r)) checked (size_of r) refl (op_count_of r) k refl text_index (kind_at r k) refl (eqb_false (kind_at r k) 2 e))))
+      go false e = absurd (omega (arith, ap length (text_other r (fact.Is (size_of r)) checked (size_of r) refl (op_count_of r) k refl text_index (kind_at r k) refl (eqb-false (kind_at r k) 2 e))))
 
   reached : Reach r k
   reached = reach r (no_fault r text_passed) k (omega (arith, text_index))

@@ -5,7 +5,7 @@ use mathlib.Core.Path.{◌≡◌, refl, sym, ap, ◌∙◌}
 use mathlib.Core.Bool.{and_comm, Bool, true, false, ◌&&◌}
 use lib.Dec.{leb, eqb}
 use lib.ListN.{length}
-use borrow.Author.Tests.{eqb-true, eqb_false, eq-eqb, ne_eqb}
+use borrow.Author.Tests.{eqb-true, eqb-false, eq-eqb, ne_eqb}
 use Rattle.buffers.specs.Buffers.{put_at_front}
 use Rattle.characters.specs.Order.{order}
 use Rattle.edits.specs.Transform.{keep_both, transform}
@@ -40,7 +40,7 @@ eqb_comm m n = go (eqb n m) refl
   where
     go : (t : Bool) → eqb n m ≡ t → eqb m n ≡ t
     go true e = eq-eqb m n (sym (eqb-true n m e))
-    go false e = ne_eqb m n (λ p. eqb_false n m e (sym p))
+    go false e = ne_eqb m n (λ p. eqb-false n m e (sym p))
 
 -- two records that can be read: the same answer, its two numbers and its outputs exchanged
 pub call_swaps : (a b x y : List ℕ) → record_fault a ≡ 0 → record_fault b ≡ 0 → transform_call b a y x ≡ exchanged (transform_call a b x y)

@@ -5,7 +5,7 @@ use native.Mathlib.Nat.{sub-zero, zero-add}
 use native.Mathlib.Omega.{arith}
 use mathlib.Core.Path.{ap, ◌∙◌, refl, sym, ap₂}
 use lib.ListN.{length-take, length-drop, length-append}
-use borrow.Author.Tests.{eq-eqb, ne_eqb, eqb-true, eqb_false}
+use borrow.Author.Tests.{eq-eqb, ne_eqb, eqb-true, eqb-false}
 use lib.Seq.{length-take-le, take_all, take-take, drop-drop, take_at, drop_at}
 use Rattle.buffers.specs.Lists.{concat}
 use Rattle.buffers.proofs.Tests.{both, holds}
@@ -95,7 +95,7 @@ module _ (r : List ℕ) (f : Front) where
       go : (a b : Bool) → eqb f.kind 1 ≡ a → eqb f.kind 2 ≡ b → Kinds
       go true b p q = let e = eqb-true f.kind 1 p in retains e (op_retain e)
       go false true p q = let e = eqb-true f.kind 2 q in inserts e (op_insert e)
-      go false false p q = let d = eqb_false f.kind 1 p in let e = eqb_false f.kind 2 q in deletes d e (op_delete d e)
+      go false false p q = let d = eqb-false f.kind 1 p in let e = eqb-false f.kind 2 q in deletes d e (op_delete d e)
 
 module _ (r : List ℕ) (f : Front) (s : Stands r f) where
   text_length : f.kind ≡ 2 → length (chars (front_text r f)) ≡ f.left
@@ -212,7 +212,7 @@ module _ (r : List ℕ) (n k at kind count : ℕ) (e : n ≡ op_count_of r) (p :
 
         go : (b : Bool) → eqb kind 1 ≡ b → Loads r k at f
         go true y = let d = eqb-true kind 1 y in other (retain count) (retain_begins d) f refl (op_retain r f d)
-        go false y = let d = eqb_false kind 1 y in other (delete count) (delete_begins d) f refl (op_delete r f d z)
+        go false y = let d = eqb-false kind 1 y in other (delete count) (delete_begins d) f refl (op_delete r f d z)
 
   pub begins_retain : kind ≡ 1 → Begins r k at (retain count) at
   begins_retain d = retain_begins (λ z. absurd (omega arith)) d
@@ -320,7 +320,7 @@ module _ (r : List ℕ) (f : Front) (s : Stands r f) (k : ℕ) where
                 ∙ sym (second_part e);
           }
       go false t =
-          let z = eqb_false f.kind 2 t in
+          let z = eqb-false f.kind 2 t in
           let n = s.none z in
           let i : mid - f.from ≡ 0 = omega arith in
           let j : f.to - mid ≡ 0 = omega arith in
@@ -353,7 +353,7 @@ module _ (r : List ℕ) (f : Front) (s : Stands r f) (k : ℕ) where
       where
         go : (t : Bool) → eqb f.kind 2 ≡ t → f.kind ≡ 2
         go true t = eqb-true f.kind 2 t
-        go false t = absurd (ne (s.none (eqb_false f.kind 2 t)))
+        go false t = absurd (ne (s.none (eqb-false f.kind 2 t)))
 
     pub skip_well : T (is_well_formed (drop 0 (front_text r f)))
     skip_well = (s.text has_text).0

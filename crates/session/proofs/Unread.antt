@@ -62,7 +62,7 @@ readable_same (link {n = n} {l = l} a c) len =
 lengths_same : {n : ℕ} {l m : List ℕ} → Chain n l m → (r len : ℕ) → r ≤ n → length_in r len l ≡ length_in r len m
 lengths_same c zero len h = refl
 lengths_same end (suc r) len h = absurd (omega arith)
-lengths_same (link {n = n} {l = l} a c) (suc r) len h = ap (λ k. length_in r k (drop (size_of l) l)) a.targets ∙ lengths_same c r _ (omega arith)
+lengths_same (link {n = n} {l = l} a c) (suc r) len h = ap (λ k. length_in r k (drop (size_of l) l)) a.targets ∙ lengths_same {n = n} c r _ (omega arith)
 
 -- ---- logs
 

@@ -5,7 +5,7 @@ use mathlib.Core.Path.{sym, ap, refl, ◌∙◌, ap₂}
 use lib.ListN.{length-drop}
 use lib.Seq.{take_all, drop-drop, drop-length}
 use native.Mathlib.Numerals.{add-one}
-use borrow.Author.Tests.{ne_eqb, eq-eqb, le-leb, lt-leb, eqb-true, eqb_false}
+use borrow.Author.Tests.{ne_eqb, eq-eqb, le-leb, lt-leb, eqb-true, eqb-false}
 use native.Mathlib.Nat.{sub-zero}
 use Rattle.buffers.proofs.Tests.{eq_and, le_and, known}
 use Rattle.answers.specs.declared.Refusal.{Refusal}
@@ -273,14 +273,14 @@ module _ (l : List ℕ) (r n k : ℕ) (here mark : Spot) (e : n ≡ count_of l) 
       where
         go : (b : Bool) → eqb k r ≡ b → m.at ≡ place_of r l
         go true z = let v : m ≡ here = w ∙ rw z in ap (λ s. s.at) v ∙ p.place ∙ ap (λ i. place_of i l) (eqb-true k r z)
-        go false z = let d = eqb_false k r z in let v : m ≡ mark = w ∙ rw z in ap (λ s. s.at) v ∙ p.mark_at (omega arith)
+        go false z = let d = eqb-false k r z in let v : m ≡ mark = w ∙ rw z in ap (λ s. s.at) v ∙ p.mark_at (omega arith)
 
     marked_len : r < k + 1 → m.len ≡ length_at r l
     marked_len h = go (eqb k r) refl
       where
         go : (b : Bool) → eqb k r ≡ b → m.len ≡ length_at r l
         go true z = let v : m ≡ here = w ∙ rw z in ap (λ s. s.len) v ∙ p.len ∙ ap (λ i. length_at i l) (eqb-true k r z)
-        go false z = let d = eqb_false k r z in let v : m ≡ mark = w ∙ rw z in ap (λ s. s.len) v ∙ p.mark_len (omega arith)
+        go false z = let d = eqb-false k r z in let v : m ≡ mark = w ∙ rw z in ap (λ s. s.len) v ∙ p.mark_len (omega arith)
 
     passes : k < n → (q : Spot) → Past l here q → Passing l r (k + 1) q m
     unfolding readable_from

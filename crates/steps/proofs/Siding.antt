@@ -4,7 +4,7 @@ use mathlib.Core.Path.{refl, sym, ap, ap₂, ◌∙◌}
 use native.Mathlib.Omega.{arith}
 use mathlib.Core.Logic.{inl, inr}
 use mathlib.Core.Bool.{false≢true}
-use borrow.Author.Tests.{eq-eqb, eqb_false, ne_eqb, eqb-true}
+use borrow.Author.Tests.{eq-eqb, eqb-false, ne_eqb, eqb-true}
 use lib.Seq.{length-take-le}
 use Rattle.characters.specs.Text.{Char, chars}
 use Rattle.characters.specs.Order.{order, byte_order}
@@ -54,7 +54,7 @@ module _ (a b : List ℕ) (x y : Front) where
     where
       go : (t : Bool) → eqb y.kind 0 ≡ t → not t ≡ true → 0 < y.kind
       go true p h = absurd (false≢true h)
-      go false p h = let n = eqb_false y.kind 0 p in omega arith
+      go false p h = let n = eqb-false y.kind 0 p in omega arith
 
   module _ (p : x.kind ≡ 0 → ⊥) where
     pub chosen_other : y.kind ≡ 0 → Chooses (transform_turn order) a b x y First
@@ -118,7 +118,7 @@ gives_is r f s = go (kinds r f)
       where
         three : (t : Bool) → eqb f.kind 3 ≡ t → cond t 0 f.left ≡ 0
         three true u = refl
-        three false u = s.ended (let n = eqb_false f.kind 3 u in omega (arith, within_bounds 0 3 f.kind s.known))
+        three false u = s.ended (let n = eqb-false f.kind 3 u in omega (arith, within_bounds 0 3 f.kind s.known))
 
 -- ---- as many characters of both
 
@@ -169,7 +169,7 @@ module _ (a b : List ℕ) (x y : Front) (sx : Stands a x) (sy : Stands b y) (c :
 
       go : (t : Bool) → eqb y.kind 2 ≡ t → y.kind ≡ 2
       go true t = eqb-true y.kind 2 t
-      go false t = no (no_insert b y (eqb_false y.kind 2 t))
+      go false t = no (no_insert b y (eqb-false y.kind 2 t))
         where
           no : NoInsert b y → y.kind ≡ 2
           no (keeps w) = absurd (let z : ◌≡◌ {A = ℕ} 0 1 = cc (first_not w refl) in omega arith)
@@ -183,7 +183,7 @@ module _ (a b : List ℕ) (x y : Front) (sx : Stands a x) (sy : Stands b y) (c :
 
       go : (t : Bool) → eqb x.kind 2 ≡ t → x.kind ≡ 2
       go true t = eqb-true x.kind 2 t
-      go false t = no (no_insert a x (eqb_false x.kind 2 t))
+      go false t = no (no_insert a x (eqb-false x.kind 2 t))
         where
           no : NoInsert a x → x.kind ≡ 2
           no (keeps w) = absurd (let z : ◌≡◌ {A = ℕ} 0 1 = cc (second_not w refl) in omega arith)
@@ -194,14 +194,14 @@ module _ (a b : List ℕ) (x y : Front) (sx : Stands a x) (sy : Stands b y) (c :
     where
       go : (t : Bool) → eqb x.kind 2 ≡ t → Cut a x k x.to
       go true t = let e = eqb-true x.kind 2 t in cut_all a x sx k (omega (arith, equal_left e (insert_both e)))
-      go false t = cut_none a x sx k (sx.none (eqb_false x.kind 2 t))
+      go false t = cut_none a x sx k (sx.none (eqb-false x.kind 2 t))
 
   pub uncut_y : Cut b y k y.to
   uncut_y = go (eqb y.kind 2) refl
     where
       go : (t : Bool) → eqb y.kind 2 ≡ t → Cut b y k y.to
       go true t = let e = eqb-true y.kind 2 t in cut_all b y sy k (omega (arith, equal_left (both_insert e) e))
-      go false t = cut_none b y sy k (sy.none (eqb_false y.kind 2 t))
+      go false t = cut_none b y sy k (sy.none (eqb-false y.kind 2 t))
 
   pub both_some : 0 < k
   both_some = omega (arith, sx.some c.chosen.0, sy.some c.chosen.1.0)

@@ -2,7 +2,7 @@
 use Rattle.std.specs.Prelude.{◌≡◌, ℕ, zero, suc, ◌+◌, ◌-◌, ◌<◌, ◌≤◌, min, Bool, true, false, not, ◌&&◌, eqb, leb, ◌⊎◌, List, ◌∷◌, length}
 use mathlib.Core.Path.{refl, sym, ◌∙◌, ap, ap₂}
 use mathlib.Core.Bool.{false≢true}
-use borrow.Author.Tests.{eq-eqb, ne_eqb, eqb-true, eqb_false, leb-true, leb-false}
+use borrow.Author.Tests.{eq-eqb, ne_eqb, eqb-true, eqb-false, leb-true, leb-false}
 use native.Mathlib.Omega.{arith}
 use mathlib.Core.Logic.{inl, inr}
 use Rattle.characters.specs.Text.{Char}
@@ -91,9 +91,9 @@ module _ (turn : Op Char → Op Char → align.Turn) (a b : List ℕ) (x y : Fro
           go : (z : Bool) → eqb y.kind 0 ≡ z → ((y.kind ≡ 0) ⊎ (turn (front_op a x) (front_op b y) ≡ align.first))
               → running turn g acc (front_op a x ∷ behind a x) (ahead b y) ≡ running turn g (add_all acc (g (one (front_op a x)))) (behind a x) (ahead b y)
           go true z d = rw (ended_ahead b y sy (eqb-true y.kind 0 z)) (run_one turn g acc (front_op a x) (behind a x))
-          go false z (inl d) = absurd (eqb_false y.kind 0 z d)
+          go false z (inl d) = absurd (eqb-false y.kind 0 z d)
           go false z (inr d) =
-              let ne = eqb_false y.kind 0 z in
+              let ne = eqb-false y.kind 0 z in
               rw (live_ahead b y sy (omega arith))
               (run_both turn g acc (front_op a x) (front_op b y) (behind a x) (behind b y) ∙ ap (λ w. let s = step w (front_op a x) (front_op b y) (behind a x) (behind b y) in running turn g (add_all acc (g s.0)) s.1 s.2) d)
 
@@ -115,9 +115,9 @@ module _ (turn : Op Char → Op Char → align.Turn) (a b : List ℕ) (x y : Fro
           go : (z : Bool) → eqb x.kind 0 ≡ z → ((x.kind ≡ 0) ⊎ (turn (front_op a x) (front_op b y) ≡ align.second))
               → running turn g acc (ahead a x) (front_op b y ∷ behind b y) ≡ running turn g (add_all acc (g (two (front_op b y)))) (ahead a x) (behind b y)
           go true z d = rw (ended_ahead a x sx (eqb-true x.kind 0 z)) (run_two turn g acc (front_op b y) (behind b y))
-          go false z (inl d) = absurd (eqb_false x.kind 0 z d)
+          go false z (inl d) = absurd (eqb-false x.kind 0 z d)
           go false z (inr d) =
-              let ne = eqb_false x.kind 0 z in
+              let ne = eqb-false x.kind 0 z in
               rw (live_ahead a x sx (omega arith))
               (run_both turn g acc (front_op a x) (front_op b y) (behind a x) (behind b y) ∙ ap (λ w. let s = step w (front_op a x) (front_op b y) (behind a x) (behind b y) in running turn g (add_all acc (g s.0)) s.1 s.2) d)
 

@@ -3,7 +3,7 @@ use Rattle.std.specs.Prelude.{◌≡◌, ℕ, zero, suc, ◌+◌, ◌-◌, ◌*�
 use native.Mathlib.Omega.{arith}
 use mathlib.Core.Path.{refl, sym, ap, ◌∙◌, ap₂}
 use mathlib.Core.Bool.{and-false}
-use borrow.Author.Tests.{eq-eqb, ne_eqb, le-leb, eqb-true, eqb_false}
+use borrow.Author.Tests.{eq-eqb, ne_eqb, le-leb, eqb-true, eqb-false}
 use Rattle.characters.specs.Form.{within}
 use Rattle.record.specs.Record.{sound_entry, Entry, entry_at}
 use Rattle.record.specs.Layout.{kind_at, count_at}
@@ -91,7 +91,7 @@ stray_none k n = go (eqb n 0) (eqb k 2) (eqb k 1) (eqb k 3) refl refl refl refl
   where
     other : (k ≡ 2 → ⊥) → (k ≡ 1 → ⊥) → (k ≡ 3 → ⊥) → (z : Bool) → eqb k 0 ≡ z → false ≡ sound_entry (entry k n)
     other p q s true h = sound_low k n (eqb-true k 0 h)
-    other p q s false h = sound_high k n (omega (arith, eqb_false k 0 h))
+    other p q s false h = sound_high k n (omega (arith, eqb-false k 0 h))
 
     go : (z a b c : Bool) → eqb n 0 ≡ z → eqb k 2 ≡ a → eqb k 1 ≡ b → eqb k 3 ≡ c → eqb (picked z 1 + (n - (picked a n + picked b n + picked c n))) 0 ≡ eqb (invalid (entry k n)) 0
     go true a b c y p q s =
@@ -99,16 +99,16 @@ stray_none k n = go (eqb n 0) (eqb k 2) (eqb k 1) (eqb k 3) refl refl refl refl
         ∙ invalid_none_is k n false (sym (ap (λ m. within 1 3 k && leb 1 m) (eqb-true n 0 y) ∙ and-false (within 1 3 k)))
     go false true b c y p q s =
         eq-eqb (0 + (n - (n + picked b n + picked c n))) 0 (omega arith)
-        ∙ invalid_none_is k n true (kind_sound k n (omega (arith, eqb-true k 2 p)) (omega (arith, eqb-true k 2 p)) (omega (arith, eqb_false n 0 y)))
+        ∙ invalid_none_is k n true (kind_sound k n (omega (arith, eqb-true k 2 p)) (omega (arith, eqb-true k 2 p)) (omega (arith, eqb-false n 0 y)))
     go false false true c y p q s =
         eq-eqb (0 + (n - (0 + n + picked c n))) 0 (omega arith)
-        ∙ invalid_none_is k n true (kind_sound k n (omega (arith, eqb-true k 1 q)) (omega (arith, eqb-true k 1 q)) (omega (arith, eqb_false n 0 y)))
+        ∙ invalid_none_is k n true (kind_sound k n (omega (arith, eqb-true k 1 q)) (omega (arith, eqb-true k 1 q)) (omega (arith, eqb-false n 0 y)))
     go false false false true y p q s =
         eq-eqb (0 + (n - (0 + 0 + n))) 0 (omega arith)
-        ∙ invalid_none_is k n true (kind_sound k n (omega (arith, eqb-true k 3 s)) (omega (arith, eqb-true k 3 s)) (omega (arith, eqb_false n 0 y)))
+        ∙ invalid_none_is k n true (kind_sound k n (omega (arith, eqb-true k 3 s)) (omega (arith, eqb-true k 3 s)) (omega (arith, eqb-false n 0 y)))
     go false false false false y p q s =
-        ne_eqb (0 + (n - (0 + 0 + 0))) 0 (λ z. absurd (omega (arith, eqb_false n 0 y)))
-        ∙ invalid_none_is k n false (other (eqb_false k 2 p) (eqb_false k 1 q) (eqb_false k 3 s) (eqb k 0) refl)
+        ne_eqb (0 + (n - (0 + 0 + 0))) 0 (λ z. absurd (omega (arith, eqb-false n 0 y)))
+        ∙ invalid_none_is k n false (other (eqb-false k 2 p) (eqb-false k 1 q) (eqb-false k 3 s) (eqb k 0) refl)
 
 module _ (r : List ℕ) where
   parts_sum : (i n : ℕ)

@@ -19,11 +19,11 @@ deleted-requires c = (search passed, search rules)
 pub returns-in-Refused : goal.returns-in-Refused
 unfolding delete_call
 returns-in-Refused c = let a = c.args in
-    let w : Gives (delete_call a.rec.now a.n a.out.now) (written.Refused c.y-1.given.0.0) a.out.now = search (record_refused) in
+    let w : Gives (delete_call a.rec.now a.n a.out.now) (written.Refused c.in-Refused.y) a.out.now = search (record_refused) in
     (w.answer, w.out)
 
 pub returns-else-n-gt-LIMIT : goal.returns-else-n-gt-LIMIT
 unfolding delete_call
 returns-else-n-gt-LIMIT c = let a = c.args in
-    let w : Gives (delete_call a.rec.now a.n a.out.now) c.deleted.result c.deleted.new.1.1.0 = search (passed, record_passed) in
+    let w : Gives (delete_call a.rec.now a.n a.out.now) c.deleted.result c.deleted.new.out = search (passed, record_passed) in
     (w.answer, w.out)

@@ -27,11 +27,11 @@ inserted-requires c = (search passed, search form_holds, search form_num, search
 pub returns-in-Refused : goal.returns-in-Refused
 unfolding insert_call
 returns-in-Refused c = let a = c.args in
-    let w : Gives (insert_call a.rec.now a.text.now a.out.now) (written.Refused c.y-1.given.0.0) a.out.now = search (text_refused) in
+    let w : Gives (insert_call a.rec.now a.text.now a.out.now) (written.Refused c.in-Refused.y) a.out.now = search (text_refused) in
     (w.answer, w.out)
 
 pub returns-else-text-gt-MAX_SIZE : goal.returns-else-text-gt-MAX_SIZE
 unfolding insert_call
 returns-else-text-gt-MAX_SIZE c = let a = c.args in
-    let w : Gives (insert_call a.rec.now a.text.now a.out.now) c.inserted.result c.inserted.new.1.1.1.0 = search (passed, text_passed, form_holds) in
+    let w : Gives (insert_call a.rec.now a.text.now a.out.now) c.inserted.result c.inserted.new.out = search (passed, text_passed, form_holds) in
     (w.answer, w.out)

@@ -19,11 +19,11 @@ retained-requires c = (search passed, search rules)
 pub returns-in-Refused : goal.returns-in-Refused
 unfolding retain_call
 returns-in-Refused c = let a = c.args in
-    let w : Gives (retain_call a.rec.now a.n a.out.now) (written.Refused c.y-1.given.0.0) a.out.now = search (record_refused) in
+    let w : Gives (retain_call a.rec.now a.n a.out.now) (written.Refused c.in-Refused.y) a.out.now = search (record_refused) in
     (w.answer, w.out)
 
 pub returns-else-n-gt-LIMIT : goal.returns-else-n-gt-LIMIT
 unfolding retain_call
 returns-else-n-gt-LIMIT c = let a = c.args in
-    let w : Gives (retain_call a.rec.now a.n a.out.now) c.retained.result c.retained.new.1.1.0 = search (passed, record_passed) in
+    let w : Gives (retain_call a.rec.now a.n a.out.now) c.retained.result c.retained.new.out = search (passed, record_passed) in
     (w.answer, w.out)

@@ -10,5 +10,5 @@ composed_with-requires c = search passed
 
 pub returns-in-Refused : goal.returns-in-Refused
 returns-in-Refused c = let a = c.args in
-    let w : Gives (compose_call a.a.now a.b.now a.out.now) (Refused c.x-1.given.0.0) a.out.now = search composes_first in
+    let w : Gives (compose_call a.a.now a.b.now a.out.now) (Refused c.in-Refused.x) a.out.now = search composes_first in
     (w.answer, w.out)

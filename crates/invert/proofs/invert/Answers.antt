@@ -25,10 +25,11 @@ inverted-requires c = (search passed, search form_holds, search agree)
 
 pub returns-in-Refused : goal.returns-in-Refused
 returns-in-Refused c = let a = c.args in
-    let w : Gives (invert_call a.rec.now a.text.now a.out.now) (Refused c.x-1.given.0.0) a.out.now = search invert_refused in
+    let w : Gives (invert_call a.rec.now a.text.now a.out.now) (Refused c.in-Refused.x) a.out.now = search invert_refused in
     (w.answer, w.out)
 
 pub returns-else-chars-base : goal.returns-else-chars-base
-returns-else-chars-base c = let a = c.before.before.before.before.before.before.before.before.before.before.before.before.before.before.before.before.args in let r = c.inverted in
-    let w : Gives (invert_call a.rec.now a.text.now a.out.now) r.result r.new.1.1.0 = search invert_0 in
+returns-else-chars-base c = let a = c.args in
+    let r = c.inverted in
+    let w : Gives (invert_call a.rec.now a.text.now a.out.now) r.result r.new.out = search invert_0 in
     (w.answer, w.out)

@@ -1,6 +1,8 @@
-use Rattle.std.specs.Prelude.{◌-◌}
+use Rattle.characters.specs.InnerPassed.{Passed}
+use Rattle.std.specs.Prelude.{◌+◌, ◌-◌}
 use native.Mathlib.Omega.{arith}
 use Rattle.characters.proofs.Passed.{passed_one, lead_bad, lead_few, not_due, passed_all}
+use Rattle.characters.proofs.Passed.{past_due}
 use borrow.Author.Rules.{rules}
 use Rattle.utf8.proofs.finish.Goals as goal
 
@@ -16,19 +18,17 @@ due-requires c = (search rules, search lead_few)
 pub returns-then-not-due : goal.returns-then-not-due
 returns-then-not-due c = search not_due
 
--- a character is passed
-
 pub overflow_add-i-else-b-lt128 : goal.overflow_add-i-else-b-lt128
-overflow_add-i-else-b-lt128 c = let h = past c in omega arith
+overflow_add-i-else-b-lt128 c = let h : Passed c.args.text.now (c.loop-i.i + 1 + c.in-Of.more) (c.loop-i.conts + c.in-Of.more) = search past_due in omega arith
 
 pub overflow_add-conts : goal.overflow_add-conts
-overflow_add-conts c = let h = past c in omega arith
+overflow_add-conts c = let h : Passed c.args.text.now (c.loop-i.i + 1 + c.in-Of.more) (c.loop-i.conts + c.in-Of.more) = search past_due in omega arith
 
 pub loop-i-smaller : goal.loop-i-smaller
-loop-i-smaller c = let h = past c in omega arith
+loop-i-smaller c = let h : Passed c.args.text.now (c.loop-i.i + 1 + c.in-Of.more) (c.loop-i.conts + c.in-Of.more) = search past_due in omega arith
 
 pub loop-i-preserved : goal.loop-i-preserved
-loop-i-preserved c = past c
+loop-i-preserved c = search past_due
 
 pub returns : goal.returns
 returns c = search passed_all

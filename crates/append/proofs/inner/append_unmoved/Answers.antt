@@ -5,13 +5,10 @@ use Rattle.append.proofs.Appending.{newest_moved, newest_hands}
 use Rattle.append.proofs.inner.append_unmoved.Goals as goal
 
 pub returns-then-not-has_room : goal.returns-then-not-has_room
-returns-then-not-has_room c = let at-has-room = c.before in let at_size = at-has-room.before.before.before in let at-shared-slice-known = at_size.before.before.before in let start = at-shared-slice-known.before in
-    accepts_room _ _ _ _ _ start.requires.0 0 _ (newest_moved start.args.edit.now (λ i. omega (arith, at-shared-slice-known.shared-slice-known.given i)) start.requires.0.fault _ _ start.requires.1) _ at_size.size.ensures.0 _ at-has-room.has_room.ensures c.if-not-has_room.true
+returns-then-not-has_room c = accepts_room _ _ _ _ _ c.requires.0 0 _ (newest_moved c.args.edit.now (λ i. omega (arith, c.type_inv.edit i)) c.requires.0.fault _ _ c.requires.1) _ c.size-size.ensures.0 _ c.has_room.ensures c.if-not-has_room.true-raw
 
 pub append-requires : goal.append-requires
-append-requires c = let at-if1 = c.before in let at-has-room = at-if1.before in let at_size = at-has-room.before.before.before in let start = at_size.before.before.before.before in
-    (start.requires.0.found.count, start.requires.0.found.few, start.requires.0.found.size, log_small _ _ _ start.requires.0.found, at_size.size.ensures.2, room_log _ _ _ _ _ _ at-has-room.has_room.ensures at-if1.if1.false)
+append-requires c = (c.requires.0.found.count, c.requires.0.found.few, c.requires.0.found.size, log_small _ _ _ c.requires.0.found, c.size-size.ensures.2, room_log _ _ _ _ _ _ c.has_room.ensures c.if-not-has_room.false-raw)
 
 pub returns : goal.returns
-returns c = let at-append = c.before.before in let at-if1 = at-append.before.before in let at-has-room = at-if1.before in let at_size = at-has-room.before.before.before in let at-shared-slice-known = at_size.before.before.before in let start = at-shared-slice-known.before in
-    accepts_moved _ _ _ _ _ start.requires.0 0 _ (newest_moved start.args.edit.now (λ i. omega (arith, at-shared-slice-known.shared-slice-known.given i)) start.requires.0.fault _ _ start.requires.1) _ at_size.size.ensures.0 _ at-has-room.has_room.ensures at-if1.if1.false _ _ _ (newest_hands start.args.edit.now (λ i. omega (arith, at-shared-slice-known.shared-slice-known.given i)) start.requires.0.fault _ _ start.requires.1 _) at-append.append.ensures
+returns c = accepts_moved _ _ _ _ _ c.requires.0 0 _ (newest_moved c.args.edit.now (λ i. omega (arith, c.type_inv.edit i)) c.requires.0.fault _ _ c.requires.1) _ c.size-size.ensures.0 _ c.has_room.ensures c.if-not-has_room.false-raw _ _ _ (newest_hands c.args.edit.now (λ i. omega (arith, c.type_inv.edit i)) c.requires.0.fault _ _ c.requires.1 _) c.append.ensures

@@ -11,7 +11,7 @@ pub returns-then-not-eight : goal.returns-then-not-eight
 returns-then-not-eight c = c.loop-i.invariant
 
 pub loop-i-preserved : goal.loop-i-preserved
-loop-i-preserved c = runs_more c.args.text.now c.args.at c.loop-i.i 8 c.loop-i.invariant c.eight.ensures (not-false c.eight.result c.if-not-eight.false) (omega arith)
+loop-i-preserved c = runs_more c.args.text.now c.args.at c.loop-i.i 8 c.loop-i.invariant c.eight.ensures c.if-not-eight.false (omega arith)
 
 pub returns : goal.returns
 returns c = c.loop-i.invariant

@@ -11,7 +11,7 @@ pub returns-then-not-sixty_four : goal.returns-then-not-sixty_four
 returns-then-not-sixty_four c = c.loop-i.invariant
 
 pub loop-i-preserved : goal.loop-i-preserved
-loop-i-preserved c = runs_more c.args.text.now c.args.at c.loop-i.i 64 c.loop-i.invariant c.sixty_four.ensures (not-false c.sixty_four.result c.if-not-sixty_four.false) (omega arith)
+loop-i-preserved c = runs_more c.args.text.now c.args.at c.loop-i.i 64 c.loop-i.invariant c.sixty_four.ensures c.if-not-sixty_four.false (omega arith)
 
 pub returns : goal.returns
 returns c = c.loop-i.invariant

@@ -1,3 +1,4 @@
+use borrow.Author.Rules.{rules}
 use Rattle.characters.specs.InnerBlock.{pending_of}
 use Rattle.block16.proofs.inner.pending.Goals as goal
 

@@ -11,4 +11,4 @@ pub returns-then-not-eight : goal.returns-then-not-eight
 returns-then-not-eight c = search only_not
 
 pub returns : goal.returns
-returns c = only_none _ _ c.pending.ensures.0 (λ z. (runs_last _ _ _ (omega arith) refl (omega arith) (omega arith) c.eight.ensures c.if-not-eight.false, z))
+returns c = only_none _ _ c.pending.ensures.0 (λ z. (runs_last _ _ _ (omega arith) refl (omega arith) (omega arith) c.eight.ensures c.if-not-eight.false-raw, z))

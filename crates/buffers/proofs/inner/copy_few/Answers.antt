@@ -5,11 +5,11 @@ use Rattle.buffers.proofs.inner.copy_few.Goals as goal
 
 pub returns-then-n-ge4 : goal.returns-then-n-ge4
 returns-then-n-ge4 c = let a = c.args in
-    two_moves 4 a.dst.now a.at a.src.now c.four.new.0 c.four-then-n-ge4.new.0 (omega arith) (omega arith) (omega arith) c.four.ensures c.four-then-n-ge4.ensures
+    two_moves 4 a.dst.now a.at a.src.now c.four.new.dst c.four-then-n-ge4.new.dst (omega arith) (omega arith) (omega arith) c.four.ensures c.four-then-n-ge4.ensures
 
 pub returns-then-n-ge2 : goal.returns-then-n-ge2
 returns-then-n-ge2 c = let a = c.args in
-    two_moves 2 a.dst.now a.at a.src.now c.two.new.0 c.two-then-n-ge2.new.0 (omega arith) (omega arith) (omega arith) c.two.ensures c.two-then-n-ge2.ensures
+    two_moves 2 a.dst.now a.at a.src.now c.two.new.dst c.two-then-n-ge2.new.dst (omega arith) (omega arith) (omega arith) c.two.ensures c.two-then-n-ge2.ensures
 
 pub returns-then-n-eq1 : goal.returns-then-n-eq1
 returns-then-n-eq1 c = let a = c.args in

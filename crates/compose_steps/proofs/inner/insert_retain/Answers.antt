@@ -5,16 +5,14 @@ use borrow.Author.Rules.{rules}
 use Rattle.compose_steps.proofs.inner.insert_retain.Goals as goal
 
 pub text_of_first-f-requires : goal.text_of_first-f-requires
-text_of_first-f-requires c = let start = c.before.before.before.before.before.before.before.before.before in let k = c.lesser-k.ensures in
-    (start.requires.1.slots_few, start.requires.1.stands_x, start.requires.3, both_some _ _ _ _ _ start.requires.2 start.requires.1.stands_x start.requires.1.stands_y k, omega (arith, k), c.cut-mid.ensures, under_more _ _ _ (omega arith) start.requires.1.under)
+text_of_first-f-requires c = let k = c.lesser-k.ensures in
+    (c.requires.1.slots_few, c.requires.1.stands_x, c.requires.3, both_some _ _ _ _ _ c.requires.2 c.requires.1.stands_x c.requires.1.stands_y k, omega (arith, k), c.cut-mid.ensures, under_more _ _ _ (omega arith) c.requires.1.under)
 
 pub rest-g-requires : goal.rest-g-requires
 rest-g-requires c = search (Cuts, rules)
 
 pub rest-h-requires : goal.rest-h-requires
-rest-h-requires c = let start = c in
-    search (Cuts, start.requires.0, start.requires.1, rules)
+rest-h-requires c = search (Cuts, c.requires.0, c.requires.1, rules)
 
 pub returns : goal.returns
-returns c = let start = c in
-    went_inserted _ _ _ start.args.s _ _ _ start.requires.1.stands_x start.requires.1.stands_y _ _ start.requires.2 _ c.lesser-k.ensures start.requires.3 start.requires.4 c.text_of_first-f.ensures c.rest-g.ensures c.rest-h.ensures
+returns c = went_inserted _ _ _ c.args.s _ _ _ c.requires.1.stands_x c.requires.1.stands_y _ _ c.requires.2 _ c.lesser-k.ensures c.requires.3 c.requires.4 c.text_of_first-f.ensures c.rest-g.ensures c.rest-h.ensures

@@ -1,14 +1,15 @@
 use Rattle.std.specs.Prelude.{◌-◌}
-use mathlib.Core.Logic.{⊎_elim}
 use Rattle.characters.proofs.Counted.{counted_none, counted_all, counted_start, counted_cont}
 use borrow.Author.Rules.{rules}
 use Rattle.counting.proofs.inner.count.Goals as goal
+use Rattle.counting.proofs.inner.count.Goals.{then-not-is_cont, else-not-is_cont}
 
 pub loop-i-init : goal.loop-i-init
 loop-i-init c = search counted_none
 
 pub loop-i-preserved : goal.loop-i-preserved
-loop-i-preserved c = ⊎_elim (λ w. rw w.1 (search counted_start)) (λ w. rw w.1 (search counted_cont)) c.if-not-is_cont.branch
+loop-i-preserved c =
+    elim c.if-not-is_cont.branch [ then-not-is_cont w ↦ rw w.n-is (search counted_start) | else-not-is_cont w ↦ rw w.n-is (search counted_cont) ]
 
 pub returns : goal.returns
 returns c = (search counted_all, search rules)

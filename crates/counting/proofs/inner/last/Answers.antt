@@ -1,11 +1,9 @@
+use Rattle.std.specs.Prelude.{◌-◌, ◌*◌}
 use native.Mathlib.Omega.{arith}
-use Rattle.characters.proofs.Marked.{last_counted}
+use lib.Pow.{shr_le}
+use Rattle.characters.proofs.Marked.{last_marks}
 use Rattle.counting.proofs.inner.last.Goals as goal
-
-pub overflow_cast-result : goal.overflow_cast-result
-overflow_cast-result c = let a = c.args in
-    omega (arith, (last_counted a.text.now a.n c.starts.result (omega arith) (omega arith) (omega arith) (omega arith) c.starts.ensures).1)
 
 pub returns : goal.returns
 returns c = let a = c.args in
-    last_counted a.text.now a.n c.starts.result (omega arith) (omega arith) (omega arith) (omega arith) c.starts.ensures
+    (last_marks a.text.now a.rest c.marks.result (omega arith) (omega arith) c.marks.ensures.0, omega (arith, shr_le c.marks.result (64 - 8 * a.rest)))

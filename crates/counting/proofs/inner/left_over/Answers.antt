@@ -16,4 +16,4 @@ returns-then-text-lt8 c = let t = c.args.text.now in
 
 pub returns : goal.returns
 returns c = let t = c.args.text.now in
-    (last_from t (8 * (length t / 8)) (length t % 8) c.last.result (omega arith) c.last.ensures.0, search rules)
+    (last_from t (8 * (length t / 8)) (length t % 8) c.count_last.result (omega arith) c.count_last.ensures.0, search rules)

@@ -1,9 +1,13 @@
+use Rattle.std.specs.Prelude.{◌-◌, length}
+use mathlib.Core.Path.{refl}
 use native.Mathlib.Omega.{arith}
-use Rattle.std.specs.Prelude.{◌-◌, ◌≤◌, length}
-use Rattle.characters.proofs.Counted.{none_left}
+use Rattle.characters.proofs.Marked.{told_end, told_last}
 use Rattle.counting.proofs.inner.rest.Goals as goal
 
 pub returns-then-n-eq0 : goal.returns-then-n-eq0
 returns-then-n-eq0 c = let a = c.args in
-    let l : length a.text.now ≤ length a.text.now - a.n = omega arith in
-    (none_left a.text.now (length a.text.now - a.n) l, omega arith)
+    told_end a.text.now a.at a.sum (omega arith)
+
+pub returns : goal.returns
+returns c = let a = c.args in
+    told_last a.text.now a.at a.sum (length a.text.now - a.at) c.last.result (omega arith) refl c.last.ensures.0

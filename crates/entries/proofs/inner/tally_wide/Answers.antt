@@ -11,7 +11,8 @@ pub loop-k-init : goal.loop-k-init
 loop-k-init c = (search rules, search rules, search tally_first)
 
 pub loop-k-preserved : goal.loop-k-preserved
-loop-k-preserved c = let now = c.before.before.before.before.before.before.loop.invariant in let read = c.count-count.ensures in
+loop-k-preserved c = let now = c.loop-k.invariant in
+    let read = c.count-count.ensures in
     (search rules, search rules, tally_more _ _ _ _ c.kind-kind.ensures read.0 _ _ _ _ now.2 read.1 now.0 c.kind-last.ensures c.may_follow.ensures c.add_entry-t-in-loop-k.ensures)
 
 pub returns : goal.returns

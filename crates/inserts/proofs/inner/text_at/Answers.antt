@@ -1,9 +1,9 @@
 use Rattle.std.specs.Prelude.{◌≡◌, ◌+◌, ◌-◌, ◌<◌, ◌≤◌, length}
-use mathlib.Core.Logic.{⊎_elim}
 use native.Mathlib.Omega.{arith}
 use Rattle.inserts.proofs.Texts.{reached_start, reached_other, reached_room, reached_insert}
 use borrow.Author.Rules.{rules}
 use Rattle.inserts.proofs.inner.text_at.Goals as goal
+use Rattle.inserts.proofs.inner.text_at.Goals.{then-kind-eq-INSERT, else-kind-eq-INSERT}
 
 pub loop-i-init : goal.loop-i-init
 loop-i-init c = (search rules, search reached_start)
@@ -15,7 +15,7 @@ overflow_add-at c = let b : c.loop-i.i < c.args.n = omega arith in
 
 pub loop-i-preserved : goal.loop-i-preserved
 loop-i-preserved c = let b : c.loop-i.i < c.args.n = omega arith in
-    ⊎_elim (λ w. (omega arith, rw w.2 (search reached_insert))) (λ w. (omega arith, rw w.1 (search reached_other))) c.if-kind-eq-INSERT.branch
+    elim c.if-kind-eq-INSERT.branch [ then-kind-eq-INSERT w ↦ (omega arith, rw w.at-is (search reached_insert)) | else-kind-eq-INSERT w ↦ (omega arith, rw w.at-is (search reached_other)) ]
 
 pub returns : goal.returns
 returns c = let e : c.loop-i.i ≡ c.args.k = omega arith in rw (← e) c.loop-i.invariant.1

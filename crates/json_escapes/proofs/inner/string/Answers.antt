@@ -12,7 +12,7 @@ pub returns-then-b-eq-QUOTATION_MARK : goal.returns-then-b-eq-QUOTATION_MARK
 returns-then-b-eq-QUOTATION_MARK c = search string_read
 
 pub returns-then-b-ne-BACKSLASH : goal.returns-then-b-ne-BACKSLASH
-returns-then-b-ne-BACKSLASH c = let f = c.if3.true in let g = c.if-b-eq-QUOTATION_MARK.false in search (string_bad, f, g)
+returns-then-b-ne-BACKSLASH c = let f = c.if-b-ne-BACKSLASH.true in let g = c.if-b-eq-QUOTATION_MARK.false in search (string_bad, f, g)
 
 pub returns-then-code-eq-NO_CODE : goal.returns-then-code-eq-NO_CODE
 returns-then-code-eq-NO_CODE c = search escape_bad

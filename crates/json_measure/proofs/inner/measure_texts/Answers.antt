@@ -25,7 +25,7 @@ pub overflow_add-result : goal.overflow_add-result
 overflow_add-result c = let h = totals_few _ _ c.requires in omega (arith, c.marks.ensures, c.frames.ensures)
 
 pub overflow_add-result-in-Is : goal.overflow_add-result-in-Is
-overflow_add-result-in-Is c = let h = totals_few _ _ c.requires in let b : c.chars-1.given.0.1.0 ≤ 196608 = search bytes_few in omega (arith, c.marks.ensures, c.frames.ensures)
+overflow_add-result-in-Is c = let h = totals_few _ _ c.requires in let b : c.in-Of.bytes ≤ 196608 = search bytes_few in omega (arith, c.marks.ensures, c.frames.ensures)
 
 pub returns-in-Refused : goal.returns-in-Refused
 returns-in-Refused c = search sums_refused

@@ -12,4 +12,4 @@ pub returns-then-b-eq-END_ARRAY : goal.returns-then-b-eq-END_ARRAY
 returns-then-b-eq-END_ARRAY c = search end_follows
 
 pub returns : goal.returns
-returns c = let x = c.before.if2.false in let y = c.if-b-eq-END_ARRAY.false in search (nothing_follows, x, y)
+returns c = let x = c.if-b-eq-COMMA.false in let y = c.if-b-eq-END_ARRAY.false in search (nothing_follows, x, y)

@@ -9,11 +9,10 @@ pub copy_few-requires : goal.copy_few-requires
 copy_few-requires c = search room_eight
 
 pub loop-i-preserved : goal.loop-i-preserved
-loop-i-preserved c = let l = c in
-    moved_eight
-    l.before.before.before.before.before.requires
-    l.before.before.loop.invariant
-    l.plain-eight.ensures
-    c.if-not-plain_eight.false
-    l.before.loop-test.true
+loop-i-preserved c = moved_eight
+    c.requires
+    c.loop-i.invariant
+    c.plain_eight.ensures
+    c.if-not-plain_eight.false-raw
+    c.loop-i-test.true
     c.copy_few.ensures

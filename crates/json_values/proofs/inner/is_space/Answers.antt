@@ -14,4 +14,4 @@ pub returns-then-b-eq13 : goal.returns-then-b-eq13
 returns-then-b-eq13 c = search space_0_d
 
 pub returns : goal.returns
-returns c = let x = c.before.before.if2.false in let y = c.before.if3.false in let z = c.if-b-eq13.false in search (space_09, x, y, z)
+returns c = let x = c.if-b-eq32.false in let y = c.if-b-eq10.false in let z = c.if-b-eq13.false in search (space_09, x, y, z)

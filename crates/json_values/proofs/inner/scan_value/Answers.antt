@@ -9,4 +9,4 @@ pub returns-then-b-eq-MINUS : goal.returns-then-b-eq-MINUS
 returns-then-b-eq-MINUS c = search value_minus
 
 pub positive-requires : goal.positive-requires
-positive-requires c = let x = c.before.if2.false in let y = c.if-b-eq-MINUS.false in (search rules, search (other_byte, x, y))
+positive-requires c = let x = c.if-b-eq-QUOTATION_MARK.false in let y = c.if-b-eq-MINUS.false in (search rules, search (other_byte, x, y))

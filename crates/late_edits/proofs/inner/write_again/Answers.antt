@@ -6,21 +6,16 @@ use Rattle.append.proofs.Answering.{accepts_room, room_log, room_out, accepts_mo
 use Rattle.late_edits.proofs.inner.write_again.Goals as goal
 
 pub returns-then-not-has_room : goal.returns-then-not-has_room
-returns-then-not-has_room c = let at-has-room = c.before in let at_size = at-has-room.before.before.before in let start = at_size.before.before.before.before.before.before.before.before in
-    accepts_room _ _ _ _ _ start.requires.0 _ _ start.requires.5 _ at_size.size.ensures.0 _ at-has-room.has_room.ensures c.if-not-has_room.true
+returns-then-not-has_room c = accepts_room _ _ _ _ _ c.requires.0 _ _ c.requires.5 _ c.size-size.ensures.0 _ c.has_room.ensures c.if-not-has_room.true-raw
 
 pub load_edit-requires : goal.load_edit-requires
-load_edit-requires c = let start = c in
-    (start.requires.0.fault, omega (arith, record_small _ start.requires.0.fault, start.requires.2))
+load_edit-requires c = (c.requires.0.fault, omega (arith, record_small _ c.requires.0.fault, c.requires.2))
 
 pub rebase-requires : goal.rebase-requires
-rebase-requires c = let at-lay = c.before.before.before.before.before.before.before in let start = at-lay.before.before.before.before.before.before.before.before.before.before.before.before.before.before in
-    (from_inside _ _ _ start.requires.0.found start.requires.0.rev _ start.requires.1, few_from _ _ _ start.requires.0.found start.requires.0.rev _ start.requires.1, lie_from _ _ _ start.requires.0.found start.requires.0.rev _ start.requires.1 _ start.requires.0.meets, start.requires.0.fault, at-lay.load-edit.ensures.0, start.requires.3, start.requires.4, omega arith)
+rebase-requires c = (from_inside _ _ _ c.requires.0.found c.requires.0.rev _ c.requires.1, few_from _ _ _ c.requires.0.found c.requires.0.rev _ c.requires.1, lie_from _ _ _ c.requires.0.found c.requires.0.rev _ c.requires.1 _ c.requires.0.meets, c.requires.0.fault, c.load_edit.ensures.0, c.requires.3, c.requires.4, omega arith)
 
 pub append-requires : goal.append-requires
-append-requires c = let at-cur2 = c.before.before.before.before.before.before.before.before.before in let at-rebase = at-cur2.before in let at-cur = at-rebase.before.before.before.before.before.before.before in let at-lay = at-cur.before in let at-if1 = at-lay.before.before in let at-has-room = at-if1.before in let at_size = at-has-room.before.before.before in let start = at_size.before.before.before.before.before.before.before.before in
-    (start.requires.0.found.count, start.requires.0.found.few, start.requires.0.found.size, log_small _ _ _ start.requires.0.found, omega (arith, at_size.size.ensures.2, at-cur.cur.given, at-lay.load-edit, at-cur2.cur2.given, at-rebase.rebase), room_log _ _ _ _ _ _ at-has-room.has_room.ensures at-if1.if1.false)
+append-requires c = (c.requires.0.found.count, c.requires.0.found.few, c.requires.0.found.size, log_small _ _ _ c.requires.0.found, omega (arith, c.size-size.ensures.2, c.cur-1.given, c.load_edit, c.cur-2-1.given, c.rebase), room_log _ _ _ _ _ _ c.has_room.ensures c.if-not-has_room.false-raw)
 
 pub returns : goal.returns
-returns c = let at-append = c.before.before in let at-rebase = at-append.before.before.before.before.before.before.before.before.before.before.before in let at-cur = at-rebase.before.before.before.before.before.before.before in let at-lay = at-cur.before in let at-if1 = at-lay.before.before in let at-has-room = at-if1.before in let at_size = at-has-room.before.before.before in let start = at_size.before.before.before.before.before.before.before.before in
-    accepts_moved _ _ _ _ _ start.requires.0 _ _ start.requires.5 _ at_size.size.ensures.0 _ at-has-room.has_room.ensures at-if1.if1.false _ _ _ (past_again _ _ _ _ start.requires.0 _ start.requires.1 _ _ _ _ _ _ at-rebase.rebase.ensures refl (omega (arith, start.requires.2, at-cur.cur.given, at-lay.load-edit)) _ _ start.requires.5 (room_out _ _ _ _ _ _ at-has-room.has_room.ensures at-if1.if1.false)) at-append.append.ensures
+returns c = accepts_moved _ _ _ _ _ c.requires.0 _ _ c.requires.5 _ c.size-size.ensures.0 _ c.has_room.ensures c.if-not-has_room.false-raw _ _ _ (past_again _ _ _ _ c.requires.0 _ c.requires.1 _ _ _ _ _ _ c.rebase.ensures refl (omega (arith, c.requires.2, c.cur-1.given, c.load_edit)) _ _ c.requires.5 (room_out _ _ _ _ _ _ c.has_room.ensures c.if-not-has_room.false-raw)) c.append.ensures

@@ -10,16 +10,17 @@ pub returns-then-not-store_text : goal.returns-then-not-store_text
 returns-then-not-store_text c = search run_short
 
 pub play_revisions-requires : goal.play_revisions-requires
-play_revisions-requires c = let a = c.before.before.before.before.before.before.before.before.before.before.before.before.args in let k = c.store_text in
+play_revisions-requires c = let a = c.args in
+    let k = c.store_text in
     let q : not k.result ≡ false = search rules in
     let t = a.text.now in
     let s = a.a.now in (
       search rules,
       search rules,
-      run_room t s k.new.0 k.result k.ensures q,
+      run_room t s k.new.a k.result k.ensures q,
       search rules,
-      run_well t s k.new.0 k.result k.ensures q (search rules),
-      run_chars t s k.new.0 k.result k.ensures q _ (search rules),
+      run_well t s k.new.a k.result k.ensures q (search rules),
+      run_chars t s k.new.a k.result k.ensures q _ (search rules),
     )
 
 pub returns : goal.returns

@@ -6,35 +6,28 @@ use borrow.Author.Rules.{rules}
 use Rattle.rebase_steps.proofs.inner.emit_both.Goals as goal
 
 pub push_without_text-h-requires : goal.push_without_text-h-requires
-push_without_text-h-requires c = let start = c in
-    (start.requires.0.slots_left, start.requires.0.room_right, start.requires.0.stands_x, start.requires.1, start.requires.2, start.requires.4, under_more _ _ _ (omega arith) start.requires.0.under_f)
+push_without_text-h-requires c = (c.requires.0.slots_left, c.requires.0.room_right, c.requires.0.stands_x, c.requires.1, c.requires.2, c.requires.4, under_more _ _ _ (omega arith) c.requires.0.under_f)
 
 pub retain-d-requires : goal.retain-d-requires
-retain-d-requires c = let at_mark = c.before.before.before.before.before.before in let start = at_mark.before.before.before.before.before.before.before.before.before.before.before.before in
-    search (under_part, rules, start.requires, at_mark.push-without-text.ensures)
+retain-d-requires c = search (under_part, rules, c.requires, c.push_without_text-d.ensures)
 
 pub retain-h-requires : goal.retain-h-requires
-retain-h-requires c = let at-mark2 = c.before.before.before in let start = at-mark2.before.before.before.before.before.before.before.before.before.before.before.before.before.before.before.before in
-    search (under_part, rules, start.requires, at-mark2.push-without-text2.ensures)
+retain-h-requires c = search (under_part, rules, c.requires, c.push_without_text-h.ensures)
 
 pub returns-then-y-eq-AT_INSERT : goal.returns-then-y-eq-AT_INSERT
-returns-then-y-eq-AT_INSERT c = let at-retain = c.before in let at-mark2 = at-retain.before.before.before in let at_mark = at-mark2.before.before.before.before in let at-if1 = at_mark.before.before in let start = at-if1.before.before.before.before.before.before.before.before.before.before in
-    meets_insert _ _ _ _ _ _ _ _ start.requires.0.stands_x start.requires.0.stands_y start.requires.6 at-if1.if1.true start.requires.2 start.requires.3 _ _ _ at_mark.push-without-text.ensures at-retain.retain.ensures _ _ _ at-mark2.push-without-text2.ensures c.retain-h.ensures
+returns-then-y-eq-AT_INSERT c = meets_insert _ _ _ _ _ _ _ _ c.requires.0.stands_x c.requires.0.stands_y c.requires.6 c.if-y-eq-AT_INSERT.true c.requires.2 c.requires.3 _ _ _ c.push_without_text-d.ensures c.retain-d.ensures _ _ _ c.push_without_text-h.ensures c.retain-h.ensures
 
 pub push_without_text-h-requires-then-x-eq-AT_RETAIN : goal.push_without_text-h-requires-then-x-eq-AT_RETAIN
-push_without_text-h-requires-then-x-eq-AT_RETAIN c = let start = c in
-    (start.requires.0.slots_left, start.requires.0.room_right, start.requires.0.stands_y, start.requires.1, start.requires.3, start.requires.5, under_more _ _ _ (omega arith) start.requires.0.under_f)
+push_without_text-h-requires-then-x-eq-AT_RETAIN c = (c.requires.0.slots_left, c.requires.0.room_right, c.requires.0.stands_y, c.requires.1, c.requires.3, c.requires.5, under_more _ _ _ (omega arith) c.requires.0.under_f)
 
 pub returns-then-x-eq-AT_RETAIN : goal.returns-then-x-eq-AT_RETAIN
-returns-then-x-eq-AT_RETAIN c = let at-mark4 = c.before.before in let at-if3 = at-mark4.before.before in let at-mark3 = at-if3.before.before.before.before in let at-if2 = at-mark3.before.before in let start = at-if2.before.before.before.before.before.before.before.before.before.before.before.before in
-    meets_retain _ _ _ _ _ _ _ _ start.requires.0.stands_x start.requires.0.stands_y start.requires.6 at-if2.if2.true at-if3.if3.true _ _ at-mark3.push-without-text3.ensures _ _ at-mark4.push-without-text4.ensures
+returns-then-x-eq-AT_RETAIN c = meets_retain _ _ _ _ _ _ _ _ c.requires.0.stands_x c.requires.0.stands_y c.requires.6 c.if-y-eq-AT_RETAIN.true c.if-x-eq-AT_RETAIN.true _ _ c.push_without_text-d-then-y-eq-AT_RETAIN.ensures _ _ c.push_without_text-h-then-x-eq-AT_RETAIN.ensures
 
 pub returns-then-y-eq-AT_RETAIN : goal.returns-then-y-eq-AT_RETAIN
 returns-then-y-eq-AT_RETAIN c = search meets_first
 
 pub push_without_text-h-requires-then-x-eq-AT_RETAIN-2 : goal.push_without_text-h-requires-then-x-eq-AT_RETAIN-2
-push_without_text-h-requires-then-x-eq-AT_RETAIN-2 c = let start = c in
-    (start.requires.0.slots_left, start.requires.0.room_right, start.requires.0.stands_y, start.requires.1, start.requires.3, start.requires.5, under_more _ _ _ (omega arith) start.requires.0.under_f)
+push_without_text-h-requires-then-x-eq-AT_RETAIN-2 c = (c.requires.0.slots_left, c.requires.0.room_right, c.requires.0.stands_y, c.requires.1, c.requires.3, c.requires.5, under_more _ _ _ (omega arith) c.requires.0.under_f)
 
 pub returns-then-x-eq-AT_RETAIN-2 : goal.returns-then-x-eq-AT_RETAIN-2
 returns-then-x-eq-AT_RETAIN-2 c = search meets_second

@@ -10,5 +10,4 @@ pub rest-g-requires : goal.rest-g-requires
 rest-g-requires c = search (whole_cut, rules)
 
 pub returns : goal.returns
-returns c = let at-retain = c.before in let at_gives = at-retain.before in let at_mark = at_gives.before.before.before in let start = at_mark.before.before.before.before.before.before.before.before in
-    first_both _ _ _ _ _ _ _ _ _ start.requires.stands c.rest-g.ensures at_mark.push-without-text.ensures at_gives.gives.ensures.0 at-retain.retain.ensures
+returns c = first_both _ _ _ _ _ _ _ _ _ c.requires.stands c.rest-g.ensures c.push_without_text-e.ensures c.gives.ensures.0 c.retain-f.ensures

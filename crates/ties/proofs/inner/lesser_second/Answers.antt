@@ -6,12 +6,10 @@ use borrow.Author.Rules.{rules}
 use Rattle.ties.proofs.inner.lesser_second.Goals as goal
 
 pub push_without_text-f-requires : goal.push_without_text-f-requires
-push_without_text-f-requires c = let start = c in
-    (start.requires.slots_few, start.requires.room, start.requires.stands, left_live _ _ start.requires.stands start.requires.live, search rules, whole_cut _ _ start.requires.stands, under_more _ _ _ (omega arith) start.requires.under_f)
+push_without_text-f-requires c = (c.requires.slots_few, c.requires.room, c.requires.stands, left_live _ _ c.requires.stands c.requires.live, search rules, whole_cut _ _ c.requires.stands, under_more _ _ _ (omega arith) c.requires.under_f)
 
 pub rest-g-requires : goal.rest-g-requires
 rest-g-requires c = search (whole_cut, rules)
 
 pub returns : goal.returns
-returns c = let at_mark = c.before.before.before in let at-retain = at_mark.before.before in let at_gives = at-retain.before in let start = at_gives.before.before.before.before.before.before.before in
-    second_both _ _ _ _ _ _ _ _ _ start.requires.stands c.rest-g.ensures at_mark.push-without-text.ensures at_gives.gives.ensures.0 at-retain.retain.ensures
+returns c = second_both _ _ _ _ _ _ _ _ _ c.requires.stands c.rest-g.ensures c.push_without_text-f.ensures c.gives.ensures.0 c.retain-e.ensures

@@ -9,17 +9,17 @@ pub loop-stage_a-init : goal.loop-stage_a-init
 loop-stage_a-init c = (search both_start, search rules, search rules)
 
 pub step-s-requires : goal.step-s-requires
-step-s-requires c = let at-loop = c.before.before.before.before in let start = c in (
-      start.requires.0,
+step-s-requires c = (
+      c.requires.0,
       record {
-        slots_left = start.requires.1;
-        slots_right = start.requires.1;
+        slots_left = c.requires.1;
+        slots_right = c.requires.1;
         under_e = search left_under;
         under_f = search right_under;
         stands_x = search rules;
         stands_y = search rules;
-        room_left = omega (arith, at-loop.loop.invariant.1, start.requires.2);
-        room_right = omega (arith, at-loop.loop.invariant.2, start.requires.3);
+        room_left = omega (arith, c.loop-stage_a.invariant.1, c.requires.2);
+        room_right = omega (arith, c.loop-stage_a.invariant.2, c.requires.3);
       },
       search live_is_same,
     )

@@ -1,4 +1,3 @@
-use denote.Slice.{shr_slice_at}
 use Rattle.std.specs.Prelude.{◌<◌, get_or}
 use native.Mathlib.Omega.{arith}
 use Rattle.utf8.proofs.SingleChars.{char_bad, char_few, char_cut, char_there}
@@ -15,6 +14,6 @@ pub returns-then-not-due : goal.returns-then-not-due
 returns-then-not-due c = search char_cut
 
 pub returns : goal.returns
-returns c = let shr_slice_at = c.before.before.before.before.before.before.before in let a = shr_slice_at.before.args in
-    let u : get_or a.text.now a.at 0 < 256 = omega (arith, shr_slice_at.shared-slice-known.given a.at) in
+returns c = let a = c.args in
+    let u : get_or a.text.now a.at 0 < 256 = omega (arith, c.shared_slice_known-1.given a.at) in
     search char_there
