@@ -1,4 +1,6 @@
 // An edit is accepted into a session's log.
+#![tactic(auto)]
+
 ghost use Rattle.std.specs.Prelude.{◌≡◌, ◌-◌};
 ghost use Rattle.answers.specs.Answer.{pair_of};
 ghost use Rattle.record.specs.Record.{record_fault};

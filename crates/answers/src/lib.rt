@@ -1,4 +1,6 @@
 // What a call gives back: its result, or a refusal with its number.
+#![tactic(auto)]
+
 ghost use Rattle.std.specs.Prelude.{◌≡◌, ◌≤◌};
 ghost use Rattle.answers.specs.Answer.{number as number_of};
 

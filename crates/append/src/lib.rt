@@ -1,3 +1,4 @@
 // Records appended to a log.
+#![tactic(auto)]
 
 pub mod inner;

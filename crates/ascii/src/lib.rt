@@ -1,3 +1,4 @@
 // ASCII in text.
+#![tactic(auto)]
 
 pub mod inner;

@@ -1,3 +1,4 @@
 // Text checked by blocks.
+#![tactic(auto)]
 
 pub mod inner;

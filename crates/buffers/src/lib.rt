@@ -1,3 +1,4 @@
 // Buffers of bytes.
+#![tactic(auto)]
 
 pub mod inner;

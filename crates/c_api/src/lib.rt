@@ -1,4 +1,6 @@
 // The calls for C: include/ot.h declares them, `rt staticlib c_api` makes the library.
+#![tactic(auto)]
+
 ghost use Rattle.std.specs.Prelude.{◌≡◌, length, if◌then◌else◌};
 ghost use Rattle.characters.specs.Form.{is_well_formed};
 ghost use Rattle.characters.specs.Chars.{number_of_chars};

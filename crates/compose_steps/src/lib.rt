@@ -1,3 +1,4 @@
 // A step of compose.
+#![tactic(auto)]
 
 pub mod inner;

@@ -1,3 +1,4 @@
 // Characters counted.
+#![tactic(auto)]
 
 pub mod inner;

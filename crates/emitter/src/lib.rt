@@ -1,3 +1,4 @@
 // The emitter.
+#![tactic(auto)]
 
 pub mod inner;

@@ -1,3 +1,4 @@
 // The kinds and the counts of a record, entry by entry.
+#![tactic(auto)]
 
 pub mod inner;

@@ -12,6 +12,8 @@
 //
 // A line that begins with `;` is a remark. No output has more than 40,000 bytes. Of more than 64 bytes their number and a sum are
 // printed.
+#![tactic(auto)]
+
 use harness::inner::line::State;
 use harness::inner::{line, show};
 

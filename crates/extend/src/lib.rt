@@ -1,3 +1,4 @@
 // A record extended by one operation.
+#![tactic(auto)]
 
 pub mod inner;

@@ -1,3 +1,4 @@
 // The inserted texts of a record.
+#![tactic(auto)]
 
 pub mod inner;

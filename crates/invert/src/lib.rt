@@ -1,4 +1,6 @@
 // The Rust's `invert`, on records.
+#![tactic(auto)]
+
 ghost use Rattle.std.specs.Prelude.{◌≡◌, T};
 ghost use Rattle.characters.specs.Form.{is_well_formed};
 ghost use Rattle.characters.specs.Chars.{number_of_chars};

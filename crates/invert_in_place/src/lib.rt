@@ -1,3 +1,4 @@
 // The way of `invert` in place.
+#![tactic(auto)]
 
 pub mod inner;

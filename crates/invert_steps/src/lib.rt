@@ -1,3 +1,4 @@
 // The inverse of an edit that was checked, emitted.
+#![tactic(auto)]
 
 pub mod inner;

@@ -1,5 +1,7 @@
 // Edits as JSON lists (RFC 8259), as a browser sends and takes them: a positive whole number retains, a negative one deletes, a string
 // inserts.
+#![tactic(auto)]
+
 ghost use Rattle.std.specs.Prelude.{◌≡◌, ◌≤◌, length};
 ghost use Rattle.answers.specs.Answer.{written_of};
 ghost use Rattle.answers.specs.InnerGiven.{Gives};

@@ -1,3 +1,4 @@
 // The escapes of a JSON string, and whole strings.
+#![tactic(auto)]
 
 pub mod inner;

@@ -1,3 +1,4 @@
 // A JSON list, read into an emitter.
+#![tactic(auto)]
 
 pub mod inner;

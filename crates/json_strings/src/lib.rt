@@ -1,3 +1,4 @@
 // The strings of a JSON list.
+#![tactic(auto)]
 
 pub mod inner;

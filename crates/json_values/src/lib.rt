@@ -1,3 +1,4 @@
 // The values of a JSON list.
+#![tactic(auto)]
 
 pub mod inner;

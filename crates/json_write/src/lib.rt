@@ -1,3 +1,4 @@
 // The list of a record that was checked, written.
+#![tactic(auto)]
 
 pub mod inner;

@@ -1,3 +1,4 @@
 // An inserted text, written as a string of a list.
+#![tactic(auto)]
 
 pub mod inner;

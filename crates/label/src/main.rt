@@ -2,6 +2,8 @@
 // At the end one of them takes an edit back that the others' came after.
 // A translator's copy is a log too. Its own edit is in it from the start; then come the counterparts that the server hands out
 // for this edit, and the server's revisions from there on.
+#![tactic(auto)]
+
 use answers::{Written, WrittenPair};
 use harness::inner::{show, tell, words};
 use session_log::inner::Scanned;

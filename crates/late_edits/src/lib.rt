@@ -1,3 +1,4 @@
 // Late edits.
+#![tactic(auto)]
 
 pub mod inner;

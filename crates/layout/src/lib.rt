@@ -1,3 +1,4 @@
 // The layout of a record.
+#![tactic(auto)]
 
 pub mod inner;

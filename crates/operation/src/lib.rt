@@ -1,4 +1,6 @@
 // A sequence of operations as a byte record: checked, and asked for its lengths, its effect and its text.
+#![tactic(auto)]
+
 ghost use Rattle.std.specs.Prelude.{◌≡◌};
 ghost use Rattle.answers.specs.Answer.{fact_of, noop_of};
 ghost use Rattle.record.specs.Calls.{check_call, base_call, target_call, noop_call, text_call};

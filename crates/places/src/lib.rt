@@ -1,3 +1,4 @@
 // Operations at their places in a record.
+#![tactic(auto)]
 
 pub mod inner;

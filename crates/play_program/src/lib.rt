@@ -1,4 +1,6 @@
 // The program `play`: standard input is a log and then a text, and the text after all revisions goes to standard output.
+#![tactic(auto)]
+
 ghost use Rattle.std.specs.Prelude.{◌≡◌, ◌≤◌, T, length};
 ghost use Rattle.answers.specs.Answer.{number};
 ghost use Rattle.session_log.specs.Log.{readable, size_of_log};

@@ -1,18 +1,22 @@
 // Runs the program `play` on each file that its arguments name: prints the name, then what the program writes, and ends the line.
-fn case(i: usize) {
-    let mut path = io::buffer();
-    let len = os::arg(i, &mut path);
-    let name = &path[..len];
-    io::write_all(1, name);
+#![tactic(auto)]
+
+use std::env;
+use std::fs::File;
+use std::os::fd::AsRawFd;
+
+fn case(rt: &HostRuntime, name: &str) -> std::io::Result<()> {
+    io::write_all(1, name.as_bytes());
     io::write_all(1, b": ");
-    let fd = os::open_read(name);
-    play_program::inner::serve(fd);
+    let file = File::open(rt, name)?;
+    play_program::inner::serve(file.as_raw_fd());
     io::write_all(1, b"\n");
-    libc::close(fd);
+    Ok(())
 }
 
-fn main() {
-    for i in 1..os::arg_count() {
-        case(i);
+fn main(rt: HostRuntime) -> std::io::Result<()> {
+    for name in env::args(&rt)?.skip(1) {
+        case(&rt, name.as_str())?;
     }
+    Ok(())
 }

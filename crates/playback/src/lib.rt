@@ -1,4 +1,6 @@
 // Playing a log's revisions on a text, oldest first.
+#![tactic(auto)]
+
 ghost use Rattle.std.specs.Prelude.{◌≡◌, length};
 ghost use Rattle.answers.specs.Answer.{written_of};
 ghost use Rattle.session.specs.Session.{play_call};

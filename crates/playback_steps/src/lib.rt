@@ -1,3 +1,4 @@
 // Revisions of a log, played on a text.
+#![tactic(auto)]
 
 pub mod inner;

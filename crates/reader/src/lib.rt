@@ -1,3 +1,4 @@
 // A record that was checked, read.
+#![tactic(auto)]
 
 pub mod inner;

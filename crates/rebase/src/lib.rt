@@ -1,3 +1,4 @@
 // An edit is moved past revisions.
+#![tactic(auto)]
 
 pub mod inner;

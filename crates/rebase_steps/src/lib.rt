@@ -1,3 +1,4 @@
 // A step of rebasing.
+#![tactic(auto)]
 
 pub mod inner;

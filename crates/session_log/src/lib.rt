@@ -1,4 +1,6 @@
 // The log of a session: opened, and gone through.
+#![tactic(auto)]
+
 ghost use Rattle.std.specs.Prelude.{◌≡◌};
 ghost use Rattle.answers.specs.Answer.{written_of};
 ghost use Rattle.session_log.specs.Open.{open_call};

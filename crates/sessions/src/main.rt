@@ -19,6 +19,8 @@
 //
 // No buffer has more than 40,000 bytes. R, I and D stand for retain, insert and delete; of several records the first and the
 // last are printed, and of a record its first eight operations.
+#![tactic(auto)]
+
 ghost use Rattle.std.specs.Prelude.{◌≤◌};
 
 use harness::inner::line::State;

@@ -1,4 +1,6 @@
 // The revisions of a log composed into one record.
+#![tactic(auto)]
+
 ghost use Rattle.std.specs.Prelude.{◌≡◌, ◌≤◌, T, length, take};
 ghost use Rattle.answers.specs.Answer.{written_of};
 ghost use Rattle.answers.specs.InnerGiven.{Gives};

@@ -1,3 +1,4 @@
 // The kinds and the counts of a record, summed up.
+#![tactic(auto)]
 
 pub mod inner;

@@ -1,3 +1,4 @@
 // Two inserts that meet.
+#![tactic(auto)]
 
 pub mod inner;

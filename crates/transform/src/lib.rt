@@ -1,4 +1,6 @@
 // The Rust's `transform`, on records.
+#![tactic(auto)]
+
 ghost use Rattle.std.specs.Prelude.{◌≡◌};
 ghost use Rattle.answers.specs.Answer.{pair_of};
 ghost use Rattle.record.specs.Record.{record_fault};

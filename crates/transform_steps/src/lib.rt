@@ -1,3 +1,4 @@
 // A step of transform.
+#![tactic(auto)]
 
 pub mod inner;

@@ -9,7 +9,13 @@
 //   the second: a text, a record, or the 8 bytes of the number of retain and delete
 //   what is written to the first output, and to the second
 // The calls 8 to 10 have no output: what would be written is the number asked for, in 2 bytes; 1 or 0 for is_noop.
+#![tactic(auto)]
+
 ghost use Rattle.std.specs.Prelude.{◌≡◌, ◌≤◌, length};
+
+use std::env;
+use std::fs::File;
+use std::os::fd::AsRawFd;
 
 mod bytes;
 mod calls;
@@ -81,14 +87,11 @@ fn replay(list: &[u8], t: Tally) -> Tally {
     tally
 }
 
-fn part(i: usize, t: Tally) -> Tally {
-    let mut path = io::buffer();
-    let len = os::arg(i, &mut path);
-    let fd = os::open_read(&path[..len]);
+fn part(rt: &HostRuntime, name: &str, t: Tally) -> std::io::Result<Tally> {
+    let file = File::open(rt, name)?;
     let mut list = space();
-    let n = io::read_full(fd, &mut list);
-    libc::close(fd);
-    replay(&list[..n], t)
+    let n = io::read_full(file.as_raw_fd(), &mut list);
+    Ok(replay(&list[..n], t))
 }
 
 fn print(t: Tally) {
@@ -100,13 +103,14 @@ fn print(t: Tally) {
     io::write_all(1, b" differ\n");
 }
 
-fn main() {
+fn main(rt: HostRuntime) -> std::io::Result<()> {
     let mut t = Tally {
         cases: 0,
         differ: 0,
     };
-    for i in 1..os::arg_count() {
-        t = part(i, t);
+    for name in env::args(&rt)?.skip(1) {
+        t = part(&rt, name.as_str(), t)?;
     }
     print(t);
+    Ok(())
 }

@@ -1,4 +1,6 @@
 // To go through a record: a walker carries the borrowed record along with its position.
+#![tactic(auto)]
+
 ghost use Rattle.std.specs.Prelude.{◌≡◌};
 ghost use Rattle.walker.specs.Walk.{found_of, step_call, next_at};
 
