@@ -8,7 +8,7 @@ pub loop-i-init : goal.loop-i-init
 loop-i-init c = search counted_none
 
 pub loop-i-preserved : goal.loop-i-preserved
-loop-i-preserved c = 
+loop-i-preserved c =
     elim c.if-not-is_cont.branch [ then-not-is_cont w ↦ rw w.n-is (search counted_start) | else-not-is_cont w ↦ rw w.n-is (search counted_cont) ]
 
 pub returns : goal.returns

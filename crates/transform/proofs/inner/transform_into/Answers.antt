@@ -10,19 +10,19 @@ loop-stage_a-init c = (search both_start, search rules, search rules)
 
 pub step-s-requires : goal.step-s-requires
 step-s-requires c = (
-      c.requires.0,
-      record {
-        slots_left = c.requires.1;
-        slots_right = c.requires.1;
-        under_e = search left_under;
-        under_f = search right_under;
-        stands_x = search rules;
-        stands_y = search rules;
-        room_left = omega (arith, c.loop-stage_a.invariant.1, c.requires.2);
-        room_right = omega (arith, c.loop-stage_a.invariant.2, c.requires.3);
-      },
-      search live_is_same,
-    )
+  c.requires.0,
+  record {
+    slots_left = c.requires.1;
+    slots_right = c.requires.1;
+    under_e = search left_under;
+    under_f = search right_under;
+    stands_x = search rules;
+    stands_y = search rules;
+    room_left = omega (arith, c.loop-stage_a.invariant.1, c.requires.2);
+    room_right = omega (arith, c.loop-stage_a.invariant.2, c.requires.3);
+  },
+  search live_is_same,
+)
 
 pub loop-stage_a-smaller : goal.loop-stage_a-smaller
 loop-stage_a-smaller c = search went_less
