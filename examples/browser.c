@@ -1,7 +1,7 @@
 /* Pages in browsers change one label at the same time. A page sends its edit as a JSON list, and plays the lists that the server
    answers with.
 
-   rt staticlib c_api
+   tools/archive
    gcc -Wall -Wextra -Werror -I include examples/browser.c target/staticlib/libc_api.a -o target/browser
    target/browser */
 #include "ot.h"

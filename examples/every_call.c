@@ -1,7 +1,7 @@
 /* Calls every function of ot.h and prints its name and what came back, then each output's bytes in hexadecimal. Outputs are
    filled with EE before the call, and two bytes behind each result are printed too; of a refused call these two alone.
 
-   rt staticlib c_api
+   tools/archive
    gcc -Wall -Wextra -Werror -I include examples/every_call.c target/staticlib/libc_api.a -o target/every_call
    target/every_call */
 #include "ot.h"

@@ -1,6 +1,6 @@
 /* Two people edit the label of a router's port at the same time.
 
-   rt staticlib c_api
+   tools/archive
    gcc -Wall -Wextra -Werror -I include examples/label.c target/staticlib/libc_api.a -o target/label
    target/label */
 #include "ot.h"

@@ -1,5 +1,5 @@
 // from_json and to_json beside node's JSON.parse and JSON.stringify: `node rust/json/compare.js [SEED [LISTS]]`, after
-// `rt staticlib c_api`. Every list is read by both; model.js says what M-100 makes of what node reads. Answers and all bytes of the
+// `tools/archive`. Every list is read by both; model.js says what M-100 makes of what node reads. Answers and all bytes of the
 // outputs are compared, with room for all but one byte, for just all, and for more. The same seed makes the same lists.
 'use strict';
 const { built, Calls, FROM_JSON, TO_JSON } = require('./calls.js');

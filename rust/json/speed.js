@@ -1,5 +1,5 @@
 // The time of from_json and to_json beside that of node's JSON.parse and JSON.stringify on the same lists, in one run:
-// `node rust/json/speed.js`, after `rt staticlib c_api`. Nanoseconds for a call, the best of 45 windows of 8 ms for each side, nine
+// `node rust/json/speed.js`, after `tools/archive`. Nanoseconds for a call, the best of 45 windows of 8 ms for each side, nine
 // in turn in each of five passes over all rows. Prints the tables of docs/SPEED.md.
 //
 // node's side works on strings that are decoded already and checks no UTF-8; ours takes and gives bytes. So there is a second time
