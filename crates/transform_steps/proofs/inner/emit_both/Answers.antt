@@ -11,7 +11,7 @@ pub push_without_text-h-requires : goal.push_without_text-h-requires
 push_without_text-h-requires c = (c.requires.0.slots_right, c.requires.0.room_right, c.requires.0.stands_y, c.requires.1, c.requires.3, c.requires.5, under_more _ _ _ (omega arith) c.requires.0.under_f)
 
 pub returns-then-x-eq-AT_RETAIN : goal.returns-then-x-eq-AT_RETAIN
-returns-then-x-eq-AT_RETAIN c = meets_retain _ _ _ _ _ _ _ _ c.requires.0.stands_x c.requires.0.stands_y c.requires.6 c.if-y-eq-AT_RETAIN.true c.if-x-eq-AT_RETAIN.true _ _ c.push_without_text-d.ensures _ _ c.push_without_text-h.ensures
+returns-then-x-eq-AT_RETAIN c = search meets_retain
 
 pub returns-then-y-eq-AT_RETAIN : goal.returns-then-y-eq-AT_RETAIN
 returns-then-y-eq-AT_RETAIN c = meets_first _ _ _ _ _ _ _ _ c.requires.0.stands_x c.requires.0.stands_y c.requires.6 (eqb-false _ _ c.requires.7) c.if-y-eq-AT_RETAIN.true c.if-x-eq-AT_RETAIN.false _ _ c.push_without_text-d.ensures
