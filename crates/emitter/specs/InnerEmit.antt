@@ -1,4 +1,4 @@
--- The emitter: the builders' sequence, written as a record while it is built. Only contracts of `core` cite this.
+-- The emitter: the builders' sequence, written as a record while it is built. Only contracts of `inner` cite this.
 use Rattle.std.specs.Prelude.{◌≡◌, ℕ, suc, ◌+◌, ◌*◌, ◌^◌, ◌≤◌, Bool, cond, ◌&&◌, List, [], ◌∷◌, ◌++◌, map, reverse, length, nat_le}
 use Rattle.buffers.specs.InnerOver.{over, bytes16}
 use Rattle.characters.specs.Text.{Char, bytes}

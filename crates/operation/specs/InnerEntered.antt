@@ -1,4 +1,4 @@
--- What the two parts of the check promise each other. Only contracts of `core` cite this.
+-- What the two parts of the check promise each other. Only contracts of `inner` cite this.
 use Rattle.std.specs.Prelude.{ℕ, cond, List}
 use Rattle.edits.specs.Op.{base, total}
 use Rattle.edits.specs.Built.{chained}

@@ -1,4 +1,4 @@
--- Operations at their places in a record. Only contracts of `core` cite this.
+-- Operations at their places in a record. Only contracts of `inner` cite this.
 use Rattle.std.specs.Prelude.{ℕ, ◌+◌, ◌*◌, List, [], ◌∷◌, take, drop}
 use Rattle.buffers.specs.InnerOver.{over, bytes16}
 use Rattle.edits.specs.Op.{if_zero}

@@ -1,4 +1,4 @@
--- Going through a record that was checked: what still lies ahead. Only contracts of `core` cite this.
+-- Going through a record that was checked: what still lies ahead. Only contracts of `inner` cite this.
 use Rattle.std.specs.Prelude.{ℕ, ◌-◌, ◌+◌, ◌≤◌, ◌<◌, List, map, [], ◌∷◌, drop, length, take, T, eqb, cond, ◌≡◌}
 use Rattle.buffers.specs.Lists.{all_of}
 use Rattle.characters.specs.Text.{Char, chars}

@@ -1,4 +1,4 @@
--- What the core of the log promises. No entry's contract cites this.
+-- What `inner` of the log promises. No entry's contract cites this.
 use Rattle.std.specs.Prelude.{◌≡◌, ℕ, ◌≤◌, false, T, List, length}
 use Rattle.record.specs.Layout.{max_size}
 use Rattle.session_log.specs.Log.{count_of, start_of, readable, size_of_log, place_of, length_at, max_revisions}

@@ -1,4 +1,4 @@
--- Steps over the fronts of two records. Only contracts of `core` and of the crates above cite this.
+-- Steps over the fronts of two records. Only contracts of `inner` and of the crates above cite this.
 use Rattle.std.specs.Prelude.{◌≡◌, ℕ, ◌+◌, ◌^◌, ◌<◌, ◌≤◌, Bool, not, ◌&&◌, ◌⊎◌, List, length, ◌==◌}
 use Rattle.characters.specs.Text.{Char}
 use Rattle.edits.specs.Op.{cut, Op}
