@@ -9,9 +9,9 @@ ghost use Rattle.session_log.specs.InnerScan.{Found};
 ghost use Rattle.session.specs.Session.{accept_call};
 ghost use Rattle.append.specs.InnerAccepting.{Admitted, Accepts};
 
-use answers::{Fact, Refusal, WrittenPair};
+use answers::Refusal;
 use late_edits::inner::MEDIUM_EDIT;
-use session_log::inner::{MAX_REVISIONS, Scan, Scanned};
+use session_log::inner::{MAX_REVISIONS, Scan};
 
 // An edit of so many bytes at most is short, and so are so many bytes of revisions.
 const SHORT_EDIT: usize = 128;
@@ -27,7 +27,7 @@ fn choose_buffers(
     s: Scan,
     n: usize,
     out: &mut [u8],
-) -> WrittenPair
+) -> Result<(usize, usize), Refusal>
     requires { Admitted edit.now r log.old s × (n ≡ count_of log.old - r) }
     ensures { Accepts edit.now r log.old out.old result log.new out.new }
 {
@@ -45,20 +45,26 @@ fn choose_buffers(
 }
 
 // An edit that was checked goes into a log that can be read, unless 7, 8 or 9 refuses it.
-fn admit(edit: &[u8], r: u64, log: &mut [u8], s: Scan, out: &mut [u8]) -> WrittenPair
+fn admit(
+    edit: &[u8],
+    r: u64,
+    log: &mut [u8],
+    s: Scan,
+    out: &mut [u8],
+) -> Result<(usize, usize), Refusal>
     requires { (record_fault edit.now ≡ 0) × Found log.old r s }
     ensures { Accepts edit.now r log.old out.old result log.new out.new }
 {
     let count = s.count as u64;
     if count < r {
-        return WrittenPair::Refused(Refusal::Revision);
+        return Err(Refusal::Revision);
     }
     let base = reader::inner::base(edit);
     if base != s.len {
-        return WrittenPair::Refused(Refusal::IncompatibleLengths);
+        return Err(Refusal::IncompatibleLengths);
     }
     if MAX_REVISIONS <= s.count {
-        return WrittenPair::Refused(Refusal::Limit);
+        return Err(Refusal::Limit);
     }
     if r == count {
         return append::inner::append_unmoved(edit, r, log, s, out);
@@ -66,24 +72,25 @@ fn admit(edit: &[u8], r: u64, log: &mut [u8], s: Scan, out: &mut [u8]) -> Writte
     choose_buffers(edit, r, log, s, (count - r) as usize, out)
 }
 
-fn checked(edit: &[u8], r: u64, log: &mut [u8], out: &mut [u8]) -> WrittenPair
+fn checked(edit: &[u8], r: u64, log: &mut [u8], out: &mut [u8]) -> Result<(usize, usize), Refusal>
     requires { record_fault edit.now ≡ 0 }
     ensures { Accepts edit.now r log.old out.old result log.new out.new }
 {
-    match session_log::inner::read(log, r) {
-        Scanned::Unreadable => WrittenPair::Refused(Refusal::Log),
-        Scanned::Of(s) => admit(edit, r, log, s, out),
-    }
+    let s = session_log::inner::read(log, r).ok_or(Refusal::Log)?;
+    admit(edit, r, log, s, out)
 }
 
 // An edit that was written against revision r: how many bytes the log grew by, and how many the counterparts have.
-pub fn accept(edit: &[u8], r: u64, log: &mut [u8], out: &mut [u8]) -> WrittenPair
+pub fn accept(
+    edit: &[u8],
+    r: u64,
+    log: &mut [u8],
+    out: &mut [u8],
+) -> Result<(usize, usize), Refusal>
     ensures { (pair_of result ≡ (accept_call edit.now r log.old out.old).answer)
         × (log.new ≡ (accept_call edit.now r log.old out.old).out_a)
         × (out.new ≡ (accept_call edit.now r log.old out.old).out_b) }
 {
-    match operation::check(edit) {
-        Fact::Refused(x) => WrittenPair::Refused(x),
-        Fact::Is(_) => checked(edit, r, log, out),
-    }
+    operation::check(edit)?;
+    checked(edit, r, log, out)
 }

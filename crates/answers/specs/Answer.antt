@@ -1,15 +1,7 @@
 -- What a call gives back: document 01, "What a call gives back".
-use Rattle.std.specs.Prelude.{ℕ, zero, suc, List, [], ◌∷◌, Bool, true, false, cond}
+use Rattle.std.specs.Prelude.{ℕ, zero, suc, List, [], ◌∷◌, Bool, true, false, cond, Result, Ok, Err}
 use Rattle.answers.specs.declared.Refusal.{Refusal}
 use Rattle.answers.specs.declared.Refusal.TheVariants.{Size, Entry, Utf8, Neighbours, Sums, Log, Revision, IncompatibleLengths, Limit, Room, Json}
-use Rattle.answers.specs.declared.Fact.{Fact}
-use Rattle.answers.specs.declared.Fact.TheVariants as fact
-use Rattle.answers.specs.declared.Noop.{Noop}
-use Rattle.answers.specs.declared.Noop.TheVariants as noop
-use Rattle.answers.specs.declared.Written.{Written}
-use Rattle.answers.specs.declared.Written.TheVariants as written
-use Rattle.answers.specs.declared.WrittenPair.{WrittenPair}
-use Rattle.answers.specs.declared.WrittenPair.TheVariants as pair
 
 -- the numbers of the refusals
 abbrev pub number : Refusal → ℕ
@@ -35,14 +27,14 @@ succeeds (success ns) = true
 succeeds (refused n) = false
 
 -- the answers of the code, in the paper's numbers
-abbrev pub fact_of : Fact → Answer
-fact_of (fact.Is n) = success (n ∷ [])
-fact_of (fact.Refused x) = refused (number x)
+abbrev pub answer_of : Result ℕ Refusal → Answer
+answer_of (Ok n) = success (n ∷ [])
+answer_of (Err x) = refused (number x)
 
-abbrev pub noop_of : Noop → Answer
-noop_of (noop.Is true) = success (1 ∷ [])
-noop_of (noop.Is false) = success (0 ∷ [])
-noop_of (noop.Refused x) = refused (number x)
+abbrev pub noop_of : Result Bool Refusal → Answer
+noop_of (Ok true) = success (1 ∷ [])
+noop_of (Ok false) = success (0 ∷ [])
+noop_of (Err x) = refused (number x)
 
 -- where a test fails, its number; else what comes after
 abbrev pub needs : Bool → ℕ → ℕ → ℕ
@@ -59,11 +51,11 @@ unless_refused zero f x = x
 unless_refused (suc n) f x = f (suc n)
 
 -- the code's answer, in the paper's numbers
-abbrev pub written_of : Written → Answer
-written_of (written.Bytes n) = success (n ∷ [])
-written_of (written.Refused x) = refused (number x)
+abbrev pub answer_of : Result ℕ Refusal → Answer
+answer_of (Ok n) = success (n ∷ [])
+answer_of (Err x) = refused (number x)
 
 -- the code's answer, in the paper's numbers
-abbrev pub pair_of : WrittenPair → Answer
-pair_of (pair.Bytes p q) = success (p ∷ q ∷ [])
-pair_of (pair.Refused x) = refused (number x)
+abbrev pub pair_of : Result (ℕ × ℕ) Refusal → Answer
+pair_of (Ok (p, q)) = success (p ∷ q ∷ [])
+pair_of (Err x) = refused (number x)

@@ -5,7 +5,7 @@ ghost use Rattle.std.specs.Prelude.{◌≡◌, ◌≤◌};
 ghost use Rattle.answers.specs.Answer.{number as number_of};
 
 // Why a call is refused: document 01's numbers 1 to 10, in order, and document 02's from 11 on.
-#[derive(Clone, Copy)]
+#[derive(Clone, Copy, Debug, PartialEq, Eq)]
 pub enum Refusal {
     // A record's buffer is too short for it, or a size passes its limit.
     Size,
@@ -31,48 +31,22 @@ pub enum Refusal {
     Json,
 }
 
-pub fn number(x: Refusal) -> u8
-    ensures { (result ≡ number_of x) × (result ≤ 11) }
-{
-    match x {
-        Refusal::Size => 1,
-        Refusal::Entry => 2,
-        Refusal::Utf8 => 3,
-        Refusal::Neighbours => 4,
-        Refusal::Sums => 5,
-        Refusal::Log => 6,
-        Refusal::Revision => 7,
-        Refusal::IncompatibleLengths => 8,
-        Refusal::Limit => 9,
-        Refusal::Room => 10,
-        Refusal::Json => 11,
+impl Refusal {
+    pub fn number(self) -> u8
+        ensures { (result ≡ number_of self) × (result ≤ 11) }
+    {
+        match self {
+            Refusal::Size => 1,
+            Refusal::Entry => 2,
+            Refusal::Utf8 => 3,
+            Refusal::Neighbours => 4,
+            Refusal::Sums => 5,
+            Refusal::Log => 6,
+            Refusal::Revision => 7,
+            Refusal::IncompatibleLengths => 8,
+            Refusal::Limit => 9,
+            Refusal::Room => 10,
+            Refusal::Json => 11,
+        }
     }
-}
-
-// A number that was asked for.
-#[derive(Clone, Copy)]
-pub enum Fact {
-    Is(usize),
-    Refused(Refusal),
-}
-
-// Whether a sequence has no effect.
-#[derive(Clone, Copy)]
-pub enum Noop {
-    Is(bool),
-    Refused(Refusal),
-}
-
-// How many bytes were written.
-#[derive(Clone, Copy)]
-pub enum Written {
-    Bytes(usize),
-    Refused(Refusal),
-}
-
-// How many bytes were written to either output.
-#[derive(Clone, Copy)]
-pub enum WrittenPair {
-    Bytes(usize, usize),
-    Refused(Refusal),
 }

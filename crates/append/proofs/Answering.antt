@@ -1,5 +1,5 @@
 -- The answers of accept.
-use Rattle.std.specs.Prelude.{◌≡◌, ℕ, suc, ◌+◌, ◌-◌, ◌<◌, ◌≤◌, Bool, true, false, not, ◌&&◌, leb, List, [], ◌∷◌, length, take, drop}
+use Rattle.std.specs.Prelude.{◌≡◌, ℕ, suc, ◌+◌, ◌-◌, ◌<◌, ◌≤◌, Bool, true, false, not, ◌&&◌, leb, List, [], ◌∷◌, length, take, drop, Result, Option, Ok, Err, Some, None}
 use mathlib.Core.Path.{sym, ap, ◌∙◌, refl, ap₂, subst}
 use lib.Seq.{length-take-le}
 use native.Mathlib.Omega.{arith}
@@ -9,18 +9,13 @@ use Rattle.buffers.proofs.Tests.{holds}
 use Rattle.edits.specs.Sequence.{Seq}
 use Rattle.answers.specs.declared.Refusal.{Refusal}
 use Rattle.answers.specs.declared.Refusal.TheVariants.{Log, Revision, IncompatibleLengths, Limit, Room}
-use Rattle.answers.specs.declared.Fact.{Fact}
-use Rattle.answers.specs.declared.Fact.TheVariants as fact
-use Rattle.answers.specs.Answer.{number, success, refused, fact_of, needs}
-use Rattle.answers.specs.declared.WrittenPair.TheVariants as written
+use Rattle.answers.specs.Answer.{number, success, refused, answer_of, needs}
 use Rattle.record.specs.Layout.{size_of, base_of}
 use Rattle.record.specs.Record.{encode, ops, record_fault}
 use Rattle.record.specs.Calls.{check_call}
 use Rattle.record.proofs.Faults.{limits, faultless}
 use Rattle.record.proofs.Checked.{stopped}
 use Rattle.session_log.specs.declared.inner.Scan.{Scan}
-use Rattle.session_log.specs.declared.inner.Scanned.{Scanned}
-use Rattle.session_log.specs.declared.inner.Scanned.TheVariants.{Unreadable, Of}
 use Rattle.session_log.specs.Log.{encode_all, count_of, readable, size_of_log, length_at, revisions}
 use Rattle.session_log.specs.InnerScan.{Found, Scans}
 use Rattle.session.specs.Rows.{Moved, rebase}
@@ -52,18 +47,18 @@ module _ (log : List ℕ) (used size : ℕ) (out : List ℕ) (bytes : ℕ) where
     room_out = leb-true bytes (length out) both_room.1
 
 module _ (edit : List ℕ) (r : ℕ) (log out : List ℕ) where
-  stops : (x : Refusal) (k : ℕ) → number x ≡ suc k → accept_fault edit r log out ≡ suc k → Accepts edit r log out (written.Refused x) log out
+  stops : (x : Refusal) (k : ℕ) → number x ≡ suc k → accept_fault edit r log out ≡ suc k → Accepts edit r log out (Err x) log out
   unfolding accept_call
   stops x k n e = record { answer = rw e (ap refused n); log_is = rw e; out_is = rw e }
 
   -- ---- the edit and the log
 
-  pub accepts_edit : (f : Fact) → fact_of f ≡ check_call edit → (x : Refusal) → f ≡ fact.Refused x → Accepts edit r log out (written.Refused x) log out
+  pub accepts_edit : (f : Result ℕ Refusal) → answer_of f ≡ check_call edit → (x : Refusal) → f ≡ Err x → Accepts edit r log out (Err x) log out
   unfolding accept_fault
   accepts_edit f p x q = let s = stopped edit f p x q in stops x s.less s.number_is (rw s.fault)
 
   module _ (z : record_fault edit ≡ 0) where
-    pub accepts_log : (x : Scanned) → Scans log r x → x ≡ Unreadable → Accepts edit r log out (written.Refused Log) log out
+    pub accepts_log : (x : Option Scan) → Scans log r x → x ≡ None → Accepts edit r log out (Err Log) log out
     unfolding accept_fault
     accepts_log x h e = let u = (subst (Scans log r) e h).scans in stops Log 5 refl (rw (z, u))
 
@@ -71,7 +66,7 @@ module _ (edit : List ℕ) (r : ℕ) (log out : List ℕ) where
       readable_is : readable log ≡ true
       readable_is = holds (readable log) f.reads
 
-      pub accepts_revision : s.count < r → Accepts edit r log out (written.Refused Revision) log out
+      pub accepts_revision : s.count < r → Accepts edit r log out (Err Revision) log out
       unfolding accept_fault
       accepts_revision h = stops Revision 6 refl (rw (z, readable_is, lt-leb r (count_of log) (omega (arith, f.count, h))))
 
@@ -79,13 +74,13 @@ module _ (edit : List ℕ) (r : ℕ) (log out : List ℕ) where
         rev : r ≤ count_of log
         rev = omega (arith, f.count, h)
 
-        pub accepts_lengths : (b ≡ s.len → ⊥) → Accepts edit r log out (written.Refused IncompatibleLengths) log out
+        pub accepts_lengths : (b ≡ s.len → ⊥) → Accepts edit r log out (Err IncompatibleLengths) log out
         unfolding accept_fault
         accepts_lengths n =
             stops IncompatibleLengths 7 refl (rw (z, readable_is, le-leb r (count_of log) rev, ne_eqb (base_of edit) (length_at r log) (λ q. n (pb ∙ q ∙ sym (f.len rev)))))
 
         module _ (m : b ≡ s.len) where
-          pub accepts_many : 256 ≤ s.count → Accepts edit r log out (written.Refused Limit) log out
+          pub accepts_many : 256 ≤ s.count → Accepts edit r log out (Err Limit) log out
           unfolding accept_fault
           accepts_many q =
               stops Limit 8 refl (rw (z, readable_is, le-leb r (count_of log) rev, eq-eqb (base_of edit) (length_at r log) (sym pb ∙ m ∙ f.len rev), le-ltb (count_of log) 256 (omega (arith, f.count, q))))
@@ -107,7 +102,7 @@ module _ (edit : List ℕ) (r : ℕ) (log out : List ℕ) where
     unfolding accept_fault moved_in
     left = rw (a.fault, holds (readable log) a.found.reads, le-leb r (count_of log) a.rev, eq-eqb (base_of edit) (length_at r log) a.meets, lt-ltb (count_of log) 256 a.few)
 
-    pub accepts_limit : moved.kept ≡ false → Accepts edit r log out (written.Refused Limit) log out
+    pub accepts_limit : moved.kept ≡ false → Accepts edit r log out (Err Limit) log out
     accepts_limit h = stops Limit 8 refl (left ∙ rw h)
 
     module _ (bytes : ℕ) (cur : List ℕ) (m : MovedPast edit r log bytes cur) (size : ℕ) (ps : size ≡ size_of cur) where
@@ -118,14 +113,14 @@ module _ (edit : List ℕ) (r : ℕ) (log out : List ℕ) where
         tests : v ≡ (leb (size_of_log log + length (encode moved.edit)) (length log) && leb (length (encode_all moved.counterparts)) (length out))
         tests = t.told ∙ (λ i. leb (a.found.size i + size_is i) (length log) && leb (m.moved.bytes_are i) (length out))
 
-        pub accepts_room : not v ≡ true → Accepts edit r log out (written.Refused Room) log out
+        pub accepts_room : not v ≡ true → Accepts edit r log out (Err Room) log out
         accepts_room h = stops Room 9 refl (left ∙ rw (m.moved.kept, sym tests ∙ not-true v h))
 
         module _ (h : not v ≡ false) where
           fault_none : accept_fault edit r log out ≡ 0
           fault_none = left ∙ rw (m.moved.kept, sym tests ∙ not-false v h)
 
-          pub accepts_moved : (cur' log' out' : List ℕ) → HandsOut (ops edit) vs out cur' out' → log' ≡ append log (take size cur') → Accepts edit r log out (written.Bytes size bytes) log' out'
+          pub accepts_moved : (cur' log' out' : List ℕ) → HandsOut (ops edit) vs out cur' out' → log' ≡ append log (take size cur') → Accepts edit r log out (Ok (size, bytes)) log' out'
           unfolding accept_call moved_in
           accepts_moved cur' log' out' o e =
               let k : take size cur' ≡ encode moved.edit =
@@ -136,5 +131,5 @@ module _ (edit : List ℕ) (r : ℕ) (log out : List ℕ) where
                 out_is = rw fault_none o.given;
               }
 
-pub scanned : (log : List ℕ) (r : ℕ) (x : Scanned) (s : Scan) → Scans log r x → x ≡ Of s → Found log r s
+pub scanned : (log : List ℕ) (r : ℕ) (x : Option Scan) (s : Scan) → Scans log r x → x ≡ Some s → Found log r s
 scanned log r x s h e = (subst (Scans log r) e h).scans

@@ -1,5 +1,5 @@
 -- From the edit in its buffer, past the revisions of the log, to the answer.
-use Rattle.std.specs.Prelude.{◌≡◌, ℕ, ◌-◌, ◌≤◌, List, length, take, drop}
+use Rattle.std.specs.Prelude.{◌≡◌, ℕ, ◌-◌, ◌≤◌, List, length, take, drop, Result, Ok, Err}
 use native.Mathlib.Omega.{arith}
 use mathlib.Core.Path.{refl, sym, ap₂, ◌∙◌, subst, ap, subst₂}
 use mathlib.Core.Bool.{true≢false}
@@ -7,8 +7,6 @@ use Rattle.buffers.specs.InnerOver.{over}
 use Rattle.buffers.proofs.Over.{over_front}
 use Rattle.answers.specs.declared.Refusal.{Refusal}
 use Rattle.answers.specs.declared.Refusal.TheVariants.{Room}
-use Rattle.answers.specs.declared.WrittenPair.TheVariants as written
-use Rattle.answers.specs.declared.WrittenPair.{WrittenPair}
 use Rattle.answers.proofs.Outputs.{at_front_take}
 use Rattle.record.specs.Layout.{size_of, max_ops, max_record}
 use Rattle.record.specs.Record.{record_fault, ops}
@@ -16,12 +14,10 @@ use Rattle.reader.proofs.Fronts.{fault_size, fault_small}
 use Rattle.session_log.specs.declared.inner.Scan.{Scan}
 use Rattle.session_log.specs.Log.{encode_all, count_of, edits_in, revisions}
 use Rattle.session.specs.Rows.{rebase}
-use Rattle.counterparts.specs.declared.inner.Run.{Run}
-use Rattle.counterparts.specs.declared.inner.Run.TheVariants as outcome
+use Rattle.counterparts.specs.declared.inner.Stop.{Stop}
+use Rattle.counterparts.specs.declared.inner.Stop.TheVariants as stop
 use Rattle.counterparts.specs.InnerRunning.{Runs, HandsOut}
 use Rattle.append.specs.InnerAccepting.{Admitted, MovedPast, Stored, Accepts, TriesTo, Tries}
-use Rattle.append.specs.declared.inner.Tried.{Tried}
-use Rattle.append.specs.declared.inner.Tried.TheVariants as tried
 use Rattle.append.proofs.Places.{edits_from}
 use Rattle.append.proofs.Answering.{accepts_limit}
 
@@ -32,36 +28,36 @@ module _ (edit : List ℕ) (r : ℕ) (log : List ℕ) (s : Scan) (a : Admitted e
   edits : edits_in n (drop s.at log) ≡ drop r (revisions log)
   edits = edits_from log r s a.found a.rev n e
 
-  module _ (slots room : ℕ) (x : Run) (cur' parts parts' : List ℕ) (q : Runs slots room (ops edit) (edits_in n (drop s.at log)) x cur' parts parts') where
-    runs_as : (y : Run) → x ≡ y → Runs slots room (ops edit) (drop r (revisions log)) y cur' parts parts'
+  module _ (slots room : ℕ) (x : Result ℕ Stop) (cur' parts parts' : List ℕ) (q : Runs slots room (ops edit) (edits_in n (drop s.at log)) x cur' parts parts') where
+    runs_as : (y : Result ℕ Stop) → x ≡ y → Runs slots room (ops edit) (drop r (revisions log)) y cur' parts parts'
     runs_as y p = subst (λ z. Runs slots room (ops edit) (drop r (revisions log)) z cur' parts parts') p (subst (λ vs. Runs slots room (ops edit) vs x cur' parts parts') edits q)
 
-    pub past_moved : (bytes : ℕ) → x ≡ outcome.Kept bytes → MovedPast edit r log bytes cur'
-    past_moved bytes p = record { moved = (runs_as (outcome.Kept bytes) p).runs.0 }
+    pub past_moved : (bytes : ℕ) → x ≡ Ok bytes → MovedPast edit r log bytes cur'
+    past_moved bytes p = record { moved = (runs_as (Ok bytes) p).runs.0 }
 
-    pub past_stored : (bytes : ℕ) → x ≡ outcome.Kept bytes → length parts' ≡ length parts → Stored edit r log bytes parts'
+    pub past_stored : (bytes : ℕ) → x ≡ Ok bytes → length parts' ≡ length parts → Stored edit r log bytes parts'
     past_stored bytes p l =
-        let (m, g) = (runs_as (outcome.Kept bytes) p).runs in
+        let (m, g) = (runs_as (Ok bytes) p).runs in
         record { stored = λ z. ap₂ take m.bytes_are (g (omega (arith, z, l))) ∙ at_front_take (encode_all (rebase (ops edit) (drop r (revisions log))).counterparts) parts }
 
-    pub past_stops : (y : Refusal) → x ≡ outcome.Refused y → (out : List ℕ) → Accepts edit r log out (written.Refused y) log out
+    pub past_stops : (y : Refusal) → x ≡ Err (stop.Refused y) → (out : List ℕ) → Accepts edit r log out (Err y) log out
     past_stops y p out =
-        let (l, k) = (runs_as (outcome.Refused y) p).runs in
-        subst (λ z. Accepts edit r log out (written.Refused z) log out) (sym l) (accepts_limit edit r log out s a k)
+        let (l, k) = (runs_as (Err (stop.Refused y)) p).runs in
+        subst (λ z. Accepts edit r log out (Err z) log out) (sym l) (accepts_limit edit r log out s a k)
 
     -- long buffers are never too short
     module _ (few : max_ops ≡ slots) (wide : max_record ≤ room) where
-      pub past_never : x ≡ outcome.Short → (out : List ℕ) → Accepts edit r log out (written.Refused Room) log out
-      past_never p out = absurd ((runs_as outcome.Short p).runs (omega (arith, few)) wide)
+      pub past_never : x ≡ Err stop.Short → (out : List ℕ) → Accepts edit r log out (Err Room) log out
+      past_never p out = absurd ((runs_as (Err stop.Short) p).runs (omega (arith, few)) wide)
 
       -- the run once more, to a buffer in which the counterparts have room
       pub past_again : (bytes : ℕ) (moved : List ℕ) → MovedPast edit r log bytes moved → bytes ≤ length parts → HandsOut (ops edit) (drop r (revisions log)) parts cur' parts'
       past_again bytes moved m g = go x refl
         where
-          go : (y : Run) → x ≡ y → HandsOut (ops edit) (drop r (revisions log)) parts cur' parts'
-          go (outcome.Kept b) p = let (k, w) = (runs_as (outcome.Kept b) p).runs in record { holds = k.holds; given = w (omega (arith, m.moved.bytes_are, k.bytes_are, g)) }
-          go (outcome.Refused y) p = absurd (true≢false (sym m.moved.kept ∙ (runs_as (outcome.Refused y) p).runs.1))
-          go outcome.Short p = absurd ((runs_as outcome.Short p).runs (omega (arith, few)) wide)
+          go : (y : Result ℕ Stop) → x ≡ y → HandsOut (ops edit) (drop r (revisions log)) parts cur' parts'
+          go (Ok b) p = let (k, w) = (runs_as (Ok b) p).runs in record { holds = k.holds; given = w (omega (arith, m.moved.bytes_are, k.bytes_are, g)) }
+          go (Err (stop.Refused y)) p = absurd (true≢false (sym m.moved.kept ∙ (runs_as (Err (stop.Refused y)) p).runs.1))
+          go (Err stop.Short) p = absurd ((runs_as (Err stop.Short) p).runs (omega (arith, few)) wide)
 
 -- what stands in a buffer goes to the output
 pub hands : (edit : List ℕ) (r : ℕ) (log : List ℕ) (bytes : ℕ) (cur parts : List ℕ) → MovedPast edit r log bytes cur → Stored edit r log bytes parts → bytes ≤ length parts → (out out' : List ℕ) → bytes ≤ length out
@@ -73,22 +69,22 @@ hands edit r log bytes cur parts m g l out out' h e =
 
 -- ---- short buffers
 
-module _ (edit : List ℕ) (r : ℕ) (log out : List ℕ) (x : Tried) (log' out' : List ℕ) (q : Tries edit r log out x log' out') where
-  tries_as : (y : Tried) → x ≡ y → TriesTo edit r log out y log' out'
+module _ (edit : List ℕ) (r : ℕ) (log out : List ℕ) (x : Result (ℕ × ℕ) Stop) (log' out' : List ℕ) (q : Tries edit r log out x log' out') where
+  tries_as : (y : Result (ℕ × ℕ) Stop) → x ≡ y → TriesTo edit r log out y log' out'
   tries_as y p = (subst (λ z. Tries edit r log out z log' out') p q).tries
 
-  pub tried_bytes : (k l : ℕ) → x ≡ tried.Bytes k l → Accepts edit r log out (written.Bytes k l) log' out'
-  tried_bytes k l p = tries_as (tried.Bytes k l) p
+  pub tried_bytes : (k l : ℕ) → x ≡ Ok (k, l) → Accepts edit r log out (Ok (k, l)) log' out'
+  tried_bytes k l p = tries_as (Ok (k, l)) p
 
-  pub tried_refused : (y : Refusal) → x ≡ tried.Refused y → Accepts edit r log out (written.Refused y) log' out'
-  tried_refused y p = tries_as (tried.Refused y) p
+  pub tried_refused : (y : Refusal) → x ≡ Err (stop.Refused y) → Accepts edit r log out (Err y) log' out'
+  tried_refused y p = tries_as (Err (stop.Refused y)) p
 
-  module _ (p : x ≡ tried.Short) where
+  module _ (p : x ≡ Err stop.Short) where
     pub short_admits : (s : Scan) → Admitted edit r log s → Admitted edit r log' s
-    short_admits s a = subst (λ l. Admitted edit r l s) (sym (tries_as tried.Short p).0) a
+    short_admits s a = subst (λ l. Admitted edit r l s) (sym (tries_as (Err stop.Short) p).0) a
 
     pub short_count : (n : ℕ) → n ≡ count_of log - r → n ≡ count_of log' - r
-    short_count n e = e ∙ ap (λ l. count_of l - r) (sym (tries_as tried.Short p).0)
+    short_count n e = e ∙ ap (λ l. count_of l - r) (sym (tries_as (Err stop.Short) p).0)
 
-    pub short_then : (y : WrittenPair) (log'' out'' : List ℕ) → Accepts edit r log' out' y log'' out'' → Accepts edit r log out y log'' out''
-    short_then y log'' out'' a = subst₂ (λ l o. Accepts edit r l o y log'' out'') (tries_as tried.Short p).0 (tries_as tried.Short p).1 a
+    pub short_then : (y : Result (ℕ × ℕ) Refusal) (log'' out'' : List ℕ) → Accepts edit r log' out' y log'' out'' → Accepts edit r log out y log'' out''
+    short_then y log'' out'' a = subst₂ (λ l o. Accepts edit r l o y log'' out'') (tries_as (Err stop.Short) p).0 (tries_as (Err stop.Short) p).1 a

@@ -1,8 +1,6 @@
 -- What the functions of `append`, `late_edits` and `accept` promise each other. No entry's contract cites this.
-use Rattle.std.specs.Prelude.{◌≡◌, ℕ, ◌+◌, ◌<◌, ◌≤◌, Bool, ◌&&◌, List, length, take, drop, nat_le}
-use Rattle.answers.specs.declared.WrittenPair.{WrittenPair}
+use Rattle.std.specs.Prelude.{◌≡◌, ℕ, ◌+◌, ◌<◌, ◌≤◌, Bool, ◌&&◌, List, length, take, drop, nat_le, Result, Ok, Err}
 use Rattle.answers.specs.Answer.{pair_of}
-use Rattle.answers.specs.declared.WrittenPair.TheVariants as written
 use Rattle.record.specs.Layout.{base_of}
 use Rattle.record.specs.Record.{record_fault, ops}
 use Rattle.session_log.specs.declared.inner.Scan.{Scan}
@@ -11,8 +9,9 @@ use Rattle.session_log.specs.InnerScan.{Found}
 use Rattle.session.specs.Rows.{rebase}
 use Rattle.session.specs.Session.{accept_call}
 use Rattle.counterparts.specs.InnerRunning.{Rebased}
-use Rattle.append.specs.declared.inner.Tried.{Tried}
-use Rattle.append.specs.declared.inner.Tried.TheVariants as tried
+use Rattle.counterparts.specs.declared.inner.Stop.{Stop}
+use Rattle.counterparts.specs.declared.inner.Stop.TheVariants as stop
+use Rattle.answers.specs.declared.Refusal.{Refusal}
 
 -- nothing up to 8 refuses the edit, and the log may have a revision more
 pub record Admitted (edit : List ℕ) (r : ℕ) (log : List ℕ) (s : Scan) : Type 0 where
@@ -33,16 +32,16 @@ pub record MovedPast (edit : List ℕ) (r : ℕ) (log : List ℕ) (bytes : ℕ) 
 pub record Stored (edit : List ℕ) (r : ℕ) (log : List ℕ) (bytes : ℕ) (parts : List ℕ) : Type 0 where
   pub stored : bytes ≤ length parts → take bytes parts ≡ encode_all (rebase (ops edit) (drop r (revisions log))).counterparts
 
-pub record Accepts (edit : List ℕ) (r : ℕ) (log out : List ℕ) (x : WrittenPair) (log' out' : List ℕ) : Type 0 where
+pub record Accepts (edit : List ℕ) (r : ℕ) (log out : List ℕ) (x : Result (ℕ × ℕ) Refusal) (log' out' : List ℕ) : Type 0 where
   pub answer : pair_of x ≡ (accept_call edit r log out).answer
   pub log_is : log' ≡ (accept_call edit r log out).out_a
   pub out_is : out' ≡ (accept_call edit r log out).out_b
 
 -- short buffers may not do: then nothing was written
-abbrev pub TriesTo : List ℕ → ℕ → List ℕ → List ℕ → Tried → List ℕ → List ℕ → Type 0
-TriesTo edit r log out (tried.Bytes k l) log' out' = Accepts edit r log out (written.Bytes k l) log' out'
-TriesTo edit r log out (tried.Refused x) log' out' = Accepts edit r log out (written.Refused x) log' out'
-TriesTo edit r log out tried.Short log' out' = (log' ≡ log) × (out' ≡ out)
+abbrev pub TriesTo : List ℕ → ℕ → List ℕ → List ℕ → Result (ℕ × ℕ) Stop → List ℕ → List ℕ → Type 0
+TriesTo edit r log out (Ok (k, l)) log' out' = Accepts edit r log out (Ok (k, l)) log' out'
+TriesTo edit r log out (Err (stop.Refused x)) log' out' = Accepts edit r log out (Err x) log' out'
+TriesTo edit r log out (Err stop.Short) log' out' = (log' ≡ log) × (out' ≡ out)
 
-pub record Tries (edit : List ℕ) (r : ℕ) (log out : List ℕ) (x : Tried) (log' out' : List ℕ) : Type 0 where
+pub record Tries (edit : List ℕ) (r : ℕ) (log out : List ℕ) (x : Result (ℕ × ℕ) Stop) (log' out' : List ℕ) : Type 0 where
   pub tries : TriesTo edit r log out x log' out'

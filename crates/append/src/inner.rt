@@ -7,7 +7,8 @@ ghost use Rattle.session.specs.Session.{append as appended};
 ghost use Rattle.counterparts.specs.InnerRunning.{Holds};
 ghost use Rattle.append.specs.InnerAccepting.{Rooms, Admitted, Accepts, MovedPast, Stored, Tries};
 
-use answers::{Refusal, WrittenPair};
+use answers::Refusal;
+use counterparts::inner::Stop;
 use session_log::inner::Scan;
 
 // Whether the log, of which `used` bytes are taken, has room for `size` more, and the output for the counterparts.
@@ -32,16 +33,22 @@ pub fn append(log: &mut [u8], s: Scan, rec: &[u8], size: usize)
 }
 
 // Against the newest revision the edit is appended as it is.
-pub fn append_unmoved(edit: &[u8], r: u64, log: &mut [u8], s: Scan, out: &mut [u8]) -> WrittenPair
+pub fn append_unmoved(
+    edit: &[u8],
+    r: u64,
+    log: &mut [u8],
+    s: Scan,
+    out: &mut [u8],
+) -> Result<(usize, usize), Refusal>
     requires { Admitted edit.now r log.old s × (r ≡ count_of log.old) }
     ensures { Accepts edit.now r log.old out.old result log.new out.new }
 {
     let size = reader::inner::size(edit);
     if !has_room(log, s.size, size, out, 0) {
-        return WrittenPair::Refused(Refusal::Room);
+        return Err(Refusal::Room);
     }
     append(log, s, edit, size);
-    WrittenPair::Bytes(size, 0)
+    Ok((size, 0))
 }
 
 // The edit's record at the front of a buffer.
@@ -53,15 +60,7 @@ pub fn load_edit(cur: &mut [u8], edit: &[u8])
     buffers::inner::copy(cur, 0, edit, 0, size);
 }
 
-// What came of a run in short buffers: an answer, or nothing yet, since they were too short.
-#[derive(Clone, Copy)]
-pub enum Tried {
-    Bytes(usize, usize),
-    Refused(Refusal),
-    Short,
-}
-
-// What came out of the run goes into the log, the counterparts to the output.
+// What came out of the run goes into the log, the counterparts to the output, unless it was made in buffers that were too short.
 pub fn deliver(
     edit: &[u8],
     r: u64,
@@ -71,19 +70,19 @@ pub fn deliver(
     cur: &[u8],
     parts: &[u8],
     bytes: usize,
-) -> Tried
+) -> Result<(usize, usize), Stop>
     requires { Admitted edit.now r log.old s × MovedPast edit.now r log.old bytes cur.now
         × Stored edit.now r log.old bytes parts.now }
     ensures { Tries edit.now r log.old out.old result log.new out.new }
 {
     let size = reader::inner::size(cur);
     if !has_room(log, s.size, size, out, bytes) {
-        return Tried::Refused(Refusal::Room);
+        return Err(Stop::Refused(Refusal::Room));
     }
     if parts.len() < bytes {
-        return Tried::Short;
+        return Err(Stop::Short);
     }
     buffers::inner::copy(out, 0, parts, 0, bytes);
     append(log, s, cur, size);
-    Tried::Bytes(size, bytes)
+    Ok((size, bytes))
 }

@@ -1,5 +1,5 @@
 -- From what the code finds to the answer of apply.
-use Rattle.std.specs.Prelude.{◌≡◌, ℕ, zero, suc, ◌+◌, ◌<◌, ◌≤◌, T, List, [], ◌∷◌, ◌++◌, length}
+use Rattle.std.specs.Prelude.{◌≡◌, ℕ, zero, suc, ◌+◌, ◌<◌, ◌≤◌, T, List, [], ◌∷◌, ◌++◌, length, Result, Option, Ok, Err, Some, None}
 use mathlib.Core.Path.{◌∙◌, ap, refl, sym}
 use native.Mathlib.Omega.{arith}
 use borrow.Author.Tests.{eq-eqb, ne_eqb}
@@ -9,14 +9,10 @@ use Rattle.buffers.proofs.Over.{over_none, over_front}
 use Rattle.buffers.proofs.Tests.{holds}
 use Rattle.characters.specs.Chars.{number_of_chars}
 use Rattle.characters.specs.Form.{is_well_formed}
-use Rattle.characters.specs.declared.Form.{Form}
-use Rattle.characters.specs.declared.Form.TheVariants as form
 use Rattle.characters.specs.InnerPassed.{form_of}
 use Rattle.characters.proofs.Passed.{form_ill, form_well, form_num}
-use Rattle.answers.specs.Answer.{refused, success, number, fact_of, unless_refused}
+use Rattle.answers.specs.Answer.{refused, success, number, answer_of, unless_refused}
 use Rattle.answers.specs.declared.Refusal.{Refusal}
-use Rattle.answers.specs.declared.Fact.{Fact}
-use Rattle.answers.specs.declared.Fact.TheVariants as fact
 use Rattle.answers.proofs.Outputs.{untouched, writing_short, writing_goes, writing_stops}
 use Rattle.record.specs.Layout.{base_of, text_bytes_of}
 use Rattle.record.specs.Record.{record_fault}
@@ -85,8 +81,8 @@ module _ (r t o : List ℕ) (z : record_fault r ≡ 0) (w : T (is_well_formed t)
       apply_out c p = gives_out room c (p ∙ ap (over 0 (played r t)) same)
 
 -- what the checks find
-module _ (r t o : List ℕ) (f : Fact) (p : fact_of f ≡ check_call r) where
-  pub apply_refused : (x : Refusal) → f ≡ fact.Refused x → refused (number x) ≡ (apply_call r t o).answer
+module _ (r t o : List ℕ) (f : Result ℕ Refusal) (p : answer_of f ≡ check_call r) where
+  pub apply_refused : (x : Refusal) → f ≡ Err x → refused (number x) ≡ (apply_call r t o).answer
   unfolding apply_call played
   apply_refused x q = go (record_fault r) refl (same_refusal r f p x (success []) q)
     where
@@ -94,15 +90,15 @@ module _ (r t o : List ℕ) (f : Fact) (p : fact_of f ≡ check_call r) where
       go zero z e = absurd (let y : ◌≡◌ {A = ℕ} 0 1 = cc e in omega arith)
       go (suc k) z e = e ∙ writing_stops (base_text_fault r t) (played r t) o k (rw z)
 
-  module _ (s : ℕ) (q : f ≡ fact.Is s) (v : Form) (pv : v ≡ form_of t) where
-    pub apply_3 : v ≡ form.IllFormed → refused 3 ≡ (apply_call r t o).answer
+  module _ (s : ℕ) (q : f ≡ Ok s) (v : Option ℕ) (pv : v ≡ form_of t) where
+    pub apply_3 : v ≡ None → refused 3 ≡ (apply_call r t o).answer
     unfolding apply_call played
     apply_3 h = writing_stops (base_text_fault r t) (played r t) o 2 (rw (passed r f p s q, sym (form_ill t v pv h)))
 
-    pub apply_8 : (n b : ℕ) → v ≡ form.Chars n → b ≡ base_of r → (n ≡ b → ⊥) → refused 8 ≡ (apply_call r t o).answer
+    pub apply_8 : (n b : ℕ) → v ≡ Some n → b ≡ base_of r → (n ≡ b → ⊥) → refused 8 ≡ (apply_call r t o).answer
     unfolding apply_call played
     apply_8 n b h pb d =
         writing_stops (base_text_fault r t) (played r t) o 7 (rw (passed r f p s q, sym (form_well t v pv h), ne_eqb (number_of_chars t) (base_of r) (λ z. d (form_num t v pv h ∙ z ∙ sym pb))))
 
-pub agree : (r t : List ℕ) (v : Form) (n b : ℕ) → v ≡ form_of t → v ≡ form.Chars n → b ≡ base_of r → n ≡ b → number_of_chars t ≡ base_of r
+pub agree : (r t : List ℕ) (v : Option ℕ) (n b : ℕ) → v ≡ form_of t → v ≡ Some n → b ≡ base_of r → n ≡ b → number_of_chars t ≡ base_of r
 agree r t v n b pv h pb m = sym (form_num t v pv h) ∙ m ∙ pb

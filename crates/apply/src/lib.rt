@@ -4,48 +4,41 @@
 ghost use Rattle.std.specs.Prelude.{◌≡◌, T};
 ghost use Rattle.characters.specs.Form.{is_well_formed};
 ghost use Rattle.characters.specs.Chars.{number_of_chars};
-ghost use Rattle.answers.specs.Answer.{written_of};
+ghost use Rattle.answers.specs.Answer.{answer_of};
 ghost use Rattle.record.specs.Layout.{base_of};
 ghost use Rattle.record.specs.Record.{record_fault};
 ghost use Rattle.operational_transform.specs.Calls.{apply_call};
 
-use answers::{Fact, Refusal, Written};
-use characters::Form;
+use answers::Refusal;
 
 // The text after the edit: retain copies, delete skips, insert writes.
-pub fn apply(rec: &[u8], text: &[u8], out: &mut [u8]) -> Written
-    ensures { (written_of result ≡ (apply_call rec.now text.now out.old).answer)
+pub fn apply(rec: &[u8], text: &[u8], out: &mut [u8]) -> Result<usize, Refusal>
+    ensures { (answer_of result ≡ (apply_call rec.now text.now out.old).answer)
         × (out.new ≡ (apply_call rec.now text.now out.old).out) }
 {
-    match operation::check(rec) {
-        Fact::Refused(x) => Written::Refused(x),
-        Fact::Is(_) => {
-            let Form::Chars(chars) = utf8::inner::form_of(text) else {
-                return Written::Refused(Refusal::Utf8);
-            };
-            let base = reader::inner::base(rec);
-            if chars != base {
-                return Written::Refused(Refusal::IncompatibleLengths);
-            }
-            write(rec, text, out)
-        }
+    operation::check(rec)?;
+    let chars = utf8::inner::form_of(text).ok_or(Refusal::Utf8)?;
+    let base = reader::inner::base(rec);
+    if chars != base {
+        return Err(Refusal::IncompatibleLengths);
     }
+    write(rec, text, out)
 }
 
 // The text after the edit has no more bytes than the text before and what is inserted. Where there may be too little room
 // a first run yields the size and writes nothing.
-fn write(rec: &[u8], text: &[u8], out: &mut [u8]) -> Written
+fn write(rec: &[u8], text: &[u8], out: &mut [u8]) -> Result<usize, Refusal>
     requires { (record_fault rec.now ≡ 0) × T (is_well_formed text.now) × (number_of_chars text.now ≡ base_of rec.now) }
-    ensures { (written_of result ≡ (apply_call rec.now text.now out.old).answer)
+    ensures { (answer_of result ≡ (apply_call rec.now text.now out.old).answer)
         × (out.new ≡ (apply_call rec.now text.now out.old).out) }
 {
     let inserted = reader::inner::text_bytes(rec);
     if text.len() + inserted <= out.len() {
-        return Written::Bytes(apply_steps::inner::apply_into(out, rec, text));
+        return Ok(apply_steps::inner::apply_into(out, rec, text));
     }
     let size = apply_steps::inner::apply_into(&mut out[..0], rec, text);
     if out.len() < size {
-        return Written::Refused(Refusal::Room);
+        return Err(Refusal::Room);
     }
-    Written::Bytes(apply_steps::inner::apply_into(out, rec, text))
+    Ok(apply_steps::inner::apply_into(out, rec, text))
 }

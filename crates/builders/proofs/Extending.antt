@@ -1,5 +1,5 @@
 -- The record of the operations and the one added, as it is written.
-use Rattle.std.specs.Prelude.{◌≡◌, ℕ, ◌+◌, ◌<◌, ◌≤◌, Bool, true, false, T, List, [], ◌++◌, reverse, length}
+use Rattle.std.specs.Prelude.{◌≡◌, ℕ, ◌+◌, ◌<◌, ◌≤◌, Bool, true, false, T, List, [], ◌++◌, reverse, length, Result, Ok, Err}
 use mathlib.Core.Path.{sym, ap, ◌∙◌, refl}
 use native.Mathlib.Omega.{arith}
 use mathlib.Core.List.{reverse-reverse}
@@ -14,12 +14,8 @@ use Rattle.edits.specs.Op.{Op, takes, retain, insert, delete}
 use Rattle.edits.specs.Build.{add, extend}
 use Rattle.edits.specs.Sequence.{Seq}
 use Rattle.answers.specs.declared.Refusal.{Refusal}
-use Rattle.answers.specs.declared.Written.{Written}
-use Rattle.answers.specs.declared.Written.TheVariants as written
 use Rattle.answers.specs.InnerGiven.{Gives}
-use Rattle.answers.specs.declared.Fact.{Fact}
-use Rattle.answers.specs.declared.Fact.TheVariants as fact
-use Rattle.answers.specs.Answer.{fact_of}
+use Rattle.answers.specs.Answer.{answer_of}
 use Rattle.answers.specs.declared.Refusal.TheVariants.{Limit}
 use Rattle.record.specs.Record.{ops, record_fault, fits, in_bytes, inserted}
 use Rattle.record.specs.Layout.{op_count_of, text_bytes_of, start_of_text, max_size}
@@ -65,13 +61,13 @@ module _ (r : List ℕ) (p : Op Char) (u : List ℕ) (f : Emitter) (a : Grown r 
             ∙ ap (λ s. laid n s (texts_of s) o) twice;
       }
 
-  module _ (g : Emitter) (e : g ≡ closed_of f) (o : List ℕ) (v : Written) (j : v ≡ limits_before_room g (length o)) where
-    pub more_refused : (y : Refusal) → v ≡ written.Refused y → Gives (deliver 0 (extend (ops r) p) o) (written.Refused y) o
+  module _ (g : Emitter) (e : g ≡ closed_of f) (o : List ℕ) (v : Result ℕ Refusal) (j : v ≡ limits_before_room g (length o)) where
+    pub more_refused : (y : Refusal) → v ≡ Err y → Gives (deliver 0 (extend (ops r) p) o) (Err y) o
     more_refused y q = gives_refused (extend (ops r) p) o (closed_of f) o (laid_out 0 o) (grown_done 0 o) v (j ∙ ap (λ h. limits_before_room h (length o)) e) y q
 
-    pub text_written : (k m t : ℕ) {o₁ o₂ : List ℕ} → v ≡ written.Bytes k → m ≡ op_count_of r → t ≡ text_bytes_of r
+    pub text_written : (k m t : ℕ) {o₁ o₂ : List ℕ} → v ≡ Ok k → m ≡ op_count_of r → t ≡ text_bytes_of r
         → o₁ ≡ over (start_of_text g.ops + t) u (relocated m g.ops f.ops t r o) → o₂ ≡ headed g (flushed g.ops f o₁)
-        → Gives (deliver 0 (extend (ops r) p) o) (written.Bytes k) o₂
+        → Gives (deliver 0 (extend (ops r) p) o) (Ok k) o₂
     text_written k m t {o₁} {o₂} q mp tp p₁ p₂ =
         let n = g.ops in
         let same : o₁ ≡ over (start_of_text n + text_bytes_of r) u (relocated (op_count_of r) n f.ops (text_bytes_of r) r o) = p₁ ∙ (λ i. over (start_of_text n + tp i) u (relocated (mp i) n f.ops (tp i) r o)) in
@@ -79,10 +75,10 @@ module _ (r : List ℕ) (p : Op Char) (u : List ℕ) (f : Emitter) (a : Grown r 
         gives_written (extend (ops r) p) o g o (laid_out n o) d v j k o₂ q (record { emitter = g; before = laid_out n o; done = d; is = p₂ ∙ ap (λ x. headed g (flushed n f x)) same })
 
 -- where no text is put in
-pub more_written : (r : List ℕ) (p : Op Char) (f : Emitter) (a : Grown r p [] f) (g : Emitter) (e : g ≡ closed_of f) (o : List ℕ) (v : Written) → v ≡ limits_before_room g (length o)
-    → (k m t : ℕ) {o₁ o₂ : List ℕ} → v ≡ written.Bytes k → m ≡ op_count_of r → t ≡ text_bytes_of r
+pub more_written : (r : List ℕ) (p : Op Char) (f : Emitter) (a : Grown r p [] f) (g : Emitter) (e : g ≡ closed_of f) (o : List ℕ) (v : Result ℕ Refusal) → v ≡ limits_before_room g (length o)
+    → (k m t : ℕ) {o₁ o₂ : List ℕ} → v ≡ Ok k → m ≡ op_count_of r → t ≡ text_bytes_of r
     → o₁ ≡ relocated m g.ops f.ops t r o → o₂ ≡ headed g (flushed g.ops f o₁)
-    → Gives (deliver 0 (extend (ops r) p) o) (written.Bytes k) o₂
+    → Gives (deliver 0 (extend (ops r) p) o) (Ok k) o₂
 more_written r p f a g e o v j k m t q mp tp p₁ p₂ = text_written r p [] f a g e o v j k m t q mp tp (p₁ ∙ sym (over_nil _ _)) p₂
 
 -- ---- what is needed to write it
@@ -97,10 +93,10 @@ before_few r p u f a k e = omega (arith, a.few)
 -- ---- the entries
 
 module _ (r : List ℕ) (s : Seq) (o : List ℕ) where
-  pub record_refused : (f : Fact) → fact_of f ≡ check_call r → (x : Refusal) → f ≡ fact.Refused x → Gives (deliver (record_fault r) s o) (written.Refused x) o
-  record_refused f p x q = no_text s o r (written.Refused x) o (text_refused s o r [] f p x q)
+  pub record_refused : (f : Result ℕ Refusal) → answer_of f ≡ check_call r → (x : Refusal) → f ≡ Err x → Gives (deliver (record_fault r) s o) (Err x) o
+  record_refused f p x q = no_text s o r (Err x) o (text_refused s o r [] f p x q)
 
-  pub record_passed : record_fault r ≡ 0 → (w : Written) (o' : List ℕ) → Gives (deliver 0 s o) w o' → Gives (deliver (record_fault r) s o) w o'
+  pub record_passed : record_fault r ≡ 0 → (w : Result ℕ Refusal) (o' : List ℕ) → Gives (deliver 0 s o) w o' → Gives (deliver (record_fault r) s o) w o'
   record_passed z w o' g = rw z g
 
 -- ---- 9, where the operation alone passes a limit
@@ -118,19 +114,19 @@ extend_inserts s p h =
     omega (arith, ((fits_limits (reverse (add w p))).0 (known h)).text_bytes, e, length-append (texts_of w) (inserted (in_bytes p)))
 
 module _ (r o : List ℕ) where
-  limit_passed : (p : Op Char) → (fits (extend (ops r) p) ≡ true → ⊥) → Gives (deliver 0 (extend (ops r) p) o) (written.Refused Limit) o
+  limit_passed : (p : Op Char) → (fits (extend (ops r) p) ≡ true → ⊥) → Gives (deliver 0 (extend (ops r) p) o) (Err Limit) o
   limit_passed p f = gives_limit (extend (ops r) p) o (go (fits (extend (ops r) p)) refl)
     where
       go : (b : Bool) → fits (extend (ops r) p) ≡ b → b ≡ false
       go true q = absurd (f q)
       go false q = refl
 
-  pub retain_limit : (k : ℕ) → max_size < k → Gives (deliver 0 (extend (ops r) (retain k)) o) (written.Refused Limit) o
+  pub retain_limit : (k : ℕ) → max_size < k → Gives (deliver 0 (extend (ops r) (retain k)) o) (Err Limit) o
   retain_limit k h = limit_passed (retain k) (λ q. omega (arith, extend_takes (ops r) (retain k) q))
 
-  pub delete_limit : (k : ℕ) → max_size < k → Gives (deliver 0 (extend (ops r) (delete k)) o) (written.Refused Limit) o
+  pub delete_limit : (k : ℕ) → max_size < k → Gives (deliver 0 (extend (ops r) (delete k)) o) (Err Limit) o
   delete_limit k h = limit_passed (delete k) (λ q. omega (arith, extend_takes (ops r) (delete k) q))
 
-  pub insert_limit : (t : List ℕ) → T (is_well_formed t) → max_size < length t → Gives (deliver 0 (extend (ops r) (insert (chars t))) o) (written.Refused Limit) o
+  pub insert_limit : (t : List ℕ) → T (is_well_formed t) → max_size < length t → Gives (deliver 0 (extend (ops r) (insert (chars t))) o) (Err Limit) o
   unfolding in_bytes
   insert_limit t w h = limit_passed (insert (chars t)) (λ q. omega (arith, extend_inserts (ops r) (insert (chars t)) q, ap length (bytes_chars t w)))

@@ -1,5 +1,5 @@
 -- Two results fit into one number: each is at most the size of 256 records.
-use Rattle.std.specs.Prelude.{◌≡◌, ℕ, zero, suc, ◌*◌, ◌≤◌, ◌&&◌, T, eqb, ltb, leb, List, [], ◌∷◌, length, drop}
+use Rattle.std.specs.Prelude.{◌≡◌, ℕ, zero, suc, ◌*◌, ◌≤◌, ◌&&◌, T, eqb, ltb, leb, List, [], ◌∷◌, length, drop, Result}
 use mathlib.Core.Path.{refl, ap}
 use lib.Dec.{le→leb, ltb→lt}
 use lib.ListN.{length-append, length-drop}
@@ -11,7 +11,6 @@ use Rattle.edits.specs.Transform.{transform}
 use Rattle.edits.specs.Sequence.{Seq}
 use Rattle.answers.specs.Answer.{unless_refused, success, refused, needs, or_else, pair_of}
 use Rattle.answers.specs.Output.{Outs, writing_both}
-use Rattle.answers.specs.declared.WrittenPair.{WrittenPair}
 use Rattle.answers.proofs.Refusals.{first_zero, needs_out}
 use Rattle.record.specs.Layout.{base_of, size_of, max_record}
 use Rattle.record.specs.Record.{encode, fits, ops, record_fault}
@@ -25,6 +24,7 @@ use Rattle.session.specs.Session.{moved_in, accept_fault, append, accept_call, i
 use Rattle.session.proofs.Moving.{rebase_length, rebase_good}
 use Rattle.session.proofs.UndoAccepts.{undo_tests, undo_accepts}
 use Rattle.packing.specs.Numbers.{small, most}
+use Rattle.answers.specs.declared.Refusal.{Refusal}
 
 settled : (f : ℕ) (g : ℕ → Outs) (x : Outs) → ((n : ℕ) → T (small (g n).answer)) → (f ≡ 0 → T (small x.answer)) → T (small (unless_refused f g x).answer)
 settled zero g x p q = q refl
@@ -100,7 +100,7 @@ undo_small log k text x y out =
 
 -- ---- as the code finds it
 
-module _ (x : WrittenPair) where
+module _ (x : Result (ℕ × ℕ) Refusal) where
   pub transform_fits : (a b o p : List ℕ) → pair_of x ≡ (transform_call a b o p).answer → T (small (pair_of x))
   transform_fits a b o p e = rw e (transform_small a b o p)
 

@@ -34,21 +34,21 @@ pub extern "C" fn ot_num_chars(bytes: &[u8]) -> u64
 pub extern "C" fn ot_check(rec: &[u8]) -> u64
     ensures { result ≡ packed (check_call rec.now) }
 {
-    packing::inner::fact(operation::check(rec))
+    packing::inner::answer(operation::check(rec))
 }
 
 #[unsafe(no_mangle)]
 pub extern "C" fn ot_base_len(rec: &[u8]) -> u64
     ensures { result ≡ packed (base_call rec.now) }
 {
-    packing::inner::fact(operation::base_len(rec))
+    packing::inner::answer(operation::base_len(rec))
 }
 
 #[unsafe(no_mangle)]
 pub extern "C" fn ot_target_len(rec: &[u8]) -> u64
     ensures { result ≡ packed (target_call rec.now) }
 {
-    packing::inner::fact(operation::target_len(rec))
+    packing::inner::answer(operation::target_len(rec))
 }
 
 #[unsafe(no_mangle)]
@@ -86,7 +86,7 @@ pub extern "C" fn ot_retain(rec: &[u8], n: u64, out: &mut [u8]) -> u64
     ensures { (result ≡ packed (retain_call rec.now n out.old).answer)
         × (out.new ≡ (retain_call rec.now n out.old).out) }
 {
-    packing::inner::written(builders::retain(rec, n, out))
+    packing::inner::answer(builders::retain(rec, n, out))
 }
 
 #[unsafe(no_mangle)]
@@ -94,7 +94,7 @@ pub extern "C" fn ot_delete(rec: &[u8], n: u64, out: &mut [u8]) -> u64
     ensures { (result ≡ packed (delete_call rec.now n out.old).answer)
         × (out.new ≡ (delete_call rec.now n out.old).out) }
 {
-    packing::inner::written(builders::delete(rec, n, out))
+    packing::inner::answer(builders::delete(rec, n, out))
 }
 
 #[unsafe(no_mangle)]
@@ -102,7 +102,7 @@ pub extern "C" fn ot_insert(rec: &[u8], text: &[u8], out: &mut [u8]) -> u64
     ensures { (result ≡ packed (insert_call rec.now text.now out.old).answer)
         × (out.new ≡ (insert_call rec.now text.now out.old).out) }
 {
-    packing::inner::written(builders::insert(rec, text, out))
+    packing::inner::answer(builders::insert(rec, text, out))
 }
 
 // ---- lists from the browser
@@ -112,7 +112,7 @@ pub extern "C" fn ot_from_json(list: &[u8], out: &mut [u8]) -> u64
     ensures { (result ≡ packed (from_json_call list.now out.old).answer)
         × (out.new ≡ (from_json_call list.now out.old).out) }
 {
-    packing::inner::written(json_edits::from_json(list, out))
+    packing::inner::answer(json_edits::from_json(list, out))
 }
 
 #[unsafe(no_mangle)]
@@ -120,7 +120,7 @@ pub extern "C" fn ot_to_json(rec: &[u8], out: &mut [u8]) -> u64
     ensures { (result ≡ packed (to_json_call rec.now out.old).answer)
         × (out.new ≡ (to_json_call rec.now out.old).out) }
 {
-    packing::inner::written(json_edits::to_json(rec, out))
+    packing::inner::answer(json_edits::to_json(rec, out))
 }
 
 // ---- records and texts
@@ -130,7 +130,7 @@ pub extern "C" fn ot_apply(rec: &[u8], text: &[u8], out: &mut [u8]) -> u64
     ensures { (result ≡ packed (apply_call rec.now text.now out.old).answer)
         × (out.new ≡ (apply_call rec.now text.now out.old).out) }
 {
-    packing::inner::written(apply::apply(rec, text, out))
+    packing::inner::answer(apply::apply(rec, text, out))
 }
 
 #[unsafe(no_mangle)]
@@ -138,7 +138,7 @@ pub extern "C" fn ot_invert(rec: &[u8], text: &[u8], out: &mut [u8]) -> u64
     ensures { (result ≡ packed (invert_call rec.now text.now out.old).answer)
         × (out.new ≡ (invert_call rec.now text.now out.old).out) }
 {
-    packing::inner::written(invert::invert(rec, text, out))
+    packing::inner::answer(invert::invert(rec, text, out))
 }
 
 #[unsafe(no_mangle)]
@@ -146,7 +146,7 @@ pub extern "C" fn ot_compose(a: &[u8], b: &[u8], out: &mut [u8]) -> u64
     ensures { (result ≡ packed (compose_call a.now b.now out.old).answer)
         × (out.new ≡ (compose_call a.now b.now out.old).out) }
 {
-    packing::inner::written(compose::compose(a, b, out))
+    packing::inner::answer(compose::compose(a, b, out))
 }
 
 #[unsafe(no_mangle)]
@@ -165,7 +165,7 @@ pub extern "C" fn ot_open(start: u64, log: &mut [u8]) -> u64
     ensures { (result ≡ packed (open_call start log.old).answer)
         × (log.new ≡ (open_call start log.old).out) }
 {
-    packing::inner::written(session_log::open(start, log))
+    packing::inner::answer(session_log::open(start, log))
 }
 
 #[unsafe(no_mangle)]
@@ -201,7 +201,7 @@ pub extern "C" fn ot_summary(log: &[u8], out: &mut [u8]) -> u64
     ensures { (result ≡ packed (summary_call log.now out.old).answer)
         × (out.new ≡ (summary_call log.now out.old).out) }
 {
-    packing::inner::written(summary::summary(log, out))
+    packing::inner::answer(summary::summary(log, out))
 }
 
 #[unsafe(no_mangle)]
@@ -217,5 +217,5 @@ pub extern "C" fn ot_play(
         × (out.new ≡ (play_call log.now text.now (length scratch_a.old)
         (length scratch_b.old) out.old).out) }
 {
-    packing::inner::written(playback::play(log, text, scratch_a, scratch_b, out))
+    packing::inner::answer(playback::play(log, text, scratch_a, scratch_b, out))
 }

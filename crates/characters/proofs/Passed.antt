@@ -1,4 +1,5 @@
 -- A text gone through character by character.
+use Rattle.std.specs.Prelude.{Option, Some, None}
 use Prim.Native.Nat.{ℕ, ◌+◌, ◌<◌, zero-le, ◌-◌, ◌≤◌, zero, suc}
 use mathlib.Core.Path.{◌≡◌, refl, sym, ◌∙◌, ap}
 use mathlib.Core.Bool.{true, false, Bool, not, ◌&&◌, false≢true}
@@ -9,11 +10,9 @@ use lib.ListN.{length, get_or, drop_of_length-le, take, drop, length-append, len
 use borrow.Author.Tests.{not-true, not-false}
 use Rattle.buffers.specs.Lists.{concat}
 use Rattle.buffers.proofs.Tests.{known, holds}
-use Rattle.characters.specs.declared.Form.TheVariants.{Chars, IllFormed}
 use Rattle.characters.specs.Form.{is_well_formed, lead_from, well_formed_from, whole}
 use Rattle.characters.specs.Chars.{number_of_chars, take_chars, chars_of}
 use Rattle.characters.specs.InnerPassed.{form_of, Passed, spans}
-use Rattle.characters.specs.declared.Form.{Form}
 use Rattle.characters.specs.InnerAscii.{Runs}
 use Rattle.characters.specs.declared.Lead.{Lead}
 use Rattle.characters.specs.declared.Lead.TheVariants.{Bad, Of}
@@ -25,23 +24,23 @@ use Rattle.characters.proofs.Steps.{first_due, room, well_behind, first_num, fir
 
 -- ---- what the text is
 
-pub is_well : (t : List ℕ) (n : ℕ) → is_well_formed t ≡ true → n ≡ number_of_chars t → Chars n ≡ form_of t
+pub is_well : (t : List ℕ) (n : ℕ) → is_well_formed t ≡ true → n ≡ number_of_chars t → Some n ≡ form_of t
 unfolding form_of
 is_well t n w e = rw (w, e)
 
-is_ill : (t : List ℕ) → is_well_formed t ≡ false → IllFormed ≡ form_of t
+is_ill : (t : List ℕ) → is_well_formed t ≡ false → None ≡ form_of t
 unfolding form_of
 is_ill t w = rw w
 
-module _ (t : List ℕ) (x : Form) (e : x ≡ form_of t) where
-  pub form_ill : x ≡ IllFormed → false ≡ is_well_formed t
+module _ (t : List ℕ) (x : Option ℕ) (e : x ≡ form_of t) where
+  pub form_ill : x ≡ None → false ≡ is_well_formed t
   form_ill f = go (is_well_formed t) refl
     where
       go : (w : Bool) → is_well_formed t ≡ w → false ≡ w
       go true p = absurd (let z : ◌≡◌ {A = ℕ} 0 1 = cc (is_well t (number_of_chars t) p refl) in omega arith)
       go false p = refl
 
-  module _ {n : ℕ} (f : x ≡ Chars n) where
+  module _ {n : ℕ} (f : x ≡ Some n) where
     pub form_well : true ≡ is_well_formed t
     form_well = go (is_well_formed t) refl
       where
@@ -68,19 +67,19 @@ passed_one t i conts s h l = passed_run t i (i + 1) conts s (runs_one t i h l)
 pub passed_first : (t : List ℕ) (i : ℕ) → Runs t 0 i → Passed t i 0
 passed_first t i r = passed_run t 0 i 0 (record { below = zero-le; few = zero-le; well = refl; num = refl }) r
 
-pub passed_all : (t : List ℕ) (i conts : ℕ) → Passed t i conts → length t ≤ i → Chars (length t - conts) ≡ form_of t
+pub passed_all : (t : List ℕ) (i conts : ℕ) → Passed t i conts → length t ≤ i → Some (length t - conts) ≡ form_of t
 passed_all t i conts s h =
     let e = drop_of_length-le t h in
     is_well t (length t - conts) (sym s.well ∙ ap is_well_formed e) (omega (arith, s.below, s.few, s.num, ap number_of_chars e))
 
-pub all_ascii : (t : List ℕ) (i : ℕ) → Runs t 0 i → i ≡ length t → Chars i ≡ form_of t
+pub all_ascii : (t : List ℕ) (i : ℕ) → Runs t 0 i → i ≡ length t → Some i ≡ form_of t
 all_ascii t i r e = let z : i ≡ length t - 0 = omega arith in rw z (passed_all t i 0 (passed_first t i r) (omega arith))
 
 pub well_ascii : (t : List ℕ) (i : ℕ) → Runs t 0 i → i ≡ length t → true ≡ is_well_formed t
-well_ascii t i r e = form_well t (Chars i) (all_ascii t i r e) refl
+well_ascii t i r e = form_well t (Some i) (all_ascii t i r e) refl
 
 module _ (t : List ℕ) (i conts : ℕ) (x : Lead) (s : Passed t i conts) (h : i < length t) (e : x ≡ lead_from (get_or t i 0)) where
-  pub lead_bad : x ≡ Bad → IllFormed ≡ form_of t
+  pub lead_bad : x ≡ Bad → None ≡ form_of t
   lead_bad f = is_ill t (sym s.well ∙ rest_lead t i h 0 0x80 0xBF refl ∙ ap (well_formed_from (drop (i + 1) t)) (sym e ∙ f) ∙ rest_bad (drop (i + 1) t))
 
   module _ {more lo hi : ℕ} (f : x ≡ Of more lo hi) where
@@ -88,7 +87,7 @@ module _ (t : List ℕ) (i conts : ℕ) (x : Lead) (s : Passed t i conts) (h : i
     lead_few = leb→le more 3 (rw (sym e ∙ f) at (short_lead (get_or t i 0)))
 
     module _ (d : Bool) (g : d ≡ whole (take more (drop (i + 1) t)) (Of more lo hi)) where
-      pub not_due : not d ≡ true → IllFormed ≡ form_of t
+      pub not_due : not d ≡ true → None ≡ form_of t
       not_due k = is_ill t (sym s.well ∙ first_due t i h (sym e ∙ f) ∙ ap (λ z. z && is_well_formed (drop (i + 1 + more) t)) (sym g ∙ not-true d k))
 
       pub past_due : not d ≡ false → Passed t (i + 1 + more) (conts + more)

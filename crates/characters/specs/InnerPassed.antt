@@ -1,14 +1,12 @@
 -- How far a text was gone through, and what it is found to be. Only contracts of inner functions cite this.
-use Rattle.std.specs.Prelude.{ℕ, ◌+◌, ◌≤◌, suc, cond, Bool, true, List, ◌≡◌, length, drop, eqb}
-use Rattle.characters.specs.declared.Form.{Form}
-use Rattle.characters.specs.declared.Form.TheVariants.{IllFormed, Chars}
+use Rattle.std.specs.Prelude.{ℕ, ◌+◌, ◌≤◌, suc, cond, Bool, true, List, ◌≡◌, length, drop, eqb, Option, Some, None}
 use Rattle.characters.specs.Form.{is_well_formed}
 use Rattle.characters.specs.Chars.{number_of_chars}
 use Rattle.characters.specs.declared.Lead.{Lead}
 use Rattle.characters.specs.declared.Lead.TheVariants.{Bad, Of}
 
-unfoldable pub form_of : List ℕ → Form
-form_of t = cond (is_well_formed t) (Chars (number_of_chars t)) IllFormed
+unfoldable pub form_of : List ℕ → Option ℕ
+form_of t = cond (is_well_formed t) (Some (number_of_chars t)) None
 
 -- whole characters up to `at`, with so many continuations among their bytes
 pub record Passed (t : List ℕ) (at conts : ℕ) : Type 0 where

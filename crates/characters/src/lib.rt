@@ -7,18 +7,3 @@ pub enum Lead {
     Bad,
     Of { more: usize, lo: u8, hi: u8 },
 }
-
-// How two texts stand in byte order.
-#[derive(Clone, Copy)]
-pub enum Ordering {
-    Less,
-    Equal,
-    Greater,
-}
-
-// What a text is found to be: ill-formed, or of so many characters.
-#[derive(Clone, Copy)]
-pub enum Form {
-    IllFormed,
-    Chars(usize),
-}

@@ -1,5 +1,5 @@
 -- The loop of compose, and its answers.
-use Rattle.std.specs.Prelude.{◌≡◌, ℕ, suc, ◌^◌, Bool, false, eqb, List, length}
+use Rattle.std.specs.Prelude.{◌≡◌, ℕ, suc, ◌^◌, Bool, false, eqb, List, length, Result, Ok, Err}
 use native.Mathlib.Omega.{arith}
 use mathlib.Core.Path.{sym, ◌∙◌, refl}
 use borrow.Author.Tests.{ne_eqb, eq-eqb}
@@ -7,14 +7,10 @@ use Rattle.edits.specs.Op.{base, target}
 use Rattle.edits.specs.Compose.{compose_turn, made, compose}
 use Rattle.edits.specs.Sequence.{Seq}
 use Rattle.edits.proofs.Theorems.{compose_base, compose_target}
-use Rattle.answers.specs.Answer.{needs, or_else, number, fact_of}
+use Rattle.answers.specs.Answer.{needs, or_else, number, answer_of}
 use Rattle.answers.specs.declared.Refusal.{Refusal}
-use Rattle.answers.specs.declared.Written.TheVariants as written
 use Rattle.answers.specs.InnerGiven.{Gives}
 use Rattle.answers.specs.declared.Refusal.TheVariants.{IncompatibleLengths}
-use Rattle.answers.specs.declared.Written.{Written}
-use Rattle.answers.specs.declared.Fact.{Fact}
-use Rattle.answers.specs.declared.Fact.TheVariants as fact
 use Rattle.record.specs.Layout.{base_of, target_of}
 use Rattle.record.specs.Record.{ops, record_fault}
 use Rattle.record.specs.Calls.{check_call}
@@ -75,28 +71,28 @@ module _ (a b : List ℕ) (z : Sizes) where
 abbrev faults : List ℕ → List ℕ → ℕ
 faults a b = or_else (records_fault a b) (needs (eqb (target_of a) (base_of b)) 8 0)
 
-fault_is : (a b o : List ℕ) (x : Refusal) (k : ℕ) → number x ≡ suc k → faults a b ≡ suc k → Gives (compose_call a b o) (written.Refused x) o
+fault_is : (a b o : List ℕ) (x : Refusal) (k : ℕ) → number x ≡ suc k → faults a b ≡ suc k → Gives (compose_call a b o) (Err x) o
 unfolding compose_call
 fault_is a b o x k n e = rw e (refuses (compose (ops a) (ops b)) o k x n)
 
 module _ (a b o : List ℕ) (za : record_fault a ≡ 0) (zb : record_fault b ≡ 0) (t s : ℕ) (pt : t ≡ target_of a) (ps : s ≡ base_of b) where
-  pub composes_lengths : (t ≡ s → ⊥) → Gives (compose_call a b o) (written.Refused IncompatibleLengths) o
+  pub composes_lengths : (t ≡ s → ⊥) → Gives (compose_call a b o) (Err IncompatibleLengths) o
   composes_lengths h = fault_is a b o IncompatibleLengths 7 refl (rw (za, zb, ne_eqb (target_of a) (base_of b) (λ z. h (pt ∙ z ∙ sym ps))))
 
-module _ (a b o : List ℕ) (za : record_fault a ≡ 0) (zb : record_fault b ≡ 0) (h : target_of a ≡ base_of b) (e : Emitter) {n : ℕ} (m q : List ℕ) (d : Done n (compose (ops a) (ops b)) m e q) (v : Written) (j : v ≡ limits_before_room e (length o)) where
-  passes : (w : Written) (o' : List ℕ) → Gives (deliver 0 (compose (ops a) (ops b)) o) w o' → Gives (compose_call a b o) w o'
+module _ (a b o : List ℕ) (za : record_fault a ≡ 0) (zb : record_fault b ≡ 0) (h : target_of a ≡ base_of b) (e : Emitter) {n : ℕ} (m q : List ℕ) (d : Done n (compose (ops a) (ops b)) m e q) (v : Result ℕ Refusal) (j : v ≡ limits_before_room e (length o)) where
+  passes : (w : Result ℕ Refusal) (o' : List ℕ) → Gives (deliver 0 (compose (ops a) (ops b)) o) w o' → Gives (compose_call a b o) w o'
   unfolding compose_call
   passes w o' g = rw (za, zb, eq-eqb (target_of a) (base_of b) h) g
 
-  pub composes_refused : (x : Refusal) → v ≡ written.Refused x → Gives (compose_call a b o) (written.Refused x) o
-  composes_refused x z = passes (written.Refused x) o (gives_refused (compose (ops a) (ops b)) o e m q d v j x z)
+  pub composes_refused : (x : Refusal) → v ≡ Err x → Gives (compose_call a b o) (Err x) o
+  composes_refused x z = passes (Err x) o (gives_refused (compose (ops a) (ops b)) o e m q d v j x z)
 
-  pub composes_written : (k : ℕ) (o' : List ℕ) → v ≡ written.Bytes k → Writes e.ops (compose (ops a) (ops b)) o o' → Gives (compose_call a b o) (written.Bytes k) o'
-  composes_written k o' z u = passes (written.Bytes k) o' (gives_written (compose (ops a) (ops b)) o e m q d v j k o' z u)
+  pub composes_written : (k : ℕ) (o' : List ℕ) → v ≡ Ok k → Writes e.ops (compose (ops a) (ops b)) o o' → Gives (compose_call a b o) (Ok k) o'
+  composes_written k o' z u = passes (Ok k) o' (gives_written (compose (ops a) (ops b)) o e m q d v j k o' z u)
 
-module _ (a b o : List ℕ) (f : Fact) where
-  pub composes_second : record_fault a ≡ 0 → fact_of f ≡ check_call b → (x : Refusal) → f ≡ fact.Refused x → Gives (compose_call a b o) (written.Refused x) o
+module _ (a b o : List ℕ) (f : Result ℕ Refusal) where
+  pub composes_second : record_fault a ≡ 0 → answer_of f ≡ check_call b → (x : Refusal) → f ≡ Err x → Gives (compose_call a b o) (Err x) o
   composes_second za p x q = let s = stopped b f p x q in fault_is a b o x s.less s.number_is (rw (za, s.fault))
 
-  pub composes_first : fact_of f ≡ check_call a → (x : Refusal) → f ≡ fact.Refused x → Gives (compose_call a b o) (written.Refused x) o
+  pub composes_first : answer_of f ≡ check_call a → (x : Refusal) → f ≡ Err x → Gives (compose_call a b o) (Err x) o
   composes_first p x q = let s = stopped a f p x q in fault_is a b o x s.less s.number_is (rw s.fault)

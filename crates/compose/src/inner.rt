@@ -9,7 +9,7 @@ ghost use Rattle.operational_transform.specs.Calls.{compose_call};
 ghost use Rattle.emitter.specs.InnerEmit.{Done, Writes, Under, Staged};
 ghost use Rattle.compose.specs.InnerSized.{between};
 
-use answers::{Refusal, Written};
+use answers::Refusal;
 use emitter::inner::Emitter;
 use record::inner::MAX_OPS;
 
@@ -106,47 +106,56 @@ fn staged(
     stage: &mut [u8],
     slots: usize,
     out: &mut [u8],
-) -> Written
+) -> Result<usize, Refusal>
     requires { Operands na nb a.now b.now × (slots ≤ 2 * max_ops) × (target_of a.now ≡ base_of b.now) }
     ensures { Gives (compose_call a.now b.now out.old) result out.new }
 {
     // made anew, since a slice that is handed on as it came is copied, and the copy waits for its bytes
     let z = compose_into(&a[..], na, &b[..], nb, stage, slots);
     let e = sized(a, b, z);
-    match emitter::inner::limits_then_room(e, out.len()) {
-        Written::Refused(x) => Written::Refused(x),
-        Written::Bytes(k) => {
-            place(a, na, b, nb, stage, slots, e, out);
-            Written::Bytes(k)
-        }
-    }
+    let k = emitter::inner::limits_then_room(e, out.len())?;
+    place(a, na, b, nb, stage, slots, e, out);
+    Ok(k)
 }
 
 // With stages of several lengths: what is cleared is paid for. (The answer is taken apart because one that is handed on whole is
 // copied, and the copy waits for the bytes.)
-fn in_small_stage(a: &[u8], na: usize, b: &[u8], nb: usize, out: &mut [u8]) -> Written
+fn in_small_stage(
+    a: &[u8],
+    na: usize,
+    b: &[u8],
+    nb: usize,
+    out: &mut [u8],
+) -> Result<usize, Refusal>
     requires { Operands na nb a.now b.now × (target_of a.now ≡ base_of b.now) }
     ensures { Gives (compose_call a.now b.now out.old) result out.new }
 {
     let mut stage = [0u8; SMALL_STAGE];
-    match staged(a, na, b, nb, &mut stage, na + nb, out) {
-        Written::Bytes(k) => Written::Bytes(k),
-        Written::Refused(x) => Written::Refused(x),
-    }
+    staged(a, na, b, nb, &mut stage, na + nb, out)
 }
 
-fn in_medium_stage(a: &[u8], na: usize, b: &[u8], nb: usize, out: &mut [u8]) -> Written
+fn in_medium_stage(
+    a: &[u8],
+    na: usize,
+    b: &[u8],
+    nb: usize,
+    out: &mut [u8],
+) -> Result<usize, Refusal>
     requires { Operands na nb a.now b.now × (target_of a.now ≡ base_of b.now) }
     ensures { Gives (compose_call a.now b.now out.old) result out.new }
 {
     let mut stage = [0u8; MEDIUM_STAGE];
-    match staged(a, na, b, nb, &mut stage, na + nb, out) {
-        Written::Bytes(k) => Written::Bytes(k),
-        Written::Refused(x) => Written::Refused(x),
-    }
+    staged(a, na, b, nb, &mut stage, na + nb, out)
 }
 
-fn in_large_stage(a: &[u8], na: usize, b: &[u8], nb: usize, slots: usize, out: &mut [u8]) -> Written
+fn in_large_stage(
+    a: &[u8],
+    na: usize,
+    b: &[u8],
+    nb: usize,
+    slots: usize,
+    out: &mut [u8],
+) -> Result<usize, Refusal>
     requires { Operands na nb a.now b.now × (slots ≤ 2 * max_ops) × (target_of a.now ≡ base_of b.now) }
     ensures { Gives (compose_call a.now b.now out.old) result out.new }
 {
@@ -155,14 +164,14 @@ fn in_large_stage(a: &[u8], na: usize, b: &[u8], nb: usize, slots: usize, out: &
 }
 
 // Of two records that were checked.
-pub fn composed(a: &[u8], b: &[u8], out: &mut [u8]) -> Written
+pub fn composed(a: &[u8], b: &[u8], out: &mut [u8]) -> Result<usize, Refusal>
     requires { (record_fault a.now ≡ 0) × (record_fault b.now ≡ 0) }
     ensures { Gives (compose_call a.now b.now out.old) result out.new }
 {
     let target = reader::inner::target(a);
     let base = reader::inner::base(b);
     if target != base {
-        return Written::Refused(Refusal::IncompatibleLengths);
+        return Err(Refusal::IncompatibleLengths);
     }
     let na = reader::inner::op_count(a);
     let nb = reader::inner::op_count(b);

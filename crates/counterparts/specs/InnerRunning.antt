@@ -16,8 +16,8 @@ use Rattle.steps.specs.declared.inner.Pair.{Pair}
 use Rattle.session_log.specs.Log.{readable_from, encode_all}
 use Rattle.session.specs.Rows.{rebase}
 use Rattle.counterparts.specs.declared.inner.Progress.{Progress}
-use Rattle.counterparts.specs.declared.inner.Run.{Run}
-use Rattle.counterparts.specs.declared.inner.Run.TheVariants as outcome
+use Rattle.counterparts.specs.declared.inner.Stop.{Stop}
+use Rattle.counterparts.specs.declared.inner.Stop.TheVariants as stop
 
 -- n records that can be read stand end to end in `l`, where the length is `len` before them
 pub record RecordsFollow (n len : ℕ) (l : List ℕ) : Type 0 where
@@ -73,12 +73,12 @@ pub record Rebased (e : Seq) (vs : List Seq) (bytes : ℕ) (cur' : List ℕ) : T
   pub holds : Holds (rebase e vs).edit cur'
 
 -- in a buffer of `room` bytes and stages with places for `slots` operations; the counterparts go to `parts`, if they have room there
-abbrev pub RunsTo : ℕ → ℕ → Seq → List Seq → Run → List ℕ → List ℕ → List ℕ → Type 0
-RunsTo slots room e vs (outcome.Refused x) cur' parts parts' = (x ≡ Limit) × ((rebase e vs).kept ≡ false)
-RunsTo slots room e vs (outcome.Kept b) cur' parts parts' = Rebased e vs b cur' × (b ≤ length parts → parts' ≡ put_at_front (encode_all (rebase e vs).counterparts) parts)
-RunsTo slots room e vs outcome.Short cur' parts parts' = max_ops ≤ slots → max_record ≤ room → ⊥
+abbrev pub RunsTo : ℕ → ℕ → Seq → List Seq → Result ℕ Stop → List ℕ → List ℕ → List ℕ → Type 0
+RunsTo slots room e vs (Err (stop.Refused x)) cur' parts parts' = (x ≡ Limit) × ((rebase e vs).kept ≡ false)
+RunsTo slots room e vs (Ok b) cur' parts parts' = Rebased e vs b cur' × (b ≤ length parts → parts' ≡ put_at_front (encode_all (rebase e vs).counterparts) parts)
+RunsTo slots room e vs (Err stop.Short) cur' parts parts' = max_ops ≤ slots → max_record ≤ room → ⊥
 
-pub record Runs (slots room : ℕ) (e : Seq) (vs : List Seq) (r : Run) (cur' parts parts' : List ℕ) : Type 0 where
+pub record Runs (slots room : ℕ) (e : Seq) (vs : List Seq) (r : Result ℕ Stop) (cur' parts parts' : List ℕ) : Type 0 where
   pub runs : RunsTo slots room e vs r cur' parts parts'
 
 -- what goes into the log, and to the output

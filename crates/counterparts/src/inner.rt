@@ -13,10 +13,9 @@ use answers::Refusal;
 use emitter::inner::Emitter;
 use steps::inner::Pair;
 
-// How many bytes the counterparts have, or why the run ended: a refusal, or buffers that are too short for what is written.
-#[derive(Clone, Copy)]
-pub enum Run {
-    Kept(usize),
+// Why a run ended early: a refusal, or buffers that are too short for what is written.
+#[derive(Clone, Copy, Debug, PartialEq, Eq)]
+pub enum Stop {
     Refused(Refusal),
     Short,
 }

@@ -1,5 +1,5 @@
 -- The emitter's last steps, and what a whole call delivers.
-use Rattle.std.specs.Prelude.{◌≡◌, ℕ, zero, suc, ◌+◌, ◌/◌, ◌%◌, ◌^◌, ◌<◌, ◌≤◌, max, Bool, true, false, cond, not, T, leb, ◌⊎◌, List, [], ◌∷◌, ◌++◌, map, reverse, length}
+use Rattle.std.specs.Prelude.{◌≡◌, ℕ, zero, suc, ◌+◌, ◌/◌, ◌%◌, ◌^◌, ◌<◌, ◌≤◌, max, Bool, true, false, cond, not, T, leb, ◌⊎◌, List, [], ◌∷◌, ◌++◌, map, reverse, length, Result, Ok, Err}
 use mathlib.Core.List.{reverse_aux, append-nil, append_assoc, reverse-reverse}
 use mathlib.Core.Path.{sym, ap, ◌∙◌, refl, ap₂}
 use native.Mathlib.Omega.{arith}
@@ -17,11 +17,9 @@ use Rattle.edits.specs.Op.{size, Op, takes, gives as given, base, target, retain
 use Rattle.edits.specs.Sequence.{Seq}
 use Rattle.edits.specs.Build.{add_all, build}
 use Rattle.answers.specs.declared.Refusal.TheVariants.{Limit, Room}
-use Rattle.answers.specs.declared.Written.TheVariants.{Bytes, Refused}
 use Rattle.answers.specs.declared.Refusal.{Refusal}
-use Rattle.answers.specs.Answer.{number, success, refused, written_of}
+use Rattle.answers.specs.Answer.{number, success, refused, answer_of}
 use Rattle.answers.specs.Output.{writing}
-use Rattle.answers.specs.declared.Written.{Written}
 use Rattle.record.specs.Record.{in_bytes, code, inserted, text, encode, fits}
 use Rattle.record.specs.Layout.{kinds_start, counts_start, start_of_text, max_ops, max_size}
 use Rattle.record.proofs.Sequences.{Limits, fits_limits}
@@ -133,15 +131,15 @@ module _ (e : Emitter) where
   limits_last a b c = rw (le-leb e.ops max_ops a, le-leb e.text max_size b, le-leb e.base max_size c)
 
   module _ (room : ℕ) (v : Bool) (p : v ≡ within_limits e) where
-    pub judge_limit : not v ≡ true → Refused Limit ≡ limits_before_room e room
+    pub judge_limit : not v ≡ true → Err Limit ≡ limits_before_room e room
     unfolding limits_before_room
     judge_limit h = rw (sym p ∙ not-true v h)
 
-    pub judge_room : (k : ℕ) → not v ≡ false → k ≡ size_in e → room < k → Refused Room ≡ limits_before_room e room
+    pub judge_room : (k : ℕ) → not v ≡ false → k ≡ size_in e → room < k → Err Room ≡ limits_before_room e room
     unfolding limits_before_room
     judge_room k h z l = rw (sym p ∙ not-false v h, lt-leb (size_in e) room (omega arith))
 
-    pub judge_bytes : (k : ℕ) → not v ≡ false → k ≡ size_in e → k ≤ room → Bytes k ≡ limits_before_room e room
+    pub judge_bytes : (k : ℕ) → not v ≡ false → k ≡ size_in e → k ≤ room → Ok k ≡ limits_before_room e room
     unfolding limits_before_room
     judge_bytes k h z l = rw (sym p ∙ not-false v h, le-leb (size_in e) room (omega arith), z)
 
@@ -239,11 +237,11 @@ written_front s n out e o o' l r d m w =
 module _ (s : Seq) (e : Emitter) (out : List ℕ) (z : Sizes s e) where
   -- a call is refused, or there is room for the record and it is written
   data Outcome : Type 0 where
-    refuses : (x : Refusal) → limits_before_room e (length out) ≡ Refused x → deliver 0 s out ≡ record { answer = refused (number x); out = out } → Outcome
-    writes : Limits s → length (encode s) ≤ length out → limits_before_room e (length out) ≡ Bytes (length (encode s))
+    refuses : (x : Refusal) → limits_before_room e (length out) ≡ Err x → deliver 0 s out ≡ record { answer = refused (number x); out = out } → Outcome
+    writes : Limits s → length (encode s) ≤ length out → limits_before_room e (length out) ≡ Ok (length (encode s))
         → deliver 0 s out ≡ record { answer = success (length (encode s) ∷ []); out = put_at_front (encode s) out } → Outcome
 
-  judged_is : limits_before_room e (length out) ≡ cond (fits s) (cond (leb (length (encode s)) (length out)) (Bytes (length (encode s))) (Refused Room)) (Refused Limit)
+  judged_is : limits_before_room e (length out) ≡ cond (fits s) (cond (leb (length (encode s)) (length out)) (Ok (length (encode s))) (Err Room)) (Err Limit)
   unfolding limits_before_room fits
   judged_is = rw (encode_length s, z.ops, z.text_bytes, z.base_is, z.target_is)
 
@@ -256,14 +254,14 @@ module _ (s : Seq) (e : Emitter) (out : List ℕ) (z : Sizes s e) where
       go true false p q = refuses Room (judged_is ∙ rw (p, q)) (rw (p, q))
       go false b p q = refuses Limit (judged_is ∙ rw p) (rw p)
 
-  pub judged_answer : written_of (limits_before_room e (length out)) ≡ (deliver 0 s out).answer
+  pub judged_answer : answer_of (limits_before_room e (length out)) ≡ (deliver 0 s out).answer
   judged_answer = go outcome
     where
-      go : Outcome → written_of (limits_before_room e (length out)) ≡ (deliver 0 s out).answer
-      go (refuses x p q) = ap written_of p ∙ sym (ap (λ o. o.answer) q)
-      go (writes l r p q) = ap written_of p ∙ sym (ap (λ o. o.answer) q)
+      go : Outcome → answer_of (limits_before_room e (length out)) ≡ (deliver 0 s out).answer
+      go (refuses x p q) = ap answer_of p ∙ sym (ap (λ o. o.answer) q)
+      go (writes l r p q) = ap answer_of p ∙ sym (ap (λ o. o.answer) q)
 
-  pub judged_refused : (x : Refusal) → limits_before_room e (length out) ≡ Refused x → (deliver 0 s out).out ≡ out
+  pub judged_refused : (x : Refusal) → limits_before_room e (length out) ≡ Err x → (deliver 0 s out).out ≡ out
   judged_refused x h = go outcome
     where
       go : Outcome → (deliver 0 s out).out ≡ out
@@ -271,7 +269,7 @@ module _ (s : Seq) (e : Emitter) (out : List ℕ) (z : Sizes s e) where
       go (writes l r p q) = let z : ◌≡◌ {A = ℕ} 0 1 = cc in absurd (omega arith)
 
   -- `e` is the emitter of the run that finds the sizes, `e'` that of the run that writes
-  pub judged_written : (k : ℕ) → limits_before_room e (length out) ≡ Bytes k → (n : ℕ) (e' : Emitter) (o' o'' : List ℕ) → Done n s out e' o' → n ≡ e.ops → o'' ≡ headed e' o' → o'' ≡ (deliver 0 s out).out
+  pub judged_written : (k : ℕ) → limits_before_room e (length out) ≡ Ok k → (n : ℕ) (e' : Emitter) (o' o'' : List ℕ) → Done n s out e' o' → n ≡ e.ops → o'' ≡ headed e' o' → o'' ≡ (deliver 0 s out).out
   judged_written k h n e' o' o'' d ne w = go outcome
     where
       go : Outcome → o'' ≡ (deliver 0 s out).out
@@ -279,14 +277,14 @@ module _ (s : Seq) (e : Emitter) (out : List ℕ) (z : Sizes s e) where
       go (writes l r p q) = written_front s n out e' o' o'' l r d (ne ∙ z.ops) w ∙ sym (ap (λ o. o.out) q)
 
 -- the same, of the answer `v` as the code finds it
-module _ (s : Seq) (e : Emitter) (out : List ℕ) (z : Sizes s e) (v : Written) (j : v ≡ limits_before_room e (length out)) where
-  pub answered : written_of v ≡ (deliver 0 s out).answer
-  answered = ap written_of j ∙ judged_answer s e out z
+module _ (s : Seq) (e : Emitter) (out : List ℕ) (z : Sizes s e) (v : Result ℕ Refusal) (j : v ≡ limits_before_room e (length out)) where
+  pub answered : answer_of v ≡ (deliver 0 s out).answer
+  answered = ap answer_of j ∙ judged_answer s e out z
 
-  pub left_alone : (x : Refusal) → v ≡ Refused x → out ≡ (deliver 0 s out).out
+  pub left_alone : (x : Refusal) → v ≡ Err x → out ≡ (deliver 0 s out).out
   left_alone x p = sym (judged_refused s e out z x (sym j ∙ p))
 
-  pub delivered : (k : ℕ) → v ≡ Bytes k → (n : ℕ) (e' : Emitter) (o' o'' : List ℕ) → Done n s out e' o' → n ≡ e.ops → o'' ≡ headed e' o' → o'' ≡ (deliver 0 s out).out
+  pub delivered : (k : ℕ) → v ≡ Ok k → (n : ℕ) (e' : Emitter) (o' o'' : List ℕ) → Done n s out e' o' → n ≡ e.ops → o'' ≡ headed e' o' → o'' ≡ (deliver 0 s out).out
   delivered k p n e' o' o'' d ne w = judged_written s e out z k (sym j ∙ p) n e' o' o'' d ne w
 
 -- a fault in front refuses the call

@@ -1,19 +1,16 @@
 -- The emitter: the builders' sequence, written as a record while it is built. Only contracts of `inner` cite this.
-use Rattle.std.specs.Prelude.{◌≡◌, ℕ, suc, ◌+◌, ◌*◌, ◌^◌, ◌≤◌, Bool, cond, ◌&&◌, List, [], ◌∷◌, ◌++◌, map, reverse, length, nat_le}
+use Rattle.std.specs.Prelude.{◌≡◌, ℕ, suc, ◌+◌, ◌*◌, ◌^◌, ◌≤◌, Bool, cond, ◌&&◌, List, [], ◌∷◌, ◌++◌, map, reverse, length, nat_le, Result, Ok, Err}
 use Rattle.buffers.specs.InnerOver.{over, bytes16}
 use Rattle.characters.specs.Text.{Char, bytes}
 use Rattle.edits.specs.Op.{if_zero, base, target, size, Op, retain, insert, delete}
 use Rattle.edits.specs.Sequence.{Seq}
 use Rattle.edits.specs.Build.{add_all}
 use Rattle.answers.specs.declared.Refusal.TheVariants.{Limit, Room}
-use Rattle.answers.specs.declared.Written.{Written}
-use Rattle.answers.specs.declared.Written.TheVariants as written
-use Rattle.answers.specs.declared.WrittenPair.{WrittenPair}
-use Rattle.answers.specs.declared.WrittenPair.TheVariants as pair
 use Rattle.record.specs.Layout.{kinds_start, counts_start, start_of_text, max_ops, max_size}
 use Rattle.record.specs.Record.{text, in_bytes, code, inserted}
 use Rattle.places.specs.InnerOps.{one, flushed_at}
 use Rattle.emitter.specs.declared.inner.Emitter.{Emitter}
+use Rattle.answers.specs.declared.Refusal.{Refusal}
 
 -- ---- the pending group: an insert, a delete and a retain, each of which may be missing
 
@@ -157,11 +154,11 @@ within_limits e = nat_le e.ops max_ops && (nat_le e.text max_size && (nat_le e.b
 abbrev pub size_in : Emitter → ℕ
 size_in e = start_of_text e.ops + e.text
 
-unfoldable pub limits_before_room : Emitter → ℕ → Written
-limits_before_room e room = cond (within_limits e) (cond (nat_le (size_in e) room) (written.Bytes (size_in e)) (written.Refused Room)) (written.Refused Limit)
+unfoldable pub limits_before_room : Emitter → ℕ → Result ℕ Refusal
+limits_before_room e room = cond (within_limits e) (cond (nat_le (size_in e) room) (Ok (size_in e)) (Err Room)) (Err Limit)
 
 -- ---- what the functions below `transform` promise each other
 
-unfoldable pub limits_then_room_both : Emitter → Emitter → ℕ → ℕ → WrittenPair
+unfoldable pub limits_then_room_both : Emitter → Emitter → ℕ → ℕ → Result (ℕ × ℕ) Refusal
 limits_then_room_both e f x y =
-    cond (within_limits e && within_limits f) (cond (nat_le (size_in e) x && nat_le (size_in f) y) (pair.Bytes (size_in e) (size_in f)) (pair.Refused Room)) (pair.Refused Limit)
+    cond (within_limits e && within_limits f) (cond (nat_le (size_in e) x && nat_le (size_in f) y) (Ok (size_in e, size_in f)) (Err Room)) (Err Limit)

@@ -14,7 +14,7 @@ ghost use Rattle.record.specs.InnerFront.{front_op, Stands, Cut};
 ghost use Rattle.emitter.specs.InnerEmit.{nothing, flushed_if_closed, Under, opens, headed};
 ghost use Rattle.emitter.specs.InnerEmit.{inserted_by, deleted_by, Retains, Adds, Finishes, within_limits, size_in, limits_before_room};
 
-use answers::{Refusal, Written};
+use answers::Refusal;
 use record::inner::{AT_INSERT, AT_RETAIN, Front, MAX_OPS, MAX_SIZE};
 
 #[derive(Clone, Copy)]
@@ -265,18 +265,18 @@ pub fn size(e: Emitter) -> usize
 }
 
 // The answer of a call that would write what was emitted: 9, then 10.
-pub fn limits_then_room(e: Emitter, room: usize) -> Written
+pub fn limits_then_room(e: Emitter, room: usize) -> Result<usize, Refusal>
     requires { Under (2 ^ 40) e }
     ensures { result ≡ limits_before_room e room }
 {
     if !keeps_limits(e) {
-        return Written::Refused(Refusal::Limit);
+        return Err(Refusal::Limit);
     }
     let bytes = size(e);
     if room < bytes {
-        return Written::Refused(Refusal::Room);
+        return Err(Refusal::Room);
     }
-    Written::Bytes(bytes)
+    Ok(bytes)
 }
 
 // The sizes, at the front of the record.

@@ -1,5 +1,5 @@
 -- What the check of the inserted texts goes by: from operation k on, what the whole comes to.
-use Rattle.std.specs.Prelude.{◌≡◌, ℕ, zero, suc, ◌+◌, ◌-◌, ◌<◌, ◌≤◌, Bool, true, false, cond, not, ◌&&◌, T, eqb, leb, ◌⊎◌, List, [], ◌∷◌, length, get_or, take, drop}
+use Rattle.std.specs.Prelude.{◌≡◌, ℕ, zero, suc, ◌+◌, ◌-◌, ◌<◌, ◌≤◌, Bool, true, false, cond, not, ◌&&◌, T, eqb, leb, ◌⊎◌, List, [], ◌∷◌, length, get_or, take, drop, Option, Some, None}
 use mathlib.Core.Path.{refl, sym, ap, ap₂, ◌∙◌}
 use mathlib.Core.Bool.{and-true, and-false}
 use lib.Dec.{leb→le}
@@ -14,8 +14,6 @@ use Rattle.buffers.specs.Lists.{all_of}
 use Rattle.buffers.proofs.Tests.{both, known}
 use Rattle.characters.specs.Chars.{is_continuation, loose, number_of_chars}
 use Rattle.characters.specs.Form.{is_well_formed, within}
-use Rattle.characters.specs.declared.Form.{Form}
-use Rattle.characters.specs.declared.Form.TheVariants as form
 use Rattle.characters.specs.InnerPassed.{form_of}
 use Rattle.characters.proofs.Chars.{split, num_le}
 use Rattle.characters.proofs.Cuts.{loose_first, well_join, well_first, plain_first}
@@ -29,7 +27,6 @@ use Rattle.record.proofs.Walks.{left_all, left_insert, inserts_more, inserts_sam
 use Rattle.entries.specs.InnerTally.{entry, can_follow, picked}
 use Rattle.entries.proofs.Tallying.{chars_part, ordered_follow}
 use Rattle.inserts.specs.InnerTexts.{starts_with_char, Sound, Reached, inserted_of}
-use Rattle.inserts.specs.declared.inner.Inserted.TheVariants.{IllFormed, Chars}
 
 -- ---- texts
 
@@ -250,33 +247,33 @@ module _ (r : List ℕ) (n t from : ℕ) (s : Sound r) (e : n ≡ op_count_of r)
       ∙ starts_well es u s.entries_sound (simp length-drop (omega (arith, s.room, s.adds_up)))
       ∙ ap₂ (λ m i. is_well_formed (take m u) && starts_with_char es (drop (start_of_text i) r)) s.adds_up (sym e)
 
-  module _ (x : Form) (p : x ≡ form_of (take (from + t - from) (drop from r))) where
+  module _ (x : Option ℕ) (p : x ≡ form_of (take (from + t - from) (drop from r))) where
     of_text : x ≡ form_of (text_of r)
     of_text = p ∙ ap form_of part
 
-    pub text_ill : x ≡ form.IllFormed → IllFormed ≡ inserted_of r
+    pub text_ill : x ≡ None → None ≡ inserted_of r
     unfolding inserted_of
     text_ill y = rw (each, sym (form_ill (text_of r) x of_text y))
 
-    module _ {chars : ℕ} (y : x ≡ form.Chars chars) where
+    module _ {chars : ℕ} (y : x ≡ Some chars) where
       well : is_well_formed (text_of r) ≡ true
       well = sym (form_well (text_of r) x of_text y)
 
       num : chars ≡ number_of_chars (text_of r)
       num = form_num (text_of r) x of_text y
 
-      settled : (b : Bool) → b ≡ true → b ≡ starts_with_char (entries r) (drop (start_of_text n) r) → Chars chars ≡ inserted_of r
+      settled : (b : Bool) → b ≡ true → b ≡ starts_with_char (entries r) (drop (start_of_text n) r) → Some chars ≡ inserted_of r
       unfolding inserted_of
-      settled b y z = rw (each, well, sym z ∙ y) (ap Chars num)
+      settled b y z = rw (each, well, sym z ∙ y) (ap Some num)
 
-      pub text_starts : (b : Bool) → b ≡ starts_with_char (entries r) (drop (start_of_text n) r) → not b ≡ false → Chars chars ≡ inserted_of r
+      pub text_starts : (b : Bool) → b ≡ starts_with_char (entries r) (drop (start_of_text n) r) → not b ≡ false → Some chars ≡ inserted_of r
       text_starts b z y = settled b (not-false b y) z
 
-      pub text_stops : (b : Bool) → b ≡ starts_with_char (entries r) (drop (start_of_text n) r) → not b ≡ true → IllFormed ≡ inserted_of r
+      pub text_stops : (b : Bool) → b ≡ starts_with_char (entries r) (drop (start_of_text n) r) → not b ≡ true → None ≡ inserted_of r
       unfolding inserted_of
       text_stops b z y = rw (each, well, sym z ∙ not-true b y)
 
-      pub text_plain : t ≤ chars → Chars chars ≡ inserted_of r
+      pub text_plain : t ≤ chars → Some chars ≡ inserted_of r
       unfolding text_of
       text_plain h =
           let u = drop (start_of_text (op_count_of r)) r in
@@ -284,9 +281,9 @@ module _ (r : List ℕ) (n t from : ℕ) (s : Sound r) (e : n ≡ op_count_of r)
           settled true refl (sym (ap (λ i. starts_with_char (entries r) (drop (start_of_text i) r)) e ∙ plain_starts (entries r) u s.entries_sound (simp length-drop (omega (arith, s.room, s.adds_up))) v))
 
 -- where there is no text, none is looked at
-pub no_text : (r : List ℕ) (n t : ℕ) → Sound r → n ≡ op_count_of r → t ≡ text_bytes_of r → t ≡ 0 → Chars 0 ≡ inserted_of r
+pub no_text : (r : List ℕ) (n t : ℕ) → Sound r → n ≡ op_count_of r → t ≡ text_bytes_of r → t ≡ 0 → Some 0 ≡ inserted_of r
 unfolding form_of
 no_text r n t s e f z =
     let from = start_of_text n in
     let k : 0 ≡ from + t - from = omega arith in
-    text_plain r n t from s e f refl (form.Chars 0) (ap (λ k. form_of (take k (drop from r))) k) refl (omega arith)
+    text_plain r n t from s e f refl (Some 0) (ap (λ k. form_of (take k (drop from r))) k) refl (omega arith)

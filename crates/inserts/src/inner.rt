@@ -6,7 +6,6 @@ ghost use Rattle.record.specs.Record.{entries, byte_ops};
 ghost use Rattle.record.specs.Layout.{op_count_of, start_of_text, text_bytes_of};
 ghost use Rattle.inserts.specs.InnerTexts.{starts_with_char, Sound, inserted_of, Reached};
 
-use characters::Form;
 use record::inner::INSERT;
 
 // Whether no insert begins with a continuation. Where all neighbours may stand so, none stands directly behind another.
@@ -32,33 +31,27 @@ pub fn start_well(rec: &[u8], n: usize, ordered: bool) -> bool
     true
 }
 
-// An insert that isn't well-formed, or how many characters are inserted.
-#[derive(Clone, Copy)]
-pub enum Inserted {
-    IllFormed,
-    Chars(usize),
-}
-
-// All inserts at once: where the whole is well-formed, each is that begins with no continuation.
-pub fn inserted_chars(rec: &[u8], n: usize, text: usize, ordered: bool) -> Inserted
+// How many characters are inserted, unless an insert isn't well-formed. All inserts are checked at once: where the whole is well-formed,
+// each is that begins with no continuation.
+pub fn inserted_chars(rec: &[u8], n: usize, text: usize, ordered: bool) -> Option<usize>
     requires { (n ≡ op_count_of rec.now) × (text ≡ text_bytes_of rec.now) × (ordered ≡ chained (byte_ops rec.now)) × Sound rec.now }
     ensures { result ≡ inserted_of rec.now }
 {
     if text == 0 {
-        return Inserted::Chars(0);
+        return Some(0);
     }
     let from = layout::inner::text_start(n);
     let to = from + text;
     let all = &rec[from..to];
-    let Form::Chars(chars) = utf8::inner::typed_form(all) else {
-        return Inserted::IllFormed;
+    let Some(chars) = utf8::inner::typed_form(all) else {
+        return None;
     };
     if chars < text {
         if !start_well(rec, n, ordered) {
-            return Inserted::IllFormed;
+            return None;
         }
     }
-    Inserted::Chars(chars)
+    Some(chars)
 }
 
 // Where the text of operation k begins, were it an insert.

@@ -1,5 +1,5 @@
 -- What the inverse on a text of base characters comes to, and from what the code finds to the answer of invert.
-use Rattle.std.specs.Prelude.{◌≡◌, ℕ, ◌+◌, ◌-◌, ◌<◌, ◌≤◌, Bool, true, false, cond, ◌&&◌, T, leb, List, [], ◌∷◌, ◌++◌, map, length, take, drop}
+use Rattle.std.specs.Prelude.{◌≡◌, ℕ, ◌+◌, ◌-◌, ◌<◌, ◌≤◌, Bool, true, false, cond, ◌&&◌, T, leb, List, [], ◌∷◌, ◌++◌, map, length, take, drop, Result, Option, Ok, Err, Some, None, ⊤}
 use native.Mathlib.Omega.{arith}
 use mathlib.Core.Path.{refl, sym, ap, ◌∙◌}
 use lib.Dec.{leb→le}
@@ -10,8 +10,6 @@ use Rattle.characters.specs.Form.{is_well_formed}
 use Rattle.characters.specs.Chars.{number_of_chars}
 use Rattle.characters.specs.Text.{Char, chars, bytes}
 use Rattle.characters.specs.InnerPassed.{form_of}
-use Rattle.characters.specs.declared.Form.{Form}
-use Rattle.characters.specs.declared.Form.TheVariants as form
 use Rattle.characters.proofs.Passed.{form_ill, form_well, form_num}
 use Rattle.characters.proofs.Texts.{bytes_append, bytes_chars, chars_length}
 use Rattle.edits.specs.Op.{retain, insert, delete, base}
@@ -23,14 +21,10 @@ use Rattle.edits.specs.Trace.{typed}
 use Rattle.edits.proofs.Building.{build_same}
 use Rattle.edits.proofs.Claims.{invert_base, invert_target}
 use Rattle.edits.proofs.Kept.{typed_lasts}
-use Rattle.answers.specs.Answer.{fact_of}
+use Rattle.answers.specs.Answer.{answer_of}
 use Rattle.answers.specs.InnerGiven.{Gives}
-use Rattle.answers.specs.declared.Fact.{Fact}
-use Rattle.answers.specs.declared.Fact.TheVariants as fact
 use Rattle.answers.specs.declared.Refusal.{Refusal}
 use Rattle.answers.specs.declared.Refusal.TheVariants.{Utf8, IncompatibleLengths, Limit, Room}
-use Rattle.answers.specs.declared.Written.{Written}
-use Rattle.answers.specs.declared.Written.TheVariants as written
 use Rattle.record.specs.Calls.{check_call}
 use Rattle.record.specs.Layout.{op_count_of, base_of, target_of, text_bytes_of, start_of_text, max_size}
 use Rattle.record.specs.Record.{in_bytes, text, encode, ops, record_fault}
@@ -47,8 +41,6 @@ use Rattle.apply_steps.specs.InnerSteps.{played}
 use Rattle.apply_steps.proofs.Playing.{played_most}
 use Rattle.invert_in_place.specs.InnerInverting.{inserts_apart, inserted_back}
 use Rattle.invert_in_place.proofs.Placing.{built_apart, inverse_length}
-use Rattle.invert.specs.declared.inner.Decided.{Decided}
-use Rattle.invert.specs.declared.inner.Decided.TheVariants as decided
 use Rattle.invert.specs.InnerDeciding.{decided_of}
 
 -- ---- how much the inverse inserts
@@ -141,22 +133,22 @@ module _ (r t : List ℕ) (z : record_fault r ≡ 0) (w : T (is_well_formed t)) 
         sym (le-leb (base_of r) max_size (omega (arith, f.bases, ops_base r z)))
         ∙ limits_last sizes_of_state (omega (arith, f.ops, ops_length r z)) l (omega (arith, f.targets, ops_target r z))
 
-    abbrev answer_of : Decided → Written
-    answer_of decided.Fits = written.Bytes (start_of_text count + inserted_back r t)
-    answer_of (decided.Refused x) = written.Refused x
+    abbrev answer_of : Result ⊤ Refusal → Result ℕ Refusal
+    answer_of (Ok tt) = Ok (start_of_text count + inserted_back r t)
+    answer_of (Err x) = Err x
 
     judged : (room : ℕ) → answer_of (decided_of (inserted_back r t) count room) ≡ limits_before_room sizes_of_state room
     unfolding decided_of
     judged room = go (leb (inserted_back r t) max_size) (leb (start_of_text count + inserted_back r t) room) refl refl
       where
         go : (x y : Bool) → leb (inserted_back r t) max_size ≡ x → leb (start_of_text count + inserted_back r t) room ≡ y
-            → answer_of (cond x (cond y decided.Fits (decided.Refused Room)) (decided.Refused Limit)) ≡ limits_before_room sizes_of_state room
+            → answer_of (cond x (cond y (Ok tt) (Err Room)) (Err Limit)) ≡ limits_before_room sizes_of_state room
         go true true p q = judge_bytes sizes_of_state room true (text_decides (leb-true _ _ p)) (start_of_text count + inserted_back r t) refl refl (leb-true _ _ q)
         go true false p q = judge_room sizes_of_state room true (text_decides (leb-true _ _ p)) (start_of_text count + inserted_back r t) refl refl (leb-false _ _ q)
         go false y p q = judge_limit sizes_of_state room false (limits_text sizes_of_state (leb-false _ _ p)) refl
 
     -- what is sure is decided
-    pub decided_surely : (room : ℕ) (v : Bool) → v ≡ (leb (length t) max_size && leb (start_of_text count + length t) room) → v ≡ true → decided.Fits ≡ decided_of (inserted_back r t) count room
+    pub decided_surely : (room : ℕ) (v : Bool) → v ≡ (leb (length t) max_size && leb (start_of_text count + length t) room) → v ≡ true → (Ok tt) ≡ decided_of (inserted_back r t) count room
     unfolding decided_of
     decided_surely room v p y =
         let (l, m) = (le_and (length t) max_size _).0 (known (sym p ∙ y)) in
@@ -164,48 +156,48 @@ module _ (r t : List ℕ) (z : record_fault r ≡ 0) (w : T (is_well_formed t)) 
         rw (le-leb (inserted_back r t) max_size (omega (arith, back_few)), le-leb (start_of_text count + inserted_back r t) room (omega (arith, back_few)))
 
     module _ (size room : ℕ) (q : size ≡ inserted_back r t) where
-      pub decided_limit : max_size < size → decided.Refused Limit ≡ decided_of (inserted_back r t) count room
+      pub decided_limit : max_size < size → Err Limit ≡ decided_of (inserted_back r t) count room
       unfolding decided_of
       decided_limit h = rw (lt-leb (inserted_back r t) max_size (omega arith))
 
       module _ (h : size ≤ max_size) (start : ℕ) (u : start ≡ start_of_text count) where
-        pub decided_room : room < start + size → decided.Refused Room ≡ decided_of (inserted_back r t) count room
+        pub decided_room : room < start + size → Err Room ≡ decided_of (inserted_back r t) count room
         unfolding decided_of
         decided_room k = rw (le-leb (inserted_back r t) max_size (omega arith), lt-leb (start_of_text count + inserted_back r t) room (omega arith))
 
-        pub decided_fits : start + size ≤ room → decided.Fits ≡ decided_of (inserted_back r t) count room
+        pub decided_fits : start + size ≤ room → (Ok tt) ≡ decided_of (inserted_back r t) count room
         unfolding decided_of
         decided_fits k = rw (le-leb (inserted_back r t) max_size (omega arith), le-leb (start_of_text count + inserted_back r t) room (omega arith))
 
-    module _ (o : List ℕ) (d : Decided) (p : d ≡ decided_of (inserted_back r t) count (length o)) where
+    module _ (o : List ℕ) (d : Result ⊤ Refusal) (p : d ≡ decided_of (inserted_back r t) count (length o)) where
       -- the answer, as `limits_then_room` would have it
-      as_judged : (x : Decided) → d ≡ x → answer_of x ≡ limits_before_room sizes_of_state (length o)
+      as_judged : (x : Result ⊤ Refusal) → d ≡ x → answer_of x ≡ limits_before_room sizes_of_state (length o)
       as_judged x q = ap answer_of (sym q ∙ p) ∙ judged (length o)
 
-      pub decided_refused : (x : Refusal) → d ≡ decided.Refused x → Gives (deliver 0 inverse o) (written.Refused x) o
+      pub decided_refused : (x : Refusal) → d ≡ Err x → Gives (deliver 0 inverse o) (Err x) o
       decided_refused x q =
-          let j = as_judged (decided.Refused x) q in
-          record { answer = answered inverse sizes_of_state o sizes (written.Refused x) j; out = left_alone inverse sizes_of_state o sizes (written.Refused x) j x refl }
+          let j = as_judged (Err x) q in
+          record { answer = answered inverse sizes_of_state o sizes (Err x) j; out = left_alone inverse sizes_of_state o sizes (Err x) j x refl }
 
-      pub decided_places : d ≡ decided.Fits → start_of_text count ≤ length o
+      pub decided_places : d ≡ (Ok tt) → start_of_text count ≤ length o
       unfolding decided_of
       decided_places q = go (leb (inserted_back r t) max_size) (leb (start_of_text count + inserted_back r t) (length o)) refl (sym p ∙ q)
         where
-          fitting : Decided → Bool
-          fitting decided.Fits = true
-          fitting (decided.Refused x) = false
+          fitting : Result ⊤ Refusal → Bool
+          fitting (Ok tt) = true
+          fitting (Err x) = false
 
-          go : (x y : Bool) → leb (start_of_text count + inserted_back r t) (length o) ≡ y → cond x (cond y decided.Fits (decided.Refused Room)) (decided.Refused Limit) ≡ decided.Fits → start_of_text count ≤ length o
+          go : (x y : Bool) → leb (start_of_text count + inserted_back r t) (length o) ≡ y → cond x (cond y (Ok tt) (Err Room)) (Err Limit) ≡ (Ok tt) → start_of_text count ≤ length o
           go true true k f = omega (arith, leb-true (start_of_text count + inserted_back r t) (length o) k)
           go true false k f = absurd (known (ap fitting f))
           go false y k f = absurd (known (ap fitting f))
 
-      pub decided_written : d ≡ decided.Fits → (k : ℕ) → k ≡ start_of_text count + inserted_back r t → (o' : List ℕ) → Writes count inverse o o' → Gives (deliver 0 inverse o) (written.Bytes k) o'
+      pub decided_written : d ≡ (Ok tt) → (k : ℕ) → k ≡ start_of_text count + inserted_back r t → (o' : List ℕ) → Writes count inverse o o' → Gives (deliver 0 inverse o) (Ok k) o'
       decided_written q k m o' u =
-          let j = ap written.Bytes m ∙ as_judged decided.Fits q in
+          let j = ap Ok m ∙ as_judged (Ok tt) q in
           record {
-            answer = answered inverse sizes_of_state o sizes (written.Bytes k) j;
-            out = delivered inverse sizes_of_state o sizes (written.Bytes k) j k refl count u.emitter u.before o' u.done refl u.is;
+            answer = answered inverse sizes_of_state o sizes (Ok k) j;
+            out = delivered inverse sizes_of_state o sizes (Ok k) j k refl count u.emitter u.before o' u.done refl u.is;
           }
 
 -- ---- `surely_fits`
@@ -221,18 +213,18 @@ module _ (t : List ℕ) (count room : ℕ) where
 
 module _ (r t o : List ℕ) where
   -- what the checks find
-  module _ (f : Fact) (p : fact_of f ≡ check_call r) where
-    pub invert_refused : (x : Refusal) → f ≡ fact.Refused x → Gives (invert_call r t o) (written.Refused x) o
+  module _ (f : Result ℕ Refusal) (p : answer_of f ≡ check_call r) where
+    pub invert_refused : (x : Refusal) → f ≡ Err x → Gives (invert_call r t o) (Err x) o
     unfolding invert_call
     invert_refused x q = let v = stopped r f p x q in (rw v.fault (refuses (invert (ops r) (chars t)) o v.less x v.number_is))
 
-    module _ (k : ℕ) (q : f ≡ fact.Is k) (v : Form) (pv : v ≡ form_of t) where
-      pub invert_3 : v ≡ form.IllFormed → Gives (invert_call r t o) (written.Refused Utf8) o
+    module _ (k : ℕ) (q : f ≡ Ok k) (v : Option ℕ) (pv : v ≡ form_of t) where
+      pub invert_3 : v ≡ None → Gives (invert_call r t o) (Err Utf8) o
       unfolding invert_call
       invert_3 h = (rw (passed r f p k q, sym (form_ill t v pv h)) (refuses (invert (ops r) (chars t)) o 2 Utf8 refl))
 
-      module _ (n b : ℕ) (h : v ≡ form.Chars n) (pb : b ≡ base_of r) where
-        pub invert_8 : (n ≡ b → ⊥) → Gives (invert_call r t o) (written.Refused IncompatibleLengths) o
+      module _ (n b : ℕ) (h : v ≡ Some n) (pb : b ≡ base_of r) where
+        pub invert_8 : (n ≡ b → ⊥) → Gives (invert_call r t o) (Err IncompatibleLengths) o
         unfolding invert_call
         invert_8 d =
             let e = ne_eqb (number_of_chars t) (base_of r) (λ m. d (form_num t v pv h ∙ m ∙ sym pb)) in
@@ -242,6 +234,6 @@ module _ (r t o : List ℕ) where
           pub agree : number_of_chars t ≡ base_of r
           agree = sym (form_num t v pv h) ∙ e ∙ pb
 
-          pub invert_0 : (w : Written) (o' : List ℕ) → Gives (deliver 0 (invert (ops r) (chars t)) o) w o' → Gives (invert_call r t o) w o'
+          pub invert_0 : (w : Result ℕ Refusal) (o' : List ℕ) → Gives (deliver 0 (invert (ops r) (chars t)) o) w o' → Gives (invert_call r t o) w o'
           unfolding invert_call
           invert_0 w o' g = (rw (passed r f p k q, sym (form_well t v pv h), eq-eqb (number_of_chars t) (base_of r) agree) g)

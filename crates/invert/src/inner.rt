@@ -10,13 +10,6 @@ ghost use Rattle.invert.specs.InnerDeciding.{decided_of};
 use answers::Refusal;
 use record::inner::MAX_SIZE;
 
-// Whether the inverse is written: nothing refuses it, or 9 or 10 does.
-#[derive(Clone, Copy)]
-pub enum Decided {
-    Fits,
-    Refused(Refusal),
-}
-
 // How many bytes the inverse inserts: those that the edit deletes, which are the text's and the inserted ones less those of the text
 // after the edit. A run of apply on an output of no bytes yields the size of that.
 fn deleted_bytes(rec: &[u8], text: &[u8]) -> usize
@@ -39,21 +32,21 @@ fn surely_fits(count: usize, text: &[u8], room: usize) -> bool
     layout::inner::text_start(count) + text.len() <= room
 }
 
-// 9, then 10.
-pub fn decide(rec: &[u8], count: usize, text: &[u8], room: usize) -> Decided
+// Whether the inverse is written: nothing refuses it, or 9 does, or then 10.
+pub fn decide(rec: &[u8], count: usize, text: &[u8], room: usize) -> Result<(), Refusal>
     requires { (record_fault rec.now ≡ 0) × (count ≡ op_count_of rec.now) × (count ≤ max_ops) × T (is_well_formed text.now)
         × (number_of_chars text.now ≡ base_of rec.now) }
     ensures { result ≡ decided_of (inserted_back rec.now text.now) count room }
 {
     if surely_fits(count, text, room) {
-        return Decided::Fits;
+        return Ok(());
     }
     let size = deleted_bytes(rec, text);
     if MAX_SIZE < size {
-        return Decided::Refused(Refusal::Limit);
+        return Err(Refusal::Limit);
     }
     if room < layout::inner::text_start(count) + size {
-        return Decided::Refused(Refusal::Room);
+        return Err(Refusal::Room);
     }
-    Decided::Fits
+    Ok(())
 }

@@ -1,5 +1,5 @@
 -- A list's record: what is read, judged and put together is what the call gives.
-use Rattle.std.specs.Prelude.{◌≡◌, ℕ, ◌+◌, ◌^◌, ◌≤◌, Bool, true, false, cond, not, T, eqb, leb, ◌⊎◌, List, [], ◌∷◌, ◌++◌, map, reverse, length}
+use Rattle.std.specs.Prelude.{◌≡◌, ℕ, ◌+◌, ◌^◌, ◌≤◌, Bool, true, false, cond, not, T, eqb, leb, ◌⊎◌, List, [], ◌∷◌, ◌++◌, map, reverse, length, Result, Ok, Err}
 use native.Mathlib.Omega.{arith}
 use mathlib.Core.Path.{refl, sym, ap, ◌∙◌}
 use mathlib.Core.Logic.{inl, inr}
@@ -17,8 +17,6 @@ use Rattle.answers.specs.Output.{writing}
 use Rattle.answers.specs.InnerGiven.{Gives}
 use Rattle.answers.specs.declared.Refusal.{Refusal}
 use Rattle.answers.specs.declared.Refusal.TheVariants.{Json, Limit, Room}
-use Rattle.answers.specs.declared.Written.{Written}
-use Rattle.answers.specs.declared.Written.TheVariants as written
 use Rattle.record.specs.Layout.{start_of_text, max_ops}
 use Rattle.record.specs.Record.{in_bytes, inserted, text, fits}
 use Rattle.places.specs.InnerOps.{relocated_ops}
@@ -126,11 +124,11 @@ module _ (t stage : List ℕ) (slots : ℕ) (e : Emitter) (out : List ℕ) (p : 
 -- ---- `staged`
 
 -- an answer of bytes is within the limits and the room
-bytes_limits : (e : Emitter) (room : ℕ) (v : Written) → v ≡ limits_before_room e room → (k : ℕ) → v ≡ written.Bytes k → (e.ops ≤ max_ops) × (size_in e ≤ room)
+bytes_limits : (e : Emitter) (room : ℕ) (v : Result ℕ Refusal) → v ≡ limits_before_room e room → (k : ℕ) → v ≡ Ok k → (e.ops ≤ max_ops) × (size_in e ≤ room)
 unfolding limits_before_room
 bytes_limits e room v j k z = go (within_limits e) (leb (size_in e) room) refl refl (sym z ∙ j)
   where
-    go : (x y : Bool) → within_limits e ≡ x → leb (size_in e) room ≡ y → written.Bytes k ≡ cond x (cond y (written.Bytes (size_in e)) (written.Refused Room)) (written.Refused Limit) → (e.ops ≤ max_ops) × (size_in e ≤ room)
+    go : (x y : Bool) → within_limits e ≡ x → leb (size_in e) room ≡ y → Ok k ≡ cond x (cond y (Ok (size_in e)) (Err Room)) (Err Limit) → (e.ops ≤ max_ops) × (size_in e ≤ room)
     go true true p q f = ((within_inside e (known p)).ops, leb-true (size_in e) room q)
     go true false p q f = absurd (let y : ◌≡◌ {A = ℕ} 0 1 = cc f in omega arith)
     go false y p q f = absurd (let y : ◌≡◌ {A = ℕ} 0 1 = cc f in omega arith)
@@ -140,7 +138,7 @@ unfolding from_json_call read
 call_is t out f = ap (λ b. made (cond b (some (items at_start t)) none) out) f
 
 module _ (slots : ℕ) (t before stage out : List ℕ) (r : Reading) (l : ListRead slots t before r stage) where
-  pub no_list : not r.valid ≡ true → Gives (from_json_call t out) (written.Refused Json) out
+  pub no_list : not r.valid ≡ true → Gives (from_json_call t out) (Err Json) out
   unfolding from_json_call read writing
   no_list q = let f : in_form t ≡ false = sym l.form ∙ not-true r.valid q in rw f (record { answer = refl; out = refl })
 
@@ -154,19 +152,19 @@ module _ (slots : ℕ) (t before stage out : List ℕ) (r : Reading) (l : ListRe
     pub list_under : Under (2 ^ 40) r.e
     list_under = finished.small
 
-    module _ (v : Written) (j : v ≡ limits_before_room r.e (length out)) where
-      pub list_refused : (y : Refusal) → v ≡ written.Refused y → Gives (from_json_call t out) (written.Refused y) out
+    module _ (v : Result ℕ Refusal) (j : v ≡ limits_before_room r.e (length out)) where
+      pub list_refused : (y : Refusal) → v ≡ Err y → Gives (from_json_call t out) (Err y) out
       unfolding limits_before_room
       list_refused y z = rw (call_is t out form) (go finished.is)
         where
           s : Seq
           s = ops_of (items at_start t)
 
-          go : Done slots s before r.e stage ⊎ ((fits s ≡ false) × (within_limits r.e ≡ false)) → Gives (deliver 0 s out) (written.Refused y) out
+          go : Done slots s before r.e stage ⊎ ((fits s ≡ false) × (within_limits r.e ≡ false)) → Gives (deliver 0 s out) (Err y) out
           go (inl d) = gives_refused s out r.e before stage d v j y z
-          go (inr x) = rw (sym z ∙ j ∙ ap (λ b. cond b (cond (leb (size_in r.e) (length out)) (written.Bytes (size_in r.e)) (written.Refused Room)) (written.Refused Limit)) x.1) (gives_limit s out x.0)
+          go (inr x) = rw (sym z ∙ j ∙ ap (λ b. cond b (cond (leb (size_in r.e) (length out)) (Ok (size_in r.e)) (Err Room)) (Err Limit)) x.1) (gives_limit s out x.0)
 
-      module _ (k : ℕ) (z : v ≡ written.Bytes k) where
+      module _ (k : ℕ) (z : v ≡ Ok k) where
         -- nothing passes a limit then
         whole : Done slots (ops_of (items at_start t)) before r.e stage
         unfolding limits_before_room
@@ -178,7 +176,7 @@ module _ (slots : ℕ) (t before stage out : List ℕ) (r : Reading) (l : ListRe
             go : Done slots s before r.e stage ⊎ ((fits s ≡ false) × (within_limits r.e ≡ false)) → Done slots s before r.e stage
             go (inl d) = d
             go (inr x) =
-                absurd (let y : ◌≡◌ {A = ℕ} 0 1 = cc (sym z ∙ j ∙ ap (λ b. cond b (cond (leb (size_in r.e) (length out)) (written.Bytes (size_in r.e)) (written.Refused Room)) (written.Refused Limit)) x.1) in omega arith)
+                absurd (let y : ◌≡◌ {A = ℕ} 0 1 = cc (sym z ∙ j ∙ ap (λ b. cond b (cond (leb (size_in r.e) (length out)) (Ok (size_in r.e)) (Err Room)) (Err Limit)) x.1) in omega arith)
 
         pub list_placeable : slots ≤ max_ops → Enough slots t → length before ≡ start_of_text slots → length stage ≡ length before → Placeable t stage slots r.e out
         list_placeable m n a b =
@@ -195,5 +193,5 @@ module _ (slots : ℕ) (t before stage out : List ℕ) (r : Reading) (l : ListRe
               room = u.1;
             }
 
-        pub list_written : (o : List ℕ) → Writes r.e.ops (ops_of (items at_start t)) out o → Gives (from_json_call t out) (written.Bytes k) o
+        pub list_written : (o : List ℕ) → Writes r.e.ops (ops_of (items at_start t)) out o → Gives (from_json_call t out) (Ok k) o
         list_written o w = rw (call_is t out form) (gives_written (ops_of (items at_start t)) out r.e before stage whole v j k o z w)

@@ -1,5 +1,5 @@
 -- A record's list: what is measured and written is what the call gives.
-use Rattle.std.specs.Prelude.{◌≡◌, ℕ, zero, suc, ◌<◌, ◌≤◌, List, [], ◌∷◌, length}
+use Rattle.std.specs.Prelude.{◌≡◌, ℕ, zero, suc, ◌<◌, ◌≤◌, List, [], ◌∷◌, length, Ok, Err}
 use native.Mathlib.Omega.{arith}
 use mathlib.Core.Path.{refl, sym, ap, ◌∙◌}
 use borrow.Author.Tests.{le-leb, lt-leb}
@@ -10,7 +10,6 @@ use Rattle.answers.specs.Output.{writing}
 use Rattle.answers.specs.InnerGiven.{Gives}
 use Rattle.answers.specs.declared.Refusal.{Refusal}
 use Rattle.answers.specs.declared.Refusal.TheVariants.{Room}
-use Rattle.answers.specs.declared.Written.TheVariants as written
 use Rattle.record.specs.Layout.{op_count_of}
 use Rattle.record.specs.Record.{record_fault, ops}
 use Rattle.json_lists.specs.Written.{written as list_of}
@@ -21,11 +20,11 @@ use Rattle.json_measure.specs.InnerSizes.{measured_of, measure_call}
 
 module _ (r out : List ℕ) (m : Measured) (e : measured_of m ≡ measure_call r) where
   -- the record's own refusal
-  pub record_refused : (x : Refusal) → m ≡ measured.Refused x → Gives (to_json_call r out) (written.Refused x) out
+  pub record_refused : (x : Refusal) → m ≡ measured.Refused x → Gives (to_json_call r out) (Err x) out
   unfolding to_json_call writing measure_call
   record_refused x z = go (record_fault r) refl (sym (ap measured_of z) ∙ e)
     where
-      go : (k : ℕ) → record_fault r ≡ k → refused (number x) ≡ unless_refused k refused (success (op_count_of r ∷ length (list_of (ops r)) ∷ [])) → Gives (writing k (list_of (ops r)) out) (written.Refused x) out
+      go : (k : ℕ) → record_fault r ≡ k → refused (number x) ≡ unless_refused k refused (success (op_count_of r ∷ length (list_of (ops r)) ∷ [])) → Gives (writing k (list_of (ops r)) out) (Err x) out
       go zero p q = absurd (let y : ◌≡◌ {A = ℕ} 0 1 = cc q in omega arith)
       go (suc k) p q = record { answer = q; out = refl }
 
@@ -51,11 +50,11 @@ module _ (r out : List ℕ) (m : Measured) (e : measured_of m ≡ measure_call r
     pub list_fits : bytes ≤ length out → length (list_of (ops r)) ≤ length out
     list_fits h = omega (arith, list_size)
 
-    pub list_room : length out < bytes → Gives (to_json_call r out) (written.Refused Room) out
+    pub list_room : length out < bytes → Gives (to_json_call r out) (Err Room) out
     unfolding to_json_call writing
     list_room h = rw (list_passes, lt-leb (length (list_of (ops r))) (length out) (omega (arith, list_size))) (record { answer = refl; out = refl })
 
-    pub list_given : bytes ≤ length out → (o : List ℕ) → o ≡ over 0 (list_of (ops r)) out → Gives (to_json_call r out) (written.Bytes bytes) o
+    pub list_given : bytes ≤ length out → (o : List ℕ) → o ≡ over 0 (list_of (ops r)) out → Gives (to_json_call r out) (Ok bytes) o
     unfolding to_json_call writing
     list_given h o p =
         let s = list_size in

@@ -3,7 +3,7 @@
 #![tactic(auto)]
 
 ghost use Rattle.std.specs.Prelude.{◌≡◌, ◌≤◌, length};
-ghost use Rattle.answers.specs.Answer.{written_of};
+ghost use Rattle.answers.specs.Answer.{answer_of};
 ghost use Rattle.answers.specs.InnerGiven.{Gives};
 ghost use Rattle.record.specs.Layout.{start_of_text, max_ops};
 ghost use Rattle.emitter.specs.InnerEmit.{Writes};
@@ -11,9 +11,8 @@ ghost use Rattle.json_lists.specs.Form.{at_start, items};
 ghost use Rattle.json_lists.specs.Calls.{ops_of, from_json_call, to_json_call};
 ghost use Rattle.json_edits.specs.InnerStages.{Placeable, Enough, small_ops};
 
-use answers::{Refusal, Written};
+use answers::Refusal;
 use emitter::inner::Emitter;
-use json_measure::inner::Measured;
 use record::inner::{HEADER, MAX_OPS, OP_BYTES};
 
 // The record of a list, whose operations stand in a stage with places for `slots` of them: its text, its operations and its sizes.
@@ -28,22 +27,18 @@ fn place(list: &[u8], stage: &[u8], slots: usize, e: Emitter, out: &mut [u8])
 }
 
 // A list is read into a stage, judged, and its record written. It has no more operations than bytes, and more than 1,024 are refused.
-fn staged(list: &[u8], stage: &mut [u8], slots: usize, out: &mut [u8]) -> Written
+fn staged(list: &[u8], stage: &mut [u8], slots: usize, out: &mut [u8]) -> Result<usize, Refusal>
     requires { (slots ≤ max_ops) × (length stage.old ≡ start_of_text slots) × Enough slots list.now }
     ensures { Gives (from_json_call list.now out.old) result out.new }
 {
     let r = json_read::inner::read_list(list, stage, slots);
     let e = r.e;
     if !r.valid {
-        return Written::Refused(Refusal::Json);
+        return Err(Refusal::Json);
     }
-    match emitter::inner::limits_then_room(e, out.len()) {
-        Written::Refused(x) => Written::Refused(x),
-        Written::Bytes(k) => {
-            place(list, stage, slots, e, out);
-            Written::Bytes(k)
-        }
-    }
+    let k = emitter::inner::limits_then_room(e, out.len())?;
+    place(list, stage, slots, e, out);
+    Ok(k)
 }
 
 // The operations that a stage has places for, and its bytes.
@@ -53,7 +48,7 @@ const SMALL_STAGE: usize = HEADER + OP_BYTES * SMALL_OPS;
 
 const LARGE_STAGE: usize = HEADER + OP_BYTES * MAX_OPS;
 
-fn in_small_stage(list: &[u8], out: &mut [u8]) -> Written
+fn in_small_stage(list: &[u8], out: &mut [u8]) -> Result<usize, Refusal>
     requires { length list.now ≤ small_ops }
     ensures { Gives (from_json_call list.now out.old) result out.new }
 {
@@ -61,7 +56,7 @@ fn in_small_stage(list: &[u8], out: &mut [u8]) -> Written
     staged(list, &mut stage, SMALL_OPS, out)
 }
 
-fn in_large_stage(list: &[u8], out: &mut [u8]) -> Written
+fn in_large_stage(list: &[u8], out: &mut [u8]) -> Result<usize, Refusal>
     ensures { Gives (from_json_call list.now out.old) result out.new }
 {
     let mut stage = [0u8; LARGE_STAGE];
@@ -69,8 +64,8 @@ fn in_large_stage(list: &[u8], out: &mut [u8]) -> Written
 }
 
 // The record that a list gives through the builders, one value after another; 11 where the bytes are no list of the form.
-pub fn from_json(list: &[u8], out: &mut [u8]) -> Written
-    ensures { (written_of result ≡ (from_json_call list.now out.old).answer)
+pub fn from_json(list: &[u8], out: &mut [u8]) -> Result<usize, Refusal>
+    ensures { (answer_of result ≡ (from_json_call list.now out.old).answer)
         × (out.new ≡ (from_json_call list.now out.old).out) }
 {
     if SMALL_OPS < list.len() {
@@ -80,24 +75,20 @@ pub fn from_json(list: &[u8], out: &mut [u8]) -> Written
 }
 
 // The answer of `to_json`.
-fn write_measured(rec: &[u8], out: &mut [u8]) -> Written
+fn write_measured(rec: &[u8], out: &mut [u8]) -> Result<usize, Refusal>
     ensures { Gives (to_json_call rec.now out.old) result out.new }
 {
-    match json_measure::inner::measure(rec) {
-        Measured::Refused(x) => Written::Refused(x),
-        Measured::Of { ops, bytes } => {
-            if out.len() < bytes {
-                return Written::Refused(Refusal::Room);
-            }
-            json_write::inner::write_list(out, rec, ops);
-            Written::Bytes(bytes)
-        }
+    let list = json_measure::inner::measure(rec)?;
+    if out.len() < list.bytes {
+        return Err(Refusal::Room);
     }
+    json_write::inner::write_list(out, rec, list.ops);
+    Ok(list.bytes)
 }
 
 // The list of a record; its own refusal where it has one, and 10 where the list has no room.
-pub fn to_json(rec: &[u8], out: &mut [u8]) -> Written
-    ensures { (written_of result ≡ (to_json_call rec.now out.old).answer)
+pub fn to_json(rec: &[u8], out: &mut [u8]) -> Result<usize, Refusal>
+    ensures { (answer_of result ≡ (to_json_call rec.now out.old).answer)
         × (out.new ≡ (to_json_call rec.now out.old).out) }
 {
     write_measured(rec, out)

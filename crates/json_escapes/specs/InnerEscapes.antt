@@ -1,5 +1,5 @@
 -- What is found of escapes and strings. Only contracts of inner functions cite this.
-use Rattle.std.specs.Prelude.{◌≡◌, ℕ, ◌+◌, ◌<◌, ◌≤◌, cond, ◌||◌, T, List, [], ◌++◌, length, drop, ◌==◌}
+use Rattle.std.specs.Prelude.{◌≡◌, ℕ, ◌+◌, ◌<◌, ◌≤◌, cond, ◌||◌, T, List, [], ◌++◌, length, drop, ◌==◌, Option, Some, None}
 use Rattle.std.proofs.Math.Option.{Option, none}
 use Rattle.characters.specs.Form.{is_well_formed}
 use Rattle.characters.specs.Chars.{number_of_chars}
@@ -8,7 +8,6 @@ use Rattle.json_lists.specs.Form.{string, is_hex, value_of_hex, Place, in_string
 use Rattle.json_lists.specs.InnerRuns.{width, Onward, Passes, Fails}
 use Rattle.json_escapes.specs.declared.inner.Escaped.{Escaped}
 use Rattle.json_escapes.specs.declared.inner.Scanned.{Scanned}
-use Rattle.json_escapes.specs.declared.inner.Scanned.TheVariants.{Outside, Text}
 
 abbrev pub hex_or_none : ℕ → ℕ
 hex_or_none b = cond (is_hex b) (value_of_hex b) 16
@@ -53,6 +52,6 @@ pub record StringAt (t : List ℕ) (at bytes chars to : ℕ) : Type 0 where
   pub below : to ≤ length t
   pub passes : Passes (string text) (in_string []) (drop at t) after_value (drop to t)
 
-abbrev pub StringScanned : List ℕ → ℕ → Scanned → Type 0
-StringScanned t at Outside = Fails (in_string []) (drop at t)
-StringScanned t at (Text bytes chars to) = StringAt t at bytes chars to
+abbrev pub StringScanned : List ℕ → ℕ → Option Scanned → Type 0
+StringScanned t at None = Fails (in_string []) (drop at t)
+StringScanned t at (Some s) = StringAt t at s.bytes s.chars s.to

@@ -172,19 +172,16 @@ pub fn width(v: usize) -> usize
     4
 }
 
-// What a string is found to be: none of the form's, or of so many bytes and characters, with the place behind it.
-#[derive(Clone, Copy)]
-pub enum Scanned {
-    Outside,
-    Text {
-        bytes: usize,
-        chars: usize,
-        to: usize,
-    },
+// How many bytes and characters a string has, and the place behind it.
+#[derive(Clone, Copy, Debug, PartialEq, Eq)]
+pub struct Scanned {
+    pub bytes: usize,
+    pub chars: usize,
+    pub to: usize,
 }
 
-// The string whose first quotation mark stands before `at`.
-pub fn string(list: &[u8], at: usize) -> Scanned
+// The string whose first quotation mark stands before `at`, unless it is none of the form's.
+pub fn string(list: &[u8], at: usize) -> Option<Scanned>
     requires { at ≤ length list.now }
     ensures { StringScanned list.now at result }
 {
@@ -195,29 +192,29 @@ pub fn string(list: &[u8], at: usize) -> Scanned
         let s = json_strings::inner::plain(list, i);
         let end = s.to;
         if list.len() <= end {
-            return Scanned::Outside;
+            return None;
         }
         bytes += end - i;
         chars += s.chars;
         let b = list[end];
         if b == QUOTATION_MARK {
-            return Scanned::Text {
+            return Some(Scanned {
                 bytes,
                 chars,
                 to: end + 1,
-            };
+            });
         }
         if b != BACKSLASH {
-            return Scanned::Outside;
+            return None;
         }
         let x = escape(list, end + 1);
         let code = x.code;
         if code == NO_CODE {
-            return Scanned::Outside;
+            return None;
         }
         bytes += width(code);
         chars += 1;
         i = x.to;
     }
-    Scanned::Outside
+    None
 }

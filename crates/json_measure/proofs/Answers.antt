@@ -1,21 +1,16 @@
 -- From what is found to the answer.
-use Rattle.std.specs.Prelude.{◌≡◌, ℕ, ◌+◌, ◌≤◌, List, [], ◌∷◌}
+use Rattle.std.specs.Prelude.{◌≡◌, ℕ, ◌+◌, ◌≤◌, List, [], ◌∷◌, Result, Ok, Err, None}
 use native.Mathlib.Omega.{arith}
 use mathlib.Core.Path.{refl, ap₂}
-use Rattle.answers.specs.Answer.{refused, success, number, fact_of}
+use Rattle.answers.specs.Answer.{refused, success, number, answer_of}
 use Rattle.answers.specs.declared.Refusal.{Refusal}
 use Rattle.answers.specs.declared.Refusal.TheVariants.{Utf8}
-use Rattle.answers.specs.declared.Fact.{Fact}
-use Rattle.answers.specs.declared.Fact.TheVariants as fact
 use Rattle.record.specs.Record.{text_of, ops}
 use Rattle.record.specs.Calls.{check_call}
 use Rattle.record.proofs.Checked.{same_refusal, passed}
 use Rattle.record.proofs.Records.{text_length}
 use Rattle.entries.specs.InnerTally.{HasEntries, sum_of}
-use Rattle.inserts.specs.declared.inner.Inserted.TheVariants as inserted
 use Rattle.operation.specs.declared.inner.Totals.{Totals}
-use Rattle.operation.specs.declared.inner.Entered.{Entered}
-use Rattle.operation.specs.declared.inner.Entered.TheVariants as entered
 use Rattle.operation.specs.InnerEntered.{entered_of}
 use Rattle.operation.proofs.Answers.{check_2, check_3, totals_ops, totals_few, totals_sound}
 use Rattle.json_lists.proofs.Lengths.{escaped_all_length, extra_bytes_most}
@@ -25,24 +20,24 @@ use Rattle.json_measure.specs.InnerSizes.{entry_frame, marks_of, inserts_of, mea
 use Rattle.json_measure.proofs.Inserts.{found_ill, found_bytes}
 use Rattle.json_measure.proofs.Values.{list_bytes}
 
-pub entries_refused : (r : List ℕ) (e : Entered) → e ≡ entered_of r → (x : Refusal) → e ≡ entered.Refused x → refused (number x) ≡ measure_call r
+pub entries_refused : (r : List ℕ) (e : Result Totals Refusal) → e ≡ entered_of r → (x : Refusal) → e ≡ Err x → refused (number x) ≡ measure_call r
 unfolding measure_call
-entries_refused r e p x q = same_refusal r (fact.Refused x) (check_2 r e p x q) x _ refl
+entries_refused r e p x q = same_refusal r (Err x) (check_2 r e p x q) x _ refl
 
-pub sums_refused : (r : List ℕ) (f : Fact) → fact_of f ≡ check_call r → (x : Refusal) → f ≡ fact.Refused x → refused (number x) ≡ measure_call r
+pub sums_refused : (r : List ℕ) (f : Result ℕ Refusal) → answer_of f ≡ check_call r → (x : Refusal) → f ≡ Err x → refused (number x) ≡ measure_call r
 unfolding measure_call
 sums_refused r f p x q = same_refusal r f p x _ q
 
-module _ (r : List ℕ) (t : Totals) (pt : entered.Of t ≡ entered_of r) where
+module _ (r : List ℕ) (t : Totals) (pt : Ok t ≡ entered_of r) where
   pub totals_entries : HasEntries r t.ops
   totals_entries = record { count_is = totals_ops r t pt; few = totals_few r t pt; there = omega (arith, totals_ops r t pt, (totals_sound r t pt).room) }
 
   module _ (x : Texts) (p : x ≡ inserts_of r) where
     pub texts_refused : x ≡ IllFormed → refused 3 ≡ measure_call r
     unfolding measure_call
-    texts_refused y = same_refusal r (fact.Refused Utf8) (check_3 r t pt inserted.IllFormed (found_ill r x p y) refl) Utf8 _ refl
+    texts_refused y = same_refusal r (Err Utf8) (check_3 r t pt None (found_ill r x p y) refl) Utf8 _ refl
 
-    module _ (c b : ℕ) (y : x ≡ Of c b) (f : Fact) (pf : fact_of f ≡ check_call r) (s : ℕ) (q : f ≡ fact.Is s) where
+    module _ (c b : ℕ) (y : x ≡ Of c b) (f : Result ℕ Refusal) (pf : answer_of f ≡ check_call r) (s : ℕ) (q : f ≡ Ok s) where
       pub bytes_few : b ≤ 196608
       bytes_few =
           omega

@@ -1,5 +1,5 @@
 -- How many bytes the parts of a list have. Only inner contracts cite this.
-use Rattle.std.specs.Prelude.{ℕ, ◌+◌, cond, List, [], ◌∷◌, length}
+use Rattle.std.specs.Prelude.{ℕ, ◌+◌, cond, List, [], ◌∷◌, length, Option, Some, None, Result, Ok, Err}
 use Rattle.buffers.specs.Lists.{all_of}
 use Rattle.characters.specs.Form.{is_well_formed}
 use Rattle.characters.specs.Chars.{number_of_chars}
@@ -9,9 +9,8 @@ use Rattle.record.specs.Layout.{op_count_of}
 use Rattle.record.specs.Record.{Entry, operation, text_of, byte_ops, well_inserted, record_fault, ops}
 use Rattle.json_lists.specs.Written.{decimal, escaped_all, written}
 use Rattle.json_measure.specs.declared.inner.Texts.{Texts}
-use Rattle.json_measure.specs.declared.inner.Texts.TheVariants as texts
 use Rattle.json_measure.specs.declared.inner.Measured.{Measured}
-use Rattle.json_measure.specs.declared.inner.Measured.TheVariants as measured
+use Rattle.answers.specs.declared.Refusal.{Refusal}
 
 -- a value's bytes without an insert's text
 unfoldable pub frame : Op ℕ → ℕ
@@ -28,17 +27,17 @@ abbrev pub marks_of : ℕ → ℕ
 marks_of n = if_zero n 2 (n + 1)
 
 -- a text's characters and its bytes in strings
-unfoldable pub sizes_of : List ℕ → Texts
-sizes_of t = cond (is_well_formed t) (texts.Of (number_of_chars t) (length (escaped_all t))) texts.IllFormed
+unfoldable pub sizes_of : List ℕ → Option Texts
+sizes_of t = cond (is_well_formed t) (Some (record { chars = number_of_chars t; bytes = length (escaped_all t) })) None
 
 -- those of all inserts, where each is well-formed
-unfoldable pub inserts_of : List ℕ → Texts
+unfoldable pub inserts_of : List ℕ → Option Texts
 unfolding text_of byte_ops
-inserts_of r = cond (all_of well_inserted (byte_ops r)) (texts.Of (number_of_chars (text_of r)) (length (escaped_all (text_of r)))) texts.IllFormed
+inserts_of r = cond (all_of well_inserted (byte_ops r)) (Some (record { chars = number_of_chars (text_of r); bytes = length (escaped_all (text_of r)) })) None
 
-abbrev pub measured_of : Measured → Answer
-measured_of (measured.Refused x) = refused (number x)
-measured_of (measured.Of n b) = success (n ∷ b ∷ [])
+abbrev pub measured_of : Result Measured Refusal → Answer
+measured_of (Ok m) = success (m.ops ∷ m.bytes ∷ [])
+measured_of (Err x) = refused (number x)
 
 -- the record's own refusal, or how many operations it has and how many bytes its list
 unfoldable pub measure_call : List ℕ → Answer

@@ -10,11 +10,9 @@ ghost use Rattle.operation.specs.InnerEntered.{entered_of};
 ghost use Rattle.json_lists.specs.Written.{decimal, escaped as escapedOf};
 ghost use Rattle.json_measure.specs.InnerSizes.{entry_frame, marks_of, sizes_of, inserts_of, measured_of, measure_call};
 
-use answers::{Fact, Refusal};
-use inserts::inner::Inserted;
-use operation::inner::{Entered, Totals};
+use answers::Refusal;
+use operation::inner::Totals;
 use record::inner::{INSERT, RETAIN};
-use tally::inner::Entries;
 
 const QUOTATION_MARK: u8 = 0x22;
 
@@ -56,15 +54,16 @@ fn extra(b: u8) -> usize
     0
 }
 
-// A text that isn't well-formed, or how many characters it has, and how many bytes it takes in strings.
-#[derive(Clone, Copy)]
-pub enum Texts {
-    IllFormed,
-    Of { chars: usize, bytes: usize },
+// How many characters a text has, and how many bytes it takes in strings.
+#[derive(Clone, Copy, Debug, PartialEq, Eq)]
+pub struct Texts {
+    pub chars: usize,
+    pub bytes: usize,
 }
 
-// Characters that need no escape are passed at once. What stops them must be escaped, or the text isn't well-formed there.
-fn text_bytes(text: &[u8]) -> Texts
+// The sizes of a text, unless it isn't well-formed. Characters that need no escape are passed at once. What stops them must be escaped, or
+// the text isn't well-formed there.
+fn text_bytes(text: &[u8]) -> Option<Texts>
     requires { length text.now < 65536 }
     ensures { result ≡ sizes_of text.now }
 {
@@ -75,35 +74,33 @@ fn text_bytes(text: &[u8]) -> Texts
     while at < text.len() {
         let x = extra(text[at]);
         if x == 0 {
-            return Texts::IllFormed;
+            return None;
         }
         let s = json_strings::inner::plain(text, at + 1);
         at = s.to;
         chars += 1 + s.chars;
         more += x;
     }
-    Texts::Of {
+    Some(Texts {
         chars,
         bytes: text.len() + more,
-    }
+    })
 }
 
 // All inserts at once: where the whole is well-formed, each is that begins with no continuation.
-fn insert_bytes(rec: &[u8], n: usize, text: usize, ordered: bool) -> Texts
+fn insert_bytes(rec: &[u8], n: usize, text: usize, ordered: bool) -> Option<Texts>
     requires { (n ≡ op_count_of rec.now) × (text ≡ text_bytes_of rec.now) × (ordered ≡ chained (byte_ops rec.now)) × Sound rec.now }
     ensures { result ≡ inserts_of rec.now }
 {
     let from = layout::inner::text_start(n);
     let to = from + text;
-    let Texts::Of { chars, bytes } = text_bytes(&rec[from..to]) else {
-        return Texts::IllFormed;
-    };
-    if chars < text {
+    let sizes = text_bytes(&rec[from..to])?;
+    if sizes.chars < text {
         if !inserts::inner::start_well(rec, n, ordered) {
-            return Texts::IllFormed;
+            return None;
         }
     }
-    Texts::Of { chars, bytes }
+    Some(sizes)
 }
 
 // How many bytes a value has without an insert's text: the digits, a delete's minus, an insert's quotation marks.
@@ -144,47 +141,41 @@ fn marks(n: usize) -> usize
     if n == 0 { 2 } else { n + 1 }
 }
 
-// A refusal of the check, or how many operations the record has and how many bytes its list.
-#[derive(Clone, Copy)]
-pub enum Measured {
-    Refused(Refusal),
-    Of { ops: usize, bytes: usize },
+// How many operations a record has, and how many bytes its list.
+#[derive(Clone, Copy, Debug, PartialEq, Eq)]
+pub struct Measured {
+    pub ops: usize,
+    pub bytes: usize,
 }
 
 // The check from the inserted texts on, and the list measured.
-fn measure_texts(rec: &[u8], t: Totals) -> Measured
+fn measure_texts(rec: &[u8], t: Totals) -> Result<Measured, Refusal>
     requires { Entered.Of t ≡ entered_of rec.now }
     ensures { measured_of result ≡ measure_call rec.now }
 {
     let n = t.ops;
-    let Texts::Of { chars, bytes } = insert_bytes(rec, n, t.text, t.ordered) else {
-        return Measured::Refused(Refusal::Utf8);
-    };
-    match operation::inner::check_sums(rec, t, Inserted::Chars(chars)) {
-        Fact::Refused(x) => Measured::Refused(x),
-        Fact::Is(_) => Measured::Of {
-            ops: n,
-            bytes: marks(n) + frames(rec, n) + bytes,
-        },
-    }
+    let texts = insert_bytes(rec, n, t.text, t.ordered).ok_or(Refusal::Utf8)?;
+    operation::inner::check_sums(rec, t, Some(texts.chars))?;
+    Ok(Measured {
+        ops: n,
+        bytes: marks(n) + frames(rec, n) + texts.bytes,
+    })
 }
 
 // `operation::inner::check_entries`, with the entries summed up one by one.
-fn check_entries(rec: &[u8]) -> Entered
+fn check_entries(rec: &[u8]) -> Result<Totals, Refusal>
     ensures { result ≡ entered_of rec.now }
 {
     if !operation::inner::in_limits(rec) {
-        return Entered::Refused(Refusal::Size);
+        return Err(Refusal::Size);
     }
     let n = layout::inner::op_count(rec);
     let text = layout::inner::text_bytes(rec);
-    let Entries::Of(sums) = tally::inner::sum_up_by_entry(rec, n) else {
-        return Entered::Refused(Refusal::Entry);
-    };
+    let sums = tally::inner::sum_up_by_entry(rec, n).ok_or(Refusal::Entry)?;
     if sums.inserts != text {
-        return Entered::Refused(Refusal::Entry);
+        return Err(Refusal::Entry);
     }
-    Entered::Of(Totals {
+    Ok(Totals {
         ops: n,
         text,
         ordered: sums.ordered,
@@ -194,11 +185,8 @@ fn check_entries(rec: &[u8]) -> Entered
 }
 
 // A record is checked, and its list is measured.
-pub fn measure(rec: &[u8]) -> Measured
+pub fn measure(rec: &[u8]) -> Result<Measured, Refusal>
     ensures { measured_of result ≡ measure_call rec.now }
 {
-    match check_entries(rec) {
-        Entered::Refused(x) => Measured::Refused(x),
-        Entered::Of(t) => measure_texts(rec, t),
-    }
+    measure_texts(rec, check_entries(rec)?)
 }

@@ -160,8 +160,8 @@ fn quoted(list: &[u8], at: usize) -> Value
     ensures { ValueFrom after_comma list.now at result }
 {
     match json_escapes::inner::string(list, at + 1) {
-        Scanned::Outside => Value::Outside,
-        Scanned::Text { bytes, chars, to } => Value::Insert { bytes, chars, to },
+        None => Value::Outside,
+        Some(Scanned { bytes, chars, to }) => Value::Insert { bytes, chars, to },
     }
 }
 

@@ -4,9 +4,8 @@ ghost use Rattle.record.specs.Layout.{start_of_text, max_ops, max_record};
 ghost use Rattle.session_log.specs.Log.{count_of};
 ghost use Rattle.append.specs.InnerAccepting.{Admitted, Tries, Accepts, MovedPast};
 
-use answers::{Refusal, WrittenPair};
-use append::inner::Tried;
-use counterparts::inner::Run;
+use answers::Refusal;
+use counterparts::inner::Stop;
 use record::inner::{HEADER, MAX_OPS, MAX_RECORD, OP_BYTES};
 use session_log::inner::Scan;
 
@@ -43,21 +42,18 @@ fn try_in(
     side: &mut [u8],
     parts: &mut [u8],
     slots: usize,
-) -> Tried
+) -> Result<(usize, usize), Stop>
     requires { Admitted edit.now r log.old s × (n ≡ count_of log.old - r) × (length next.old ≡ start_of_text slots)
         × (length side.old ≡ start_of_text slots) × (slots ≤ max_ops) }
     ensures { Tries edit.now r log.old out.old result log.new out.new }
 {
     let size = reader::inner::size(edit);
     if cur.len() < size {
-        return Tried::Short;
+        return Err(Stop::Short);
     }
     append::inner::load_edit(cur, edit);
-    match rebase::inner::rebase(log, s.at, n, edit, cur, next, side, parts, slots) {
-        Run::Refused(x) => Tried::Refused(x),
-        Run::Kept(bytes) => append::inner::deliver(edit, r, log, s, out, cur, parts, bytes),
-        Run::Short => Tried::Short,
-    }
+    let bytes = rebase::inner::rebase(log, s.at, n, edit, cur, next, side, parts, slots)?;
+    append::inner::deliver(edit, r, log, s, out, cur, parts, bytes)
 }
 
 // The run once more, now that all is decided: the counterparts go to the output.
@@ -72,7 +68,7 @@ fn write_again(
     next: &mut [u8],
     side: &mut [u8],
     bytes: usize,
-) -> WrittenPair
+) -> Result<(usize, usize), Refusal>
     requires { Admitted edit.now r log.old s × (n ≡ count_of log.old - r) × (max_record ≤ length cur.old)
         × (length next.old ≡ start_of_text max_ops) × (length side.old ≡ start_of_text max_ops)
         × MovedPast edit.now r log.old bytes cur.old }
@@ -80,12 +76,12 @@ fn write_again(
 {
     let size = reader::inner::size(cur);
     if !append::inner::has_room(log, s.size, size, out, bytes) {
-        return WrittenPair::Refused(Refusal::Room);
+        return Err(Refusal::Room);
     }
     append::inner::load_edit(cur, edit);
-    rebase::inner::rebase(log, s.at, n, edit, cur, next, side, out, MAX_OPS);
+    let _ = rebase::inner::rebase(log, s.at, n, edit, cur, next, side, out, MAX_OPS);
     append::inner::append(log, s, cur, size);
-    WrittenPair::Bytes(size, bytes)
+    Ok((size, bytes))
 }
 
 // The edit is rebased in buffers in which every record has a place: the first run keeps no counterparts.
@@ -99,7 +95,7 @@ fn in_full_buffers(
     cur: &mut [u8],
     next: &mut [u8],
     side: &mut [u8],
-) -> WrittenPair
+) -> Result<(usize, usize), Refusal>
     requires { Admitted edit.now r log.old s × (n ≡ count_of log.old - r) × (max_record ≤ length cur.old)
         × (length next.old ≡ start_of_text max_ops) × (length side.old ≡ start_of_text max_ops) }
     ensures { Accepts edit.now r log.old out.old result log.new out.new }
@@ -107,10 +103,10 @@ fn in_full_buffers(
     let mut none = [0u8; 0];
     append::inner::load_edit(cur, edit);
     match rebase::inner::rebase(log, s.at, n, edit, cur, next, side, &mut none, MAX_OPS) {
-        Run::Refused(x) => WrittenPair::Refused(x),
-        Run::Kept(bytes) => write_again(edit, r, log, s, n, out, cur, next, side, bytes),
+        Err(Stop::Refused(x)) => Err(x),
+        Ok(bytes) => write_again(edit, r, log, s, n, out, cur, next, side, bytes),
         // never: every record has a place
-        Run::Short => WrittenPair::Refused(Refusal::Room),
+        Err(Stop::Short) => Err(Refusal::Room),
     }
 }
 
@@ -121,7 +117,7 @@ pub fn in_large_buffers(
     s: Scan,
     n: usize,
     out: &mut [u8],
-) -> WrittenPair
+) -> Result<(usize, usize), Refusal>
     requires { Admitted edit.now r log.old s × (n ≡ count_of log.old - r) }
     ensures { Accepts edit.now r log.old out.old result log.new out.new }
 {
@@ -138,7 +134,7 @@ pub fn in_medium_buffers(
     s: Scan,
     n: usize,
     out: &mut [u8],
-) -> WrittenPair
+) -> Result<(usize, usize), Refusal>
     requires { Admitted edit.now r log.old s × (n ≡ count_of log.old - r) }
     ensures { Accepts edit.now r log.old out.old result log.new out.new }
 {
@@ -149,9 +145,9 @@ pub fn in_medium_buffers(
     match try_in(
         edit, r, log, s, n, out, &mut cur, &mut next, &mut side, &mut parts, MEDIUM_OPS,
     ) {
-        Tried::Bytes(k, l) => WrittenPair::Bytes(k, l),
-        Tried::Refused(x) => WrittenPair::Refused(x),
-        Tried::Short => in_large_buffers(edit, r, log, s, n, out),
+        Ok((k, l)) => Ok((k, l)),
+        Err(Stop::Refused(x)) => Err(x),
+        Err(Stop::Short) => in_large_buffers(edit, r, log, s, n, out),
     }
 }
 
@@ -162,7 +158,7 @@ pub fn in_small_buffers(
     s: Scan,
     n: usize,
     out: &mut [u8],
-) -> WrittenPair
+) -> Result<(usize, usize), Refusal>
     requires { Admitted edit.now r log.old s × (n ≡ count_of log.old - r) }
     ensures { Accepts edit.now r log.old out.old result log.new out.new }
 {
@@ -173,8 +169,8 @@ pub fn in_small_buffers(
     match try_in(
         edit, r, log, s, n, out, &mut cur, &mut next, &mut side, &mut parts, SMALL_OPS,
     ) {
-        Tried::Bytes(k, l) => WrittenPair::Bytes(k, l),
-        Tried::Refused(x) => WrittenPair::Refused(x),
-        Tried::Short => in_medium_buffers(edit, r, log, s, n, out),
+        Ok((k, l)) => Ok((k, l)),
+        Err(Stop::Refused(x)) => Err(x),
+        Err(Stop::Short) => in_medium_buffers(edit, r, log, s, n, out),
     }
 }

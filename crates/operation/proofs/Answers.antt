@@ -1,5 +1,5 @@
 -- From what the code finds to the answers of the calls.
-use Rattle.std.specs.Prelude.{◌≡◌, ℕ, zero, suc, ◌+◌, ◌-◌, ◌^◌, ◌<◌, ◌≤◌, Bool, true, false, cond, not, eqb, ltb, leb, List, [], ◌∷◌, map, length, get_or, take, drop}
+use Rattle.std.specs.Prelude.{◌≡◌, ℕ, zero, suc, ◌+◌, ◌-◌, ◌^◌, ◌<◌, ◌≤◌, Bool, true, false, cond, not, eqb, ltb, leb, List, [], ◌∷◌, map, length, get_or, take, drop, Result, Option, Ok, Err, Some, None}
 use native.Mathlib.Omega.{arith}
 use mathlib.Core.Path.{refl, sym, ap, ◌∙◌, ap₂}
 use lib.ListN.{length-take, length-map, get_or-map, get_or-eq_default}
@@ -13,12 +13,9 @@ use Rattle.characters.proofs.Chars.{num_le, split}
 use Rattle.edits.specs.Op.{total, base, Op, retain}
 use Rattle.edits.specs.Built.{chained}
 use Rattle.edits.specs.Sequence.{Seq}
-use Rattle.answers.specs.Answer.{refused, success, number, fact_of, noop_of, unless_refused, needs}
+use Rattle.answers.specs.Answer.{refused, success, number, answer_of, noop_of, unless_refused, needs}
 use Rattle.answers.specs.declared.Refusal.{Refusal}
 use Rattle.answers.specs.declared.Refusal.TheVariants as refusal
-use Rattle.answers.specs.declared.Fact.{Fact}
-use Rattle.answers.specs.declared.Fact.TheVariants as fact
-use Rattle.answers.specs.declared.Noop.TheVariants as noop
 use Rattle.record.specs.Layout.{op_count_of, text_bytes_of, base_of, start_of_text, target_of, size_of, kind_at, count_at, max_ops, max_record, max_size}
 use Rattle.record.specs.Record.{byte_ops, is_within_limits, sound, well_inserted, gives_chars, entries, sound_entry, text_of, insert_bytes, adds, record_fault, ByteSeq, in_chars, inserted, ops}
 use Rattle.record.specs.Calls.{check_call, base_call, target_call, no_effect, noop_call, text_call, start_of_insert}
@@ -28,34 +25,28 @@ use Rattle.record.proofs.Records.{byte_ops_length, ops_length}
 use Rattle.record.proofs.Walks.{left_all, left_done, left_retain, left_insert, left_delete, inserts_all, inserts_more}
 use Rattle.record.proofs.Checked.{same_refusal, passed}
 use Rattle.entries.specs.InnerTally.{HasEntries}
-use Rattle.tally.specs.declared.inner.Entries.{Entries}
-use Rattle.tally.specs.declared.inner.Entries.TheVariants.{Unsound, Of}
 use Rattle.tally.specs.declared.inner.Sums.{Sums}
 use Rattle.tally.specs.InnerSums.{keeps, sums_of, entries_of}
 use Rattle.tally.proofs.Summing.{found, Found, target_found}
-use Rattle.inserts.specs.declared.inner.Inserted.{Inserted}
-use Rattle.inserts.specs.declared.inner.Inserted.TheVariants.{IllFormed, Chars}
 use Rattle.inserts.specs.InnerTexts.{inserted_of, Sound, Reached}
 use Rattle.inserts.proofs.Texts.{reached_room, Reach, reach}
 use Rattle.operation.specs.declared.inner.Totals.{Totals}
-use Rattle.operation.specs.declared.inner.Entered.{Entered}
-use Rattle.operation.specs.declared.inner.Entered.TheVariants as entered
 use Rattle.operation.specs.InnerEntered.{totals_of, entered_of}
 
 -- which enum's case is found by a test
-unsound : (b : Bool) (x : Sums) (e : Entries) → e ≡ cond b (Of x) Unsound → e ≡ Unsound → b ≡ false
+unsound : (b : Bool) (x : Sums) (e : Option Sums) → e ≡ cond b (Some x) None → e ≡ None → b ≡ false
 unsound true x e p q = absurd (let z : ◌≡◌ {A = ℕ} 0 1 = cc (p, q) in omega arith)
 unsound false x e p q = refl
 
-summing : (b : Bool) (x s : Sums) (e : Entries) → e ≡ cond b (Of x) Unsound → e ≡ Of s → (b ≡ true) × (x ≡ s)
+summing : (b : Bool) (x s : Sums) (e : Option Sums) → e ≡ cond b (Some x) None → e ≡ Some s → (b ≡ true) × (x ≡ s)
 summing true x s e p q = (refl, (cc (p, q)))
 summing false x s e p q = absurd (let z : ◌≡◌ {A = ℕ} 0 1 = cc (p, q) in omega arith)
 
-ill : (b : Bool) (x : ℕ) (e : Inserted) → e ≡ cond b (Chars x) IllFormed → e ≡ IllFormed → b ≡ false
+ill : (b : Bool) (x : ℕ) (e : Option ℕ) → e ≡ cond b (Some x) None → e ≡ None → b ≡ false
 ill true x e p q = absurd (let z : ◌≡◌ {A = ℕ} 0 1 = cc (p, q) in omega arith)
 ill false x e p q = refl
 
-formed : (b : Bool) (x c : ℕ) (e : Inserted) → e ≡ cond b (Chars x) IllFormed → e ≡ Chars c → (b ≡ true) × (x ≡ c)
+formed : (b : Bool) (x c : ℕ) (e : Option ℕ) → e ≡ cond b (Some x) None → e ≡ Some c → (b ≡ true) × (x ≡ c)
 formed true x c e p q = (refl, (cc (p, q)))
 formed false x c e p q = absurd (let z : ◌≡◌ {A = ℕ} 0 1 = cc (p, q) in omega arith)
 
@@ -76,7 +67,7 @@ pub record Agreed (r : List ℕ) (n t g : ℕ) : Type 0 where
   pub small : g < 2 ^ 32
 
 module _ (r : List ℕ) (a : Bool) (pa : a ≡ is_within_limits r) where
-  pub entered_1 : not a ≡ true → entered.Refused refusal.Size ≡ entered_of r
+  pub entered_1 : not a ≡ true → Err refusal.Size ≡ entered_of r
   unfolding entered_of
   entered_1 h = rw (sym pa ∙ not-true a h)
 
@@ -94,12 +85,12 @@ module _ (r : List ℕ) (a : Bool) (pa : a ≡ is_within_limits r) where
       pub has_entries : HasEntries r n
       has_entries = record { count_is = omega (arith, bounds); few = omega (arith, bounds); there = omega (arith, bounds) }
 
-    module _ (t : ℕ) (pt : t ≡ text_bytes_of r) (e : Entries) (pe : e ≡ entries_of r) where
-      pub entered_2 : e ≡ Unsound → entered.Refused refusal.Entry ≡ entered_of r
+    module _ (t : ℕ) (pt : t ≡ text_bytes_of r) (e : Option Sums) (pe : e ≡ entries_of r) where
+      pub entered_2 : e ≡ None → Err refusal.Entry ≡ entered_of r
       unfolding entered_of sound entries_of
       entered_2 u = rw (limited, unsound (all_of sound_entry (entries r)) (sums_of r) e pe u)
 
-      module _ (q : Sums) (pq : e ≡ Of q) where
+      module _ (q : Sums) (pq : e ≡ Some q) where
         given : (all_of sound_entry (entries r) ≡ true) × (sums_of r ≡ q)
         unfolding entries_of
         given = summing (all_of sound_entry (entries r)) (sums_of r) q e pe pq
@@ -107,31 +98,31 @@ module _ (r : List ℕ) (a : Bool) (pa : a ≡ is_within_limits r) where
         sums : Found r q
         sums = rw given.1 at (found r)
 
-        pub entered_2' : (q.inserts ≡ t → ⊥) → entered.Refused refusal.Entry ≡ entered_of r
+        pub entered_2' : (q.inserts ≡ t → ⊥) → Err refusal.Entry ≡ entered_of r
         unfolding entered_of sound
         entered_2' u = rw (limited, given.0, ne_eqb (insert_bytes (entries r)) (text_bytes_of r) (λ z. u (sums.inserts ∙ z ∙ sym pt)))
 
-        pub entered_0 : (n : ℕ) → n ≡ op_count_of r → q.inserts ≡ t → entered.Of (record { ops = n; text = t; ordered = q.ordered; base = q.base; kept = q.kept }) ≡ entered_of r
+        pub entered_0 : (n : ℕ) → n ≡ op_count_of r → q.inserts ≡ t → Ok (record { ops = n; text = t; ordered = q.ordered; base = q.base; kept = q.kept }) ≡ entered_of r
         unfolding entered_of sound totals_of sums_of
         entered_0 n pn st =
             let x = sym given.1 in
             rw (limited, given.0, eq-eqb (insert_bytes (entries r)) (text_bytes_of r) (sym sums.inserts ∙ st ∙ pt))
-            (λ i. entered.Of (record { ops = pn i; text = pt i; ordered = (x i).ordered; base = (x i).base; kept = (x i).kept }))
+            (λ i. Ok (record { ops = pn i; text = pt i; ordered = (x i).ordered; base = (x i).base; kept = (x i).kept }))
 
 -- where the entries are refused, the record is
-module _ (r : List ℕ) (e : Entered) (pe : e ≡ entered_of r) where
-  pub check_2 : (x : Refusal) → e ≡ entered.Refused x → refused (number x) ≡ check_call r
+module _ (r : List ℕ) (e : Result Totals Refusal) (pe : e ≡ entered_of r) where
+  pub check_2 : (x : Refusal) → e ≡ Err x → refused (number x) ≡ check_call r
   unfolding entered_of check_call record_fault
   check_2 x q = go (is_within_limits r) (sound r) (sym q ∙ pe)
     where
-      go : (a b : Bool) → entered.Refused x ≡ cond a (cond b (entered.Of (totals_of r)) (entered.Refused refusal.Entry)) (entered.Refused refusal.Size)
+      go : (a b : Bool) → Err x ≡ cond a (cond b (Ok (totals_of r)) (Err refusal.Entry)) (Err refusal.Size)
           → refused (number x)
           ≡ unless_refused (needs a 1 (needs b 2 (needs (all_of well_inserted (byte_ops r)) 3 (needs (chained (byte_ops r)) 4 (needs (adds r) 5 0))))) refused (success (size_of r ∷ []))
       go true true h = absurd (let z : ◌≡◌ {A = ℕ} 0 1 = cc h in omega arith)
       go true false h = let z : x ≡ refusal.Entry = cc h in ap (λ y. refused (number y)) z
       go false b h = let z : x ≡ refusal.Size = cc h in ap (λ y. refused (number y)) z
 
-  pub of_entered : (t : Totals) → e ≡ entered.Of t → entered.Of t ≡ entered_of r
+  pub of_entered : (t : Totals) → e ≡ Ok t → Ok t ≡ entered_of r
   of_entered t q = sym q ∙ pe
 
 -- neither 1 nor 2 is found
@@ -140,12 +131,12 @@ record Totalled (r : List ℕ) (t : Totals) : Type 0 where
   pub is_sound : sound r ≡ true
   pub same : t ≡ totals_of r
 
-module _ (r : List ℕ) (t : Totals) (pt : entered.Of t ≡ entered_of r) where
+module _ (r : List ℕ) (t : Totals) (pt : Ok t ≡ entered_of r) where
   totalled : Totalled r t
   unfolding entered_of
   totalled = go (is_within_limits r) (sound r) refl refl pt
     where
-      go : (a b : Bool) → is_within_limits r ≡ a → sound r ≡ b → entered.Of t ≡ cond a (cond b (entered.Of (totals_of r)) (entered.Refused refusal.Entry)) (entered.Refused refusal.Size) → Totalled r t
+      go : (a b : Bool) → is_within_limits r ≡ a → sound r ≡ b → Ok t ≡ cond a (cond b (Ok (totals_of r)) (Err refusal.Entry)) (Err refusal.Size) → Totalled r t
       go true true p q h = record { in_limits = p; is_sound = q; same = cc h }
       go true false p q h = absurd (let z : ◌≡◌ {A = ℕ} 0 1 = cc h in omega arith)
       go false b p q h = absurd (let z : ◌≡◌ {A = ℕ} 0 1 = cc h in omega arith)
@@ -190,12 +181,12 @@ module _ (r : List ℕ) (t : Totals) (pt : entered.Of t ≡ entered_of r) where
   pub totals_sound : Sound r
   totals_sound = record { few = in_bounds.ops; short = in_bounds.text_bytes; room = in_bounds.whole; entries_sound = known entries_well.0; adds_up = entries_well.1 }
 
-  module _ (o : Inserted) (po : o ≡ inserted_of r) where
-    pub check_3 : o ≡ IllFormed → refused 3 ≡ check_call r
+  module _ (o : Option ℕ) (po : o ≡ inserted_of r) where
+    pub check_3 : o ≡ None → refused 3 ≡ check_call r
     unfolding check_call record_fault inserted_of
     check_3 u = rw (totalled.in_limits, totalled.is_sound, ill (all_of well_inserted (byte_ops r)) (number_of_chars (text_of r)) o po u)
 
-    module _ (c : ℕ) (pc : o ≡ Chars c) where
+    module _ (c : ℕ) (pc : o ≡ Some c) where
       texts : (all_of well_inserted (byte_ops r) ≡ true) × (number_of_chars (text_of r) ≡ c)
       unfolding inserted_of
       texts = formed (all_of well_inserted (byte_ops r)) (number_of_chars (text_of r)) c o po pc
@@ -226,7 +217,7 @@ module _ (r : List ℕ) (t : Totals) (pt : entered.Of t ≡ entered_of r) where
               small = omega (arith, kept_less, in_bounds, texts.1, num_le (text_of r), length-take (text_bytes_of r) (drop (start_of_text (op_count_of r)) r));
             }
 
-pub entered_sound : (r : List ℕ) (e : Entered) → e ≡ entered_of r → (t : Totals) → e ≡ entered.Of t → Sound r
+pub entered_sound : (r : List ℕ) (e : Result Totals Refusal) → e ≡ entered_of r → (t : Totals) → e ≡ Ok t → Sound r
 entered_sound r e p t q = totals_sound r t (of_entered r e p t q)
 
 module _ (r : List ℕ) (n t g : ℕ) (a : Agreed r n t g) (g' : ℕ) (pg : g' ≡ target_of r) where
@@ -250,28 +241,28 @@ no_fault r z =
     let l = (limits r).0 f.in_limits in
     record { few = l.ops; short = l.text_bytes; room = l.whole; entries_sound = f.sound; adds_up = f.adds_up }
 
-module _ (r : List ℕ) (f : Fact) (p : fact_of f ≡ check_call r) where
-  pub base_refused : (x : Refusal) → f ≡ fact.Refused x → refused (number x) ≡ base_call r
+module _ (r : List ℕ) (f : Result ℕ Refusal) (p : answer_of f ≡ check_call r) where
+  pub base_refused : (x : Refusal) → f ≡ Err x → refused (number x) ≡ base_call r
   unfolding base_call
   base_refused x q = same_refusal r f p x _ q
 
-  pub target_refused : (x : Refusal) → f ≡ fact.Refused x → refused (number x) ≡ target_call r
+  pub target_refused : (x : Refusal) → f ≡ Err x → refused (number x) ≡ target_call r
   unfolding target_call
   target_refused x q = same_refusal r f p x _ q
 
-  pub noop_refused : (x : Refusal) → f ≡ fact.Refused x → refused (number x) ≡ noop_call r
+  pub noop_refused : (x : Refusal) → f ≡ Err x → refused (number x) ≡ noop_call r
   unfolding noop_call
   noop_refused x q = same_refusal r f p x _ q
 
-  pub text_refused : (k : ℕ) (x : Refusal) → f ≡ fact.Refused x → [] ≡ text_call r k
+  pub text_refused : (k : ℕ) (x : Refusal) → f ≡ Err x → [] ≡ text_call r k
   unfolding check_call text_call
-  text_refused k x q = go (record_fault r) (ap fact_of (sym q) ∙ p)
+  text_refused k x q = go (record_fault r) (ap answer_of (sym q) ∙ p)
     where
       go : (m : ℕ) → refused (number x) ≡ unless_refused m refused (success (size_of r ∷ [])) → [] ≡ unless_refused m (λ n. []) (get_or (map inserted (byte_ops r)) k [])
       go zero e = absurd (let z : ◌≡◌ {A = ℕ} 0 1 = cc e in omega arith)
       go (suc m) e = refl
 
-  module _ (s : ℕ) (q : f ≡ fact.Is s) where
+  module _ (s : ℕ) (q : f ≡ Ok s) where
     pub passed_sound : Sound r
     passed_sound = no_fault r (passed r f p s q)
 
@@ -312,21 +303,21 @@ module _ (r : List ℕ) (f : Fact) (p : fact_of f ≡ check_call r) where
           go (o ∷ u ∷ s) l = refl
 
       module _ (z : n ≡ 0 → ⊥) (l : n ≤ 1) (kind : ℕ) (pk : kind ≡ kind_at r 0) where
-        pub noop_one : noop_of (noop.Is (eqb kind 1)) ≡ noop_call r
+        pub noop_one : noop_of (Ok (eqb kind 1)) ≡ noop_call r
         unfolding ops in_chars
         noop_one = go (eqb kind 1) refl
           where
             one : (o : Op ℕ) (m at : ℕ) → byte_ops_left r 0 (start_of_text (op_count_of r)) ≡ o ∷ byte_ops_left r 1 at → no_effect (in_chars o ∷ []) ≡ m → success (m ∷ []) ≡ noop_call r
             one o m at a e = noop_by m (ap (λ q. no_effect (map in_chars q)) (all_ahead ∙ a ∙ ap (λ q. o ∷ q) (left_done r 1 at (omega arith))) ∙ e)
 
-            go : (b : Bool) → eqb kind 1 ≡ b → noop_of (noop.Is b) ≡ noop_call r
+            go : (b : Bool) → eqb kind 1 ≡ b → noop_of (Ok b) ≡ noop_call r
             go true e = one _ 1 _ (left_retain r 0 (omega arith) _ (sym pk ∙ eqb-true kind 1 e)) refl
             go false e = other (eqb kind 2) refl
               where
                 no : kind_at r 0 ≡ 1 → ⊥
                 no y = eqb-false kind 1 e (pk ∙ y)
 
-                other : (b : Bool) → eqb kind 2 ≡ b → noop_of (noop.Is false) ≡ noop_call r
+                other : (b : Bool) → eqb kind 2 ≡ b → noop_of (Ok false) ≡ noop_call r
                 other true g = one _ 0 _ (left_insert r 0 (omega arith) _ (sym pk ∙ eqb-true kind 2 g)) refl
                 other false g = one _ 0 _ (left_delete r 0 (omega arith) _ no (λ y. eqb-false kind 2 g (pk ∙ y))) refl
 
@@ -397,7 +388,7 @@ module _ (r : List ℕ) (k : ℕ) (h : 0 < length (text_call r k)) where
   text_index = go (leb (op_count_of r) k) refl
     where
       go : (b : Bool) → leb (op_count_of r) k ≡ b → k < op_count_of r
-      go true e = absurd (omega (arith, ap length (text_past r (fact.Is (size_of r)) checked (size_of r) refl (op_count_of r) k refl (leb-true (op_count_of r) k e))))
+      go true e = absurd (omega (arith, ap length (text_past r (Ok (size_of r)) checked (size_of r) refl (op_count_of r) k refl (leb-true (op_count_of r) k e))))
       go false e = leb-false (op_count_of r) k e
 
   text_kind : kind_at r k ≡ 2
@@ -405,7 +396,7 @@ module _ (r : List ℕ) (k : ℕ) (h : 0 < length (text_call r k)) where
     where
       go : (b : Bool) → eqb (kind_at r k) 2 ≡ b → kind_at r k ≡ 2
       go true e = eqb-true (kind_at r k) 2 e
-      go false e = absurd (omega (arith, ap length (text_other r (fact.Is (size_of r)) checked (size_of r) refl (op_count_of r) k refl text_index (kind_at r k) refl (eqb-false (kind_at r k) 2 e))))
+      go false e = absurd (omega (arith, ap length (text_other r (Ok (size_of r)) checked (size_of r) refl (op_count_of r) k refl text_index (kind_at r k) refl (eqb-false (kind_at r k) 2 e))))
 
   reached : Reach r k
   reached = reach r (no_fault r text_passed) k (omega (arith, text_index))
@@ -416,7 +407,7 @@ module _ (r : List ℕ) (k : ℕ) (h : 0 < length (text_call r k)) where
       let from = reached.at in
       let e : from + count_at r k - from ≡ count_at r k = omega arith in
       ap₂ (λ n i. take n (drop i r)) (sym e) (sym (text_from r k from text_passed text_index reached.reached))
-      ∙ text_is r (fact.Is (size_of r)) checked (size_of r) refl (op_count_of r) k refl text_index (kind_at r k) refl from (count_at r k) text_kind reached.reached refl
+      ∙ text_is r (Ok (size_of r)) checked (size_of r) refl (op_count_of r) k refl text_index (kind_at r k) refl from (count_at r k) text_kind reached.reached refl
 
   pub text_small : length (text_call r k) ≤ max_size
   text_small =

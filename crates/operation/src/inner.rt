@@ -1,15 +1,14 @@
 // The parts of the check, so that another crate can go over the entries or the inserted texts in its own way between them; and what the
 // crates above ask of a record that was checked.
 ghost use Rattle.std.specs.Prelude.{◌≡◌, ◌<◌, ◌≤◌};
-ghost use Rattle.answers.specs.Answer.{fact_of};
+ghost use Rattle.answers.specs.Answer.{answer_of};
 ghost use Rattle.record.specs.Layout.{op_count_of, max_record};
 ghost use Rattle.record.specs.Record.{is_within_limits, record_fault};
 ghost use Rattle.record.specs.Calls.{check_call, start_of_insert};
 ghost use Rattle.inserts.specs.InnerTexts.{inserted_of};
 ghost use Rattle.operation.specs.InnerEntered.{entered_of};
 
-use answers::{Fact, Refusal};
-use inserts::inner::Inserted;
+use answers::Refusal;
 use record::inner::{HEADER, MAX_OPS, MAX_SIZE};
 
 // Refusal 1 is not found.
@@ -47,29 +46,21 @@ pub struct Totals {
     pub kept: usize,
 }
 
-// Refusal 1 or 2, or the totals.
-#[derive(Clone, Copy)]
-pub enum Entered {
-    Refused(Refusal),
-    Of(Totals),
-}
-
-// The check, but for the inserted texts and what comes after them. (Only `check` calls it, so that it is inlined there.)
-pub fn check_entries(rec: &[u8]) -> Entered
+// The check, but for the inserted texts and what comes after them: the totals, or refusal 1 or 2. (Only `check` calls it, so that it is
+// inlined there.)
+pub fn check_entries(rec: &[u8]) -> Result<Totals, Refusal>
     ensures { result ≡ entered_of rec.now }
 {
     if !in_limits(rec) {
-        return Entered::Refused(Refusal::Size);
+        return Err(Refusal::Size);
     }
     let n = layout::inner::op_count(rec);
     let text = layout::inner::text_bytes(rec);
-    let tally::inner::Entries::Of(sums) = tally::inner::sum_up(rec, n) else {
-        return Entered::Refused(Refusal::Entry);
-    };
+    let sums = tally::inner::sum_up(rec, n).ok_or(Refusal::Entry)?;
     if sums.inserts != text {
-        return Entered::Refused(Refusal::Entry);
+        return Err(Refusal::Entry);
     }
-    Entered::Of(Totals {
+    Ok(Totals {
         ops: n,
         text,
         ordered: sums.ordered,
@@ -79,24 +70,22 @@ pub fn check_entries(rec: &[u8]) -> Entered
 }
 
 // What the check comes to, by what was found of the inserted texts.
-pub fn check_sums(rec: &[u8], t: Totals, inserted: Inserted) -> Fact
+pub fn check_sums(rec: &[u8], t: Totals, inserted: Option<usize>) -> Result<usize, Refusal>
     requires { (Entered.Of t ≡ entered_of rec.now) × (inserted ≡ inserted_of rec.now) }
-    ensures { fact_of result ≡ check_call rec.now }
+    ensures { answer_of result ≡ check_call rec.now }
 {
-    let Inserted::Chars(chars) = inserted else {
-        return Fact::Refused(Refusal::Utf8);
-    };
+    let chars = inserted.ok_or(Refusal::Utf8)?;
     if !t.ordered {
-        return Fact::Refused(Refusal::Neighbours);
+        return Err(Refusal::Neighbours);
     }
     if t.base != layout::inner::base(rec) {
-        return Fact::Refused(Refusal::Sums);
+        return Err(Refusal::Sums);
     }
     let target = t.kept + chars;
     if target != layout::inner::target(rec) {
-        return Fact::Refused(Refusal::Sums);
+        return Err(Refusal::Sums);
     }
-    Fact::Is(layout::inner::text_start(t.ops) + t.text)
+    Ok(layout::inner::text_start(t.ops) + t.text)
 }
 
 // Where the text of operation k of n begins, were it an insert.

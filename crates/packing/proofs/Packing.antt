@@ -1,4 +1,5 @@
 -- From the code's answers to their numbers.
+use Rattle.std.specs.Prelude.{Result, Ok, Err}
 use Prim.Native.Nat.{ℕ, ◌+◌, ◌^◌, ◌*◌, ◌≤◌, zero, suc, ◌<◌}
 use mathlib.Core.Path.{◌≡◌, refl, sym, ap, ◌∙◌}
 use mathlib.Core.Bool.{Bool, true, false, cond}
@@ -8,42 +9,33 @@ use mathlib.Core.List.{List}
 use lib.ListN.{length}
 use Rattle.buffers.proofs.Tests.{both}
 use Rattle.answers.specs.declared.Refusal.{Refusal}
-use Rattle.answers.specs.declared.Fact.{Fact}
-use Rattle.answers.specs.declared.Fact.TheVariants as fact
-use Rattle.answers.specs.declared.Noop.{Noop}
-use Rattle.answers.specs.declared.Noop.TheVariants as noop
-use Rattle.answers.specs.Answer.{number, fact_of, noop_of, written_of, pair_of}
-use Rattle.answers.specs.declared.Written.{Written}
-use Rattle.answers.specs.declared.Written.TheVariants as written
-use Rattle.answers.specs.declared.WrittenPair.{WrittenPair}
-use Rattle.answers.specs.declared.WrittenPair.TheVariants as written-pair
+use Rattle.answers.specs.Answer.{number, answer_of, noop_of, pair_of}
 use Rattle.record.specs.Layout.{op_count_of, max_size}
 use Rattle.record.specs.Record.{record_fault}
 use Rattle.record.specs.Calls.{text_call, start_of_insert}
 use Rattle.operation.proofs.Answers.{text_passed, text_index, text_small}
-use Rattle.walker.specs.declared.Found.{Found}
-use Rattle.walker.specs.declared.Found.TheVariants.{Op}
+use Rattle.walker.specs.declared.Op.{Op}
 use Rattle.walker.specs.Walk.{found_of}
 use Rattle.packing.specs.Numbers.{packed, step_number, most, small, part}
 
 -- ---- refusals
 
 module _ (y : Refusal) (r : ℕ) (p : r ≡ 2 ^ 63 + number y) where
-  pub fact_refused : (x : Fact) → x ≡ fact.Refused y → r ≡ packed (fact_of x)
+  pub fact_refused : (x : Result ℕ Refusal) → x ≡ Err y → r ≡ packed (answer_of x)
   fact_refused x e = rw e p
 
-  pub noop_refused : (x : Noop) → x ≡ noop.Refused y → r ≡ packed (noop_of x)
+  pub noop_refused : (x : Result Bool Refusal) → x ≡ Err y → r ≡ packed (noop_of x)
   noop_refused x e = rw e p
 
-  pub written_refused : (x : Written) → x ≡ written.Refused y → r ≡ packed (written_of x)
+  pub written_refused : (x : Result ℕ Refusal) → x ≡ Err y → r ≡ packed (answer_of x)
   written_refused x e = rw e p
 
-  pub pair_refused : (x : WrittenPair) → x ≡ written-pair.Refused y → r ≡ packed (pair_of x)
+  pub pair_refused : (x : Result (ℕ × ℕ) Refusal) → x ≡ Err y → r ≡ packed (pair_of x)
   pair_refused x e = rw e p
 
 -- ---- one result
 
-pub noop_is : (x : Noop) (b : Bool) (r : ℕ) → r ≡ cond b 1 0 → x ≡ noop.Is b → r ≡ packed (noop_of x)
+pub noop_is : (x : Result Bool Refusal) (b : Bool) (r : ℕ) → r ≡ cond b 1 0 → x ≡ Ok b → r ≡ packed (noop_of x)
 noop_is x true r p e = rw e p
 noop_is x false r p e = rw e p
 
@@ -52,7 +44,7 @@ step_is x kind count e = rw e refl
 
 -- ---- two results
 
-module _ (x : WrittenPair) (m n : ℕ) (e : x ≡ written-pair.Bytes m n) where
+module _ (x : Result (ℕ × ℕ) Refusal) (m n : ℕ) (e : x ≡ Ok (m, n)) where
   pub pair_is : m + 4294967296 * n ≡ packed (pair_of x)
   pair_is = rw e refl
 

@@ -1,5 +1,5 @@
 -- A partial result, written to a buffer and read again.
-use Rattle.std.specs.Prelude.{◌≡◌, ℕ, zero, suc, ◌-◌, ◌^◌, ◌≤◌, Bool, true, false, T, List, [], ◌∷◌, ◌++◌, map, length, take, drop}
+use Rattle.std.specs.Prelude.{◌≡◌, ℕ, zero, suc, ◌-◌, ◌^◌, ◌≤◌, Bool, true, false, T, List, [], ◌∷◌, ◌++◌, map, length, take, drop, Result, Ok, Err}
 use native.Mathlib.Omega.{arith}
 use lib.ListN.{length-append, take-append-drop}
 use mathlib.Core.Path.{ap, ap₂, ◌∙◌, sym, refl}
@@ -17,9 +17,7 @@ use Rattle.edits.specs.Op.{retain}
 use Rattle.edits.proofs.Claims.{compose_built}
 use Rattle.edits.proofs.Building.{build_built}
 use Rattle.answers.specs.declared.Refusal.{Refusal}
-use Rattle.answers.specs.Answer.{number, success, refused, written_of}
-use Rattle.answers.specs.declared.Written.{Written}
-use Rattle.answers.specs.declared.Written.TheVariants.{Bytes, Refused}
+use Rattle.answers.specs.Answer.{number, success, refused, answer_of}
 use Rattle.answers.specs.InnerGiven.{Gives}
 use Rattle.answers.proofs.Outputs.{at_front_take, writing_goes}
 use Rattle.record.specs.Record.{encode, fits, ops, record_fault, in_bytes, text}
@@ -64,7 +62,7 @@ module _ (s : Seq) (k : ℕ) (b : List ℕ) (h : Holds s k b) where
 
 -- ---- composed with a revision
 
-module _ (a b o : List ℕ) (v : Written) (o' : List ℕ) (g : Gives (compose_call a b o) v o')
+module _ (a b o : List ℕ) (v : Result ℕ Refusal) (o' : List ℕ) (g : Gives (compose_call a b o) v o')
     (za : record_fault a ≡ 0) (zb : record_fault b ≡ 0) (e : target_of a ≡ base_of b) (r : max_record ≤ length o) where
   abbrev s : Seq
   s = compose (ops a) (ops b)
@@ -81,12 +79,12 @@ module _ (a b o : List ℕ) (v : Written) (o' : List ℕ) (g : Gives (compose_ca
   unfolding deliver
   in_limit p = goes_on ∙ rw p (sym (writing_goes 0 (encode s) o refl (omega (arith, encode_small s (known p)))))
 
-  pub step_refused : (x : Refusal) → v ≡ Refused x → (c : List ℕ) → Makes s (Refused x) c
+  pub step_refused : (x : Refusal) → v ≡ Err x → (c : List ℕ) → Makes s (Err x) c
   step_refused x q c = record { makes = go (fits s) refl }
     where
       go : (t : Bool) → fits s ≡ t → (number x ≡ 9) × (fits s ≡ false)
-      go true p = absurd (let z : ◌≡◌ {A = ℕ} 0 1 = cc (ap written_of (sym q) ∙ g.answer ∙ ap (λ y. y.answer) (in_limit p)) in omega arith)
-      go false p = ((cc (ap written_of (sym q) ∙ g.answer ∙ ap (λ y. y.answer) (over_limit_refused p))), p)
+      go true p = absurd (let z : ◌≡◌ {A = ℕ} 0 1 = cc (ap answer_of (sym q) ∙ g.answer ∙ ap (λ y. y.answer) (in_limit p)) in omega arith)
+      go false p = ((cc (ap answer_of (sym q) ∙ g.answer ∙ ap (λ y. y.answer) (over_limit_refused p))), p)
 
   -- the result stands in the second buffer
   record Stood (k : ℕ) : Type 0 where
@@ -94,20 +92,20 @@ module _ (a b o : List ℕ) (v : Written) (o' : List ℕ) (g : Gives (compose_ca
     size : k ≡ length (encode s)
     is : o' ≡ put_at_front (encode s) o
 
-  module _ (k : ℕ) (q : v ≡ Bytes k) where
+  module _ (k : ℕ) (q : v ≡ Ok k) where
     stood : Stood k
     stood = go (fits s) refl
       where
         go : (t : Bool) → fits s ≡ t → Stood k
         go true p =
             let w = in_limit p in
-            record { fit = p; size = (cc (ap written_of (sym q) ∙ g.answer ∙ ap (λ y. y.answer) w)); is = g.out ∙ ap (λ y. y.out) w }
-        go false p = absurd (let z : ◌≡◌ {A = ℕ} 0 1 = cc (ap written_of (sym q) ∙ g.answer ∙ ap (λ y. y.answer) (over_limit_refused p)) in omega arith)
+            record { fit = p; size = (cc (ap answer_of (sym q) ∙ g.answer ∙ ap (λ y. y.answer) w)); is = g.out ∙ ap (λ y. y.out) w }
+        go false p = absurd (let z : ◌≡◌ {A = ℕ} 0 1 = cc (ap answer_of (sym q) ∙ g.answer ∙ ap (λ y. y.answer) (over_limit_refused p)) in omega arith)
 
     pub step_room : k ≤ length o'
     step_room = omega (arith, stood.size, ap length stood.is, front_length (encode s) o)
 
-    pub step_written : (c c' : List ℕ) → c' ≡ over 0 (take (k - 0) (drop 0 o')) c → max_record ≤ length c → Makes s (Bytes k) c'
+    pub step_written : (c c' : List ℕ) → c' ≡ over 0 (take (k - 0) (drop 0 o')) c → max_record ≤ length c → Makes s (Ok k) c'
     step_written c c' w h =
         let t = known stood.fit in
         let i : take (k - 0) o' ≡ encode s = ap₂ take (sub-zero k ∙ stood.size) stood.is ∙ at_front_take (encode s) o in

@@ -1,5 +1,5 @@
 -- Going through the revisions.
-use Rattle.std.specs.Prelude.{◌≡◌, ℕ, ◌+◌, ◌-◌, ◌<◌, ◌≤◌, true, false, ◌&&◌, T, List, [], ◌∷◌, length, take, drop}
+use Rattle.std.specs.Prelude.{◌≡◌, ℕ, ◌+◌, ◌-◌, ◌<◌, ◌≤◌, true, false, ◌&&◌, T, List, [], ◌∷◌, length, take, drop, Result, Ok, Err}
 use mathlib.Core.Path.{refl, sym, ap, ◌∙◌}
 use native.Mathlib.Omega.{arith}
 use Rattle.buffers.proofs.Tests.{holds}
@@ -8,8 +8,6 @@ use Rattle.edits.specs.Sequence.{Seq}
 use Rattle.edits.specs.Compose.{compose}
 use Rattle.edits.proofs.Claims.{compose_target}
 use Rattle.answers.specs.declared.Refusal.{Refusal}
-use Rattle.answers.specs.declared.Written.{Written}
-use Rattle.answers.specs.declared.Written.TheVariants.{Bytes, Refused}
 use Rattle.record.specs.Layout.{size_of, base_of, target_of}
 use Rattle.record.specs.Record.{fits, ops, record_fault}
 use Rattle.record.proofs.Records.{ops_base, ops_target}
@@ -78,8 +76,8 @@ module _ (l : List ℕ) (r : T (readable l)) where
           ∙ ap (composes_within p.held) (sym there.edits)
           ∙ p.within
 
-      module _ (v : Written) (b' : List ℕ) (m : Makes (compose (ops b) (ops part)) v b') where
-        pub sum_refused : (x : Refusal) → v ≡ Refused x → Sums l (Refused x) b'
+      module _ (v : Result ℕ Refusal) (b' : List ℕ) (m : Makes (compose (ops b) (ops part)) v b') where
+        pub sum_refused : (x : Refusal) → v ≡ Err x → Sums l (Err x) b'
         sum_refused x q =
             let (i, j) = (rw q at m).makes in
             record { sums = (i, sym within_on ∙ starts (compose (ops b) (ops part)) (drop (k + 1) (revisions l)) j) }
@@ -88,7 +86,7 @@ module _ (l : List ℕ) (r : T (readable l)) where
             starts s [] w = w
             starts s (d ∷ es) w = rw w
 
-        pub sum_next : (i : ℕ) → v ≡ Bytes i → (z : ℕ) → z ≡ size_of part → Summing l (k + 1) (at + z) i b'
+        pub sum_next : (i : ℕ) → v ≡ Ok i → (z : ℕ) → z ≡ size_of part → Summing l (k + 1) (at + z) i b'
         sum_next i q z d =
             record {
               place = ap (λ y. at + y) d ∙ there.next;
@@ -100,7 +98,7 @@ module _ (l : List ℕ) (r : T (readable l)) where
               within = within_on;
             }
 
-    pub sum_end : n ≤ k → k ≤ n → Sums l (Bytes size) b
+    pub sum_end : n ≤ k → k ≤ n → Sums l (Ok size) b
     sum_end h g =
         let d = revisions_end k l (omega arith) in
         let a : p.held ≡ compose_all (retain_whole (start_of l)) (revisions l) = sym (ap (compose_all p.held) d) ∙ p.sum in

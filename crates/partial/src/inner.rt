@@ -7,7 +7,7 @@ ghost use Rattle.session_log.specs.Log.{count_of, start_of, readable};
 ghost use Rattle.session.specs.Rows.{retain_whole as still_of};
 ghost use Rattle.partial.specs.InnerSumming.{Holds, Makes, Sums};
 
-use answers::Written;
+use answers::Refusal;
 use session_log::inner::LOG_HEADER;
 
 // The sequence that retains the starting length is written: the number of bytes of its record.
@@ -24,22 +24,24 @@ fn retain_all(start: usize, cur: &mut [u8]) -> usize
 }
 
 // One revision more: the result takes the place of what the revision is composed with.
-fn compose_next(rec: &[u8], cur: &mut [u8], next: &mut [u8]) -> Written
+fn compose_next(rec: &[u8], cur: &mut [u8], next: &mut [u8]) -> Result<usize, Refusal>
     requires { (record_fault cur.old ≡ 0) × (record_fault rec.now ≡ 0) × (target_of cur.old ≡ base_of rec.now)
         × (max_record ≤ length cur.old) × (max_record ≤ length next.old) }
     ensures { Makes (composeOf (ops cur.old) (ops rec.now)) result cur.new }
 {
-    match compose::inner::composed(cur, rec, next) {
-        Written::Refused(x) => Written::Refused(x),
-        Written::Bytes(k) => {
-            buffers::inner::copy(cur, 0, next, 0, k);
-            Written::Bytes(k)
-        }
-    }
+    let k = compose::inner::composed(cur, rec, next)?;
+    buffers::inner::copy(cur, 0, next, 0, k);
+    Ok(k)
 }
 
 // All revisions of a log that can be read: the number of bytes of the last result.
-pub fn sum_up(log: &[u8], count: usize, start: usize, cur: &mut [u8], next: &mut [u8]) -> Written
+pub fn sum_up(
+    log: &[u8],
+    count: usize,
+    start: usize,
+    cur: &mut [u8],
+    next: &mut [u8],
+) -> Result<usize, Refusal>
     requires { T (readable log.now) × (count ≡ count_of log.now) × (start ≡ start_of log.now) × (start ≤ max_size)
         × (max_record ≤ length cur.old) × (max_record ≤ length next.old) }
     ensures { Sums log.now result cur.new }
@@ -49,14 +51,9 @@ pub fn sum_up(log: &[u8], count: usize, start: usize, cur: &mut [u8], next: &mut
     let mut k = 0;
     while k < count {
         let rec = &log[at..];
-        match compose_next(rec, cur, next) {
-            Written::Refused(x) => return Written::Refused(x),
-            Written::Bytes(n) => {
-                size = n;
-            }
-        }
+        size = compose_next(rec, cur, next)?;
         at += reader::inner::size(rec);
         k += 1;
     }
-    Written::Bytes(size)
+    Ok(size)
 }

@@ -1,5 +1,5 @@
 -- What the program writes.
-use Rattle.std.specs.Prelude.{◌≡◌, ℕ, zero, suc, ◌+◌, ◌-◌, ◌/◌, ◌%◌, ◌<◌, ◌≤◌, T, leb, List, [], ◌∷◌, ◌++◌, length, take, drop}
+use Rattle.std.specs.Prelude.{◌≡◌, ℕ, zero, suc, ◌+◌, ◌-◌, ◌/◌, ◌%◌, ◌<◌, ◌≤◌, T, leb, List, [], ◌∷◌, ◌++◌, length, take, drop, Result, Option, Ok, Err, Some, None}
 use native.Mathlib.Omega.{arith}
 use mathlib.Core.Path.{refl, ap, ◌∙◌, sym}
 use lib.ListN.{length-append}
@@ -9,13 +9,9 @@ use Rattle.buffers.specs.Buffers.{put_at_front}
 use Rattle.buffers.proofs.Over.{length_over, over_front, over_join}
 use Rattle.buffers.proofs.Tests.{known}
 use Rattle.answers.specs.declared.Refusal.{Refusal}
-use Rattle.answers.specs.Answer.{number, success, refused, needs, or_else, unless_refused, written_of}
-use Rattle.answers.specs.declared.Written.{Written}
-use Rattle.answers.specs.declared.Written.TheVariants as written
+use Rattle.answers.specs.Answer.{number, success, refused, needs, or_else, unless_refused, answer_of}
 use Rattle.answers.specs.Output.{Out, writing}
 use Rattle.answers.proofs.Refusals.{needs_in}
-use Rattle.session_log.specs.declared.inner.Scanned.{Scanned}
-use Rattle.session_log.specs.declared.inner.Scanned.TheVariants as scanned
 use Rattle.session_log.specs.InnerScan.{Scans, ScansTo, Found}
 use Rattle.session_log.specs.declared.inner.Scan.{Scan}
 use Rattle.session_log.specs.Log.{readable, size_of_log}
@@ -65,11 +61,11 @@ module _ (l o c : List ℕ) (r : ℕ) where
   unfolding program_fault
   program_long h = by_fault 9 (rw (lt-leb (length l) 65536 h))
 
-  pub program_unreadable : length l ≤ 65536 → (x : Scanned) → Scans l 0 x → x ≡ scanned.Unreadable → Writes (complaint 6) o r c → Writes (program l) o r c
+  pub program_unreadable : length l ≤ 65536 → (x : Option Scan) → Scans l 0 x → x ≡ None → Writes (complaint 6) o r c → Writes (program l) o r c
   unfolding program_fault
-  program_unreadable h x px e = let z : ScansTo l 0 scanned.Unreadable = rw e at px.scans in by_fault 5 (rw (le-leb (length l) 65536 h, z))
+  program_unreadable h x px e = let z : ScansTo l 0 None = rw e at px.scans in by_fault 5 (rw (le-leb (length l) 65536 h, z))
 
-module _ (l : List ℕ) (x : Scanned) (px : Scans l 0 x) (s : Scan) (ps : x ≡ scanned.Of s) where
+module _ (l : List ℕ) (x : Option Scan) (px : Scans l 0 x) (s : Scan) (ps : x ≡ Some s) where
   found : Found l 0 s
   found = rw ps at px.scans
 
@@ -87,8 +83,8 @@ module _ (l : List ℕ) (size : ℕ) (reads : T (readable l)) (es : size ≡ siz
   unfolding text_in
   text_is = to_end l size ∙ ap (λ i. drop i l) es
 
-  module _ (h : length l ≤ 65536) (o : List ℕ) (eo : length o ≡ 65536) (a b : List ℕ) (ea : 65536 ≡ length a) (eb : 65536 ≡ length b) (w : Written)
-      (pw : written_of w ≡ (play_call l (take (length l - size) (drop size l)) (length a) (length b) o).answer) where
+  module _ (h : length l ≤ 65536) (o : List ℕ) (eo : length o ≡ 65536) (a b : List ℕ) (ea : 65536 ≡ length a) (eb : 65536 ≡ length b) (w : Result ℕ Refusal)
+      (pw : answer_of w ≡ (play_call l (take (length l - size) (drop size l)) (length a) (length b) o).answer) where
     abbrev text : List ℕ
     text = text_in l
 
@@ -110,17 +106,17 @@ module _ (l : List ℕ) (size : ℕ) (reads : T (readable l)) (es : size ≡ siz
     outcome k = unless_refused k (λ j. record { answer = refused j; out = o }) (record { answer = success (length (played l text) ∷ []); out = put_at_front (played l text) o })
 
     module _ (o₁ : List ℕ) (p : o₁ ≡ (play_call l (take (length l - size) (drop size l)) (length a) (length b) o).out) where
-      pub program_refused : (y : Refusal) → w ≡ written.Refused y → (r : ℕ) (c : List ℕ) → Writes (complaint (number y)) o₁ r c → Writes (program l) o r c
+      pub program_refused : (y : Refusal) → w ≡ Err y → (r : ℕ) (c : List ℕ) → Writes (complaint (number y)) o₁ r c → Writes (program l) o r c
       unfolding writing
-      program_refused y q r c v = go faults fault_is (ap written_of (sym q) ∙ pw ∙ ap (λ z. z.answer) same) (p ∙ ap (λ z. z.out) same)
+      program_refused y q r c v = go faults fault_is (ap answer_of (sym q) ∙ pw ∙ ap (λ z. z.answer) same) (p ∙ ap (λ z. z.out) same)
         where
           go : (k : ℕ) → program_fault l ≡ k → refused (number y) ≡ (outcome k).answer → o₁ ≡ (outcome k).out → Writes (program l) o r c
           go zero f e g = absurd (let z : ◌≡◌ {A = ℕ} 0 1 = cc e in omega arith)
           go (suc k) f e g = let z : number y ≡ suc k = cc e in by_fault l o c r k f (rw (z, g) at v)
 
-      pub program_written : (n : ℕ) → w ≡ written.Bytes n → Writes (program l) o n o₁
+      pub program_written : (n : ℕ) → w ≡ Ok n → Writes (program l) o n o₁
       unfolding writing program put_at_front
-      program_written n q = go faults fault_is (ap written_of (sym q) ∙ pw ∙ ap (λ z. z.answer) same) (p ∙ ap (λ z. z.out) same)
+      program_written n q = go faults fault_is (ap answer_of (sym q) ∙ pw ∙ ap (λ z. z.answer) same) (p ∙ ap (λ z. z.out) same)
         where
           go : (k : ℕ) → program_fault l ≡ k → success (n ∷ []) ≡ (outcome k).answer → o₁ ≡ (outcome k).out → Writes (program l) o n o₁
           go zero f e g =

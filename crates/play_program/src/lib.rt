@@ -6,8 +6,7 @@ ghost use Rattle.answers.specs.Answer.{number};
 ghost use Rattle.session_log.specs.Log.{readable, size_of_log};
 ghost use Rattle.play_program.specs.Program.{program, Writes, complaint, max_input};
 
-use answers::{Refusal, Written};
-use session_log::inner::Scanned;
+use answers::Refusal;
 
 pub mod inner;
 
@@ -21,7 +20,7 @@ pub fn play_input(input: &[u8], out: &mut [u8; MAX_INPUT]) -> usize
     if MAX_INPUT < input.len() {
         return complain(out, Refusal::Room);
     }
-    let Scanned::Of(scan) = session_log::inner::read(input, 0) else {
+    let Some(scan) = session_log::inner::read(input, 0) else {
         return complain(out, Refusal::Log);
     };
     answer(input, scan.size, out)
@@ -36,8 +35,8 @@ fn answer(input: &[u8], size: usize, out: &mut [u8]) -> usize
     let mut a = buffer();
     let mut b = buffer();
     match playback::play(input, &input[size..], &mut a, &mut b, out) {
-        Written::Bytes(n) => n,
-        Written::Refused(x) => complain(out, x),
+        Ok(n) => n,
+        Err(x) => complain(out, x),
     }
 }
 
@@ -52,7 +51,7 @@ fn complain(out: &mut [u8], x: Refusal) -> usize
     requires { length out.old ≡ max_input }
     ensures { Writes (complaint (number x)) out.old result out.new }
 {
-    let k = answers::number(x);
+    let k = x.number();
     buffers::inner::copy(out, 0, b"refused ", 0, 8);
     if k < 10 {
         buffers::inner::put(out, 8, 48 + k);

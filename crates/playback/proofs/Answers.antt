@@ -1,5 +1,5 @@
 -- From what the code finds to the answer of play.
-use Rattle.std.specs.Prelude.{◌≡◌, ℕ, suc, ◌+◌, ◌<◌, ◌≤◌, true, T, List, [], ◌∷◌, ◌++◌, length, take, drop}
+use Rattle.std.specs.Prelude.{◌≡◌, ℕ, suc, ◌+◌, ◌<◌, ◌≤◌, true, T, List, [], ◌∷◌, ◌++◌, length, take, drop, Option, Some, None}
 use native.Mathlib.Nat.{zero-add}
 use native.Mathlib.Omega.{arith}
 use mathlib.Core.Path.{sym, ap, ◌∙◌}
@@ -7,8 +7,6 @@ use lib.Seq.{take_all}
 use borrow.Author.Tests.{eq-eqb, ne_eqb}
 use Rattle.buffers.specs.Buffers.{put_at_front}
 use Rattle.buffers.proofs.Tests.{holds}
-use Rattle.characters.specs.declared.Form.{Form}
-use Rattle.characters.specs.declared.Form.TheVariants as form
 use Rattle.characters.specs.Form.{is_well_formed}
 use Rattle.characters.specs.InnerPassed.{form_of}
 use Rattle.characters.specs.Chars.{number_of_chars}
@@ -17,15 +15,11 @@ use Rattle.characters.proofs.Passed.{form_ill, form_well, form_num}
 use Rattle.answers.specs.Answer.{success, refused}
 use Rattle.answers.proofs.Outputs.{writing_stops, writing_short, writing_goes, untouched}
 use Rattle.session_log.specs.declared.inner.Scan.{Scan}
-use Rattle.session_log.specs.declared.inner.Scanned.{Scanned}
-use Rattle.session_log.specs.declared.inner.Scanned.TheVariants as scanned
 use Rattle.session_log.specs.Log.{count_of, start_of, readable, revisions}
 use Rattle.session_log.specs.InnerScan.{Found, Scans, ScansTo}
 use Rattle.session_log.proofs.Scanning.{revisions_length}
 use Rattle.session.specs.Rows.{play_all, longest}
 use Rattle.session.specs.Session.{played, play_fault, play_call}
-use Rattle.playback_steps.specs.declared.inner.Played.{Played}
-use Rattle.playback_steps.specs.declared.inner.Played.TheVariants as end
 use Rattle.playback_steps.specs.InnerStages.{room, Stands, Ends}
 use Rattle.playback_steps.proofs.Stages.{ends_short, ends_stand}
 
@@ -38,21 +32,21 @@ module _ (l t o : List ℕ) (a b : ℕ) where
   unfolding play_call
   play_refused n h = (h, untouched (play_fault l t a b) (played l t) o n h)
 
-  module _ (v : Form) (pv : v ≡ form_of t) where
-    pub play_3 : v ≡ form.IllFormed → refused 3 ≡ (play_call l t a b o).answer
+  module _ (v : Option ℕ) (pv : v ≡ form_of t) where
+    pub play_3 : v ≡ None → refused 3 ≡ (play_call l t a b o).answer
     unfolding play_fault
     play_3 h = stops 2 (rw (sym (form_ill t v pv h)))
 
-    module _ {c : ℕ} (h : v ≡ form.Chars c) where
+    module _ {c : ℕ} (h : v ≡ Some c) where
       abbrev well : is_well_formed t ≡ true
       well = sym (form_well t v pv h)
 
-      module _ (x : Scanned) (px : Scans l 0 x) where
-        pub play_6 : x ≡ scanned.Unreadable → refused 6 ≡ (play_call l t a b o).answer
+      module _ (x : Option Scan) (px : Scans l 0 x) where
+        pub play_6 : x ≡ None → refused 6 ≡ (play_call l t a b o).answer
         unfolding play_fault
-        play_6 e = let z : ScansTo l 0 scanned.Unreadable = rw e at px.scans in stops 5 (rw (well, z))
+        play_6 e = let z : ScansTo l 0 None = rw e at px.scans in stops 5 (rw (well, z))
 
-        module _ (s : Scan) (e : x ≡ scanned.Of s) where
+        module _ (s : Scan) (e : x ≡ Some s) where
           found : Found l 0 s
           found = rw e at px.scans
 
@@ -77,14 +71,14 @@ module _ (l t o : List ℕ) (a b : ℕ) where
             pub play_agrees : number_of_chars t ≡ start_of l
             play_agrees = sym (form_num t v pv h) ∙ d ∙ found.start
 
-            module _ (s' : List ℕ) (y : Played) (g : Ends l s.count t a b s' y) where
-              pub play_short : y ≡ end.Short → refused 10 ≡ (play_call l t a b o).answer
+            module _ (s' : List ℕ) (y : Option (ℕ × ℕ)) (g : Ends l s.count t a b s' y) where
+              pub play_short : y ≡ None → refused 10 ≡ (play_call l t a b o).answer
               unfolding play_fault
               play_short q =
                   let f = ends_short l s.count t a b s' y g q in
                   stops 9 (rw (well, reads, eq-eqb (number_of_chars t) (start_of l) play_agrees, ap (λ es. room a b (longest es (chars t))) (sym all_of_it) ∙ f))
 
-              module _ (n at : ℕ) (q : y ≡ end.Of n at) where
+              module _ (n at : ℕ) (q : y ≡ Some (n, at)) where
                 stands : Stands l s.count t a b s' n at
                 stands = ends_stand l s.count t a b s' y g n at q
 

@@ -1,5 +1,5 @@
 -- From one text to the next.
-use Rattle.std.specs.Prelude.{◌≡◌, ℕ, suc, ◌+◌, ◌-◌, ◌<◌, ◌≤◌, Bool, true, false, not, T, List, [], ◌∷◌, ◌++◌, length, take, drop}
+use Rattle.std.specs.Prelude.{◌≡◌, ℕ, suc, ◌+◌, ◌-◌, ◌<◌, ◌≤◌, Bool, true, false, not, T, List, [], ◌∷◌, ◌++◌, length, take, drop, Option, Some, None}
 use native.Mathlib.Nat.{zero-add}
 use mathlib.Core.Path.{sym, ap, ◌∙◌, ap₂, refl}
 use lib.ListN.{length-take}
@@ -24,11 +24,7 @@ use Rattle.session_log.specs.Log.{start_of, count_of, readable, revisions, place
 use Rattle.session_log.proofs.Scanning.{place_start, length_start, place_inside, Revision, revision}
 use Rattle.session.specs.Rows.{play_all, longest}
 use Rattle.playback_steps.specs.InnerStages.{Holds, held, missed, Advances, Stage, room, between, Stands, Ends, whole}
-use Rattle.playback_steps.specs.declared.inner.Reached.TheVariants.{Short, Of}
 use Rattle.playback_steps.specs.InnerStages as stages
-use Rattle.playback_steps.specs.declared.inner.Reached.{Reached}
-use Rattle.playback_steps.specs.declared.inner.Played.{Played}
-use Rattle.playback_steps.specs.declared.inner.Played.TheVariants as end
 use Rattle.playback_steps.proofs.Rooms.{room_first, room_second, room_both, room_more, room_max, longest_here}
 
 -- ---- a text at the front of a buffer
@@ -52,7 +48,7 @@ module _ (rec t b b₁ : List ℕ) (m a : ℕ) (e : m ≡ length (played rec t))
   same_size : length b₁ ≡ length b
   same_size = ap length p ∙ length_over 0 (played rec t) b
 
-  pub advance_other : (a' : List ℕ) → length b₁ < m → Advances rec t a (length b) a' Short
+  pub advance_other : (a' : List ℕ) → length b₁ < m → Advances rec t a (length b) a' None
   advance_other a' h = stages.Advances.short (room_second a (length b) (length (played rec t)) (omega (arith, same_size)))
 
   module _ (h : m ≤ length b₁) where
@@ -61,17 +57,17 @@ module _ (rec t b b₁ : List ℕ) (m a : ℕ) (e : m ≡ length (played rec t))
         ap₂ take e (p ∙ over_front (played rec t) b (omega (arith, same_size))) ∙ at_front_take (played rec t) b
 
     module _ (s a' : List ℕ) (z : length s ≡ a) (v : Bool) (g : Holds (take m b₁) s a' v) where
-      pub advance_short : not v ≡ true → Advances rec t a (length b) a' Short
+      pub advance_short : not v ≡ true → Advances rec t a (length b) a' None
       advance_short q = go v g q
         where
-          go : (v : Bool) → Holds (take m b₁) s a' v → not v ≡ true → Advances rec t a (length b) a' Short
+          go : (v : Bool) → Holds (take m b₁) s a' v → not v ≡ true → Advances rec t a (length b) a' None
           go true x q = absurd (let y : ◌≡◌ {A = ℕ} 0 1 = cc q in omega arith)
           go false (missed l) q = stages.Advances.short (room_first a (length b) (length (played rec t)) (omega (arith, ap length front)))
 
-      pub advance_on : not v ≡ false → Advances rec t a (length b) a' (Of m)
+      pub advance_on : not v ≡ false → Advances rec t a (length b) a' (Some m)
       advance_on q = go v g q
         where
-          go : (v : Bool) → Holds (take m b₁) s a' v → not v ≡ false → Advances rec t a (length b) a' (Of m)
+          go : (v : Bool) → Holds (take m b₁) s a' v → not v ≡ false → Advances rec t a (length b) a' (Some m)
           go true (held l k w) q =
               let y : length (take m b₁) ≡ m = length-take-le m b₁ h in
               stages.Advances.on e (omega arith) (omega (arith, same_size)) (ap (λ i. take i a') (sym y) ∙ w ∙ front)
@@ -113,7 +109,7 @@ module _ (l t s : List ℕ) (r : T (readable l)) (j a b k at n : ℕ) (e : j ≤
   now_bytes : bytes now ≡ take n s
   now_bytes = bytes_chars (take n s) g.well
 
-  pub stage_end : j ≤ k → k ≤ j → length s ≡ a → Ends l j t a b s (end.Of n at)
+  pub stage_end : j ≤ k → k ≤ j → length s ≡ a → Ends l j t a b s (Some (n, at))
   stage_end h i z =
       let d : between k j (revisions l) ≡ [] = none_left k j (revisions l) h in
       let same : now ≡ last = ap (λ es. play_all es now) (sym d) ∙ g.ends in
@@ -164,19 +160,19 @@ module _ (l t s : List ℕ) (r : T (readable l)) (j a b k at n : ℕ) (e : j ≤
         ∙ ap (λ es. room a b (longest es now)) (sym left)
         ∙ g.needs
 
-    module _ (s' u : List ℕ) (x : Reached) (za : length s ≡ a) (zu : length u ≡ b) (d : Advances part (take n s) (length s) (length u) s' x) where
+    module _ (s' u : List ℕ) (x : Option ℕ) (za : length s ≡ a) (zu : length u ≡ b) (d : Advances part (take n s) (length s) (length u) s' x) where
       same : Advances part (take n s) a b s' x
       same = rw (za, zu) at d
 
-      pub stage_short : x ≡ Short → Ends l j t a b s' end.Short
+      pub stage_short : x ≡ None → Ends l j t a b s' None
       stage_short q = go x same q
         where
-          go : (x : Reached) → Advances part (take n s) a b s' x → x ≡ Short → Ends l j t a b s' end.Short
+          go : (x : Option ℕ) → Advances part (take n s) a b s' x → x ≡ None → Ends l j t a b s' None
           go x (stages.Advances.short f) q =
               stages.Ends.short (sym left_needs ∙ room_more a b _ _ (longest_here (between (k + 1) j (revisions l)) (apply (ops part) now)) (ap (λ i. room a b (length i)) (sym after) ∙ f))
           go x (stages.Advances.on m i j w) q = absurd (let y : ◌≡◌ {A = ℕ} 0 1 = cc q in omega arith)
 
-      pub stage_next : (m z : ℕ) → x ≡ Of m → z ≡ size_of part → Stage l j t a b (k + 1) (at + z) m s'
+      pub stage_next : (m z : ℕ) → x ≡ Some m → z ≡ size_of part → Stage l j t a b (k + 1) (at + z) m s'
       stage_next m z q p = go x same q
         where
           next : take m s' ≡ played part (take n s) → m ≤ a → m ≤ b → Stage l j t a b (k + 1) (at + z) m s'
@@ -195,7 +191,7 @@ module _ (l t s : List ℕ) (r : T (readable l)) (j a b k at n : ℕ) (e : j ≤
                 needs = ap (λ i. room a b (longest (between (k + 1) j (revisions l)) i)) c ∙ left_needs;
               }
 
-          go : (x : Reached) → Advances part (take n s) a b s' x → x ≡ Of m → Stage l j t a b (k + 1) (at + z) m s'
+          go : (x : Option ℕ) → Advances part (take n s) a b s' x → x ≡ Some m → Stage l j t a b (k + 1) (at + z) m s'
           go x (stages.Advances.short f) q = absurd (let y : ◌≡◌ {A = ℕ} 0 1 = cc q in omega arith)
           go x (stages.Advances.on {n = o} f i j w) q = let y : o ≡ m = cc q in next (rw y at w) (rw y at i) (rw y at j)
 
@@ -227,35 +223,35 @@ module _ (l t : List ℕ) (j a b : ℕ) (w : T (is_well_formed t)) where
   first_needs : room a b (length t) ≡ false → room a b (longest (take j (revisions l)) (chars t)) ≡ false
   first_needs e = room_more a b _ _ (longest_here (take j (revisions l)) (chars t)) (ap (λ i. room a b (length i)) (bytes_chars t w) ∙ e)
 
-  pub run_other : (s : List ℕ) → b < length t → Ends l j t a b s end.Short
+  pub run_other : (s : List ℕ) → b < length t → Ends l j t a b s None
   run_other s h = stages.Ends.short (first_needs (room_second a b (length t) h))
 
   module _ (s s₁ : List ℕ) (z : length s ≡ a) (v : Bool) (g : Holds t s s₁ v) where
-    pub run_short : not v ≡ true → Ends l j t a b s₁ end.Short
+    pub run_short : not v ≡ true → Ends l j t a b s₁ None
     run_short q = go v g q
       where
-        go : (v : Bool) → Holds t s s₁ v → not v ≡ true → Ends l j t a b s₁ end.Short
+        go : (v : Bool) → Holds t s s₁ v → not v ≡ true → Ends l j t a b s₁ None
         go true x q = absurd (let y : ◌≡◌ {A = ℕ} 0 1 = cc q in omega arith)
         go false (missed h) q = stages.Ends.short (first_needs (room_first a b (length t) (omega arith)))
 
-    pub run_ends : not v ≡ false → (s₂ : List ℕ) (x : Played) → Ends l j (take (length t) s₁) (length s₁) b s₂ x → Ends l j t a b s₂ x
+    pub run_ends : not v ≡ false → (s₂ : List ℕ) (x : Option (ℕ × ℕ)) → Ends l j (take (length t) s₁) (length s₁) b s₂ x → Ends l j t a b s₂ x
     run_ends q s₂ x d = let k = kept t s s₁ v g q in rw (k.same, k.size ∙ z) at d
 
 -- ---- for whoever calls it
 
-module _ (l : List ℕ) (j : ℕ) (t : List ℕ) (a b : ℕ) (a' : List ℕ) (y : Played) (g : Ends l j t a b a' y) where
-  pub ends_short : y ≡ end.Short → room a b (longest (take j (revisions l)) (chars t)) ≡ false
+module _ (l : List ℕ) (j : ℕ) (t : List ℕ) (a b : ℕ) (a' : List ℕ) (y : Option (ℕ × ℕ)) (g : Ends l j t a b a' y) where
+  pub ends_short : y ≡ None → room a b (longest (take j (revisions l)) (chars t)) ≡ false
   ends_short q = go y g q
     where
-      go : (y : Played) → Ends l j t a b a' y → y ≡ end.Short → room a b (longest (take j (revisions l)) (chars t)) ≡ false
+      go : (y : Option (ℕ × ℕ)) → Ends l j t a b a' y → y ≡ None → room a b (longest (take j (revisions l)) (chars t)) ≡ false
       go y (stages.Ends.short x) q = x
       go y (whole w) q = absurd (let z : ◌≡◌ {A = ℕ} 0 1 = cc q in omega arith)
 
-  module _ (n at : ℕ) (q : y ≡ end.Of n at) where
+  module _ (n at : ℕ) (q : y ≡ Some (n, at)) where
     pub ends_stand : Stands l j t a b a' n at
     ends_stand = go y g q
       where
-        go : (y : Played) → Ends l j t a b a' y → y ≡ end.Of n at → Stands l j t a b a' n at
+        go : (y : Option (ℕ × ℕ)) → Ends l j t a b a' y → y ≡ Some (n, at) → Stands l j t a b a' n at
         go y (stages.Ends.short x) q = absurd (let z : ◌≡◌ {A = ℕ} 0 1 = cc q in omega arith)
         go y (whole {n = m} {at = p} w) q =
             let en : m ≡ n = cc q in

@@ -1,5 +1,5 @@
 -- What the parts of playing a log promise each other. No entry's contract cites this.
-use Rattle.std.specs.Prelude.{◌≡◌, ℕ, ◌-◌, ◌<◌, ◌≤◌, Bool, true, false, ◌&&◌, T, List, length, take, drop, nat_le}
+use Rattle.std.specs.Prelude.{◌≡◌, ℕ, ◌-◌, ◌<◌, ◌≤◌, Bool, true, false, ◌&&◌, T, List, length, take, drop, nat_le, Option, Some, None}
 use Rattle.characters.specs.Form.{is_well_formed}
 use Rattle.characters.specs.Chars.{number_of_chars}
 use Rattle.characters.specs.Text.{chars, bytes}
@@ -7,10 +7,6 @@ use Rattle.edits.specs.Sequence.{Seq}
 use Rattle.apply_steps.specs.InnerSteps as steps
 use Rattle.session_log.specs.Log.{place_of, length_at, revisions}
 use Rattle.session.specs.Rows.{play_all, longest}
-use Rattle.playback_steps.specs.declared.inner.Reached.{Reached}
-use Rattle.playback_steps.specs.declared.inner.Reached.TheVariants.{Short, Of}
-use Rattle.playback_steps.specs.declared.inner.Played.{Played}
-use Rattle.playback_steps.specs.declared.inner.Played.TheVariants as played
 
 -- two buffers of these sizes hold a text of n bytes
 abbrev pub room : ℕ → ℕ → ℕ → Bool
@@ -22,9 +18,9 @@ pub data Holds (t a a' : List ℕ) : Bool → Type 0 where
   missed : length a < length t → Holds t a a' false
 
 -- the text t becomes what the record makes of it
-pub data Advances (rec t : List ℕ) (a b : ℕ) (a' : List ℕ) : Reached → Type 0 where
-  short : room a b (length (steps.played rec t)) ≡ false → Advances rec t a b a' Short
-  on : {n : ℕ} → n ≡ length (steps.played rec t) → n ≤ a → n ≤ b → take n a' ≡ steps.played rec t → Advances rec t a b a' (Of n)
+pub data Advances (rec t : List ℕ) (a b : ℕ) (a' : List ℕ) : Option ℕ → Type 0 where
+  short : room a b (length (steps.played rec t)) ≡ false → Advances rec t a b a' None
+  on : {n : ℕ} → n ≡ length (steps.played rec t) → n ≤ a → n ≤ b → take n a' ≡ steps.played rec t → Advances rec t a b a' (Some n)
 
 -- of a row of edits, those from k + 1 to j
 abbrev pub between : ℕ → ℕ → List Seq → List Seq
@@ -49,6 +45,6 @@ pub record Stands (l : List ℕ) (j : ℕ) (t : List ℕ) (a b : ℕ) (a' : List
   pub chars_are : number_of_chars (take n a') ≡ length_at j l
   pub place : at ≡ place_of j l
 
-pub data Ends (l : List ℕ) (j : ℕ) (t : List ℕ) (a b : ℕ) (a' : List ℕ) : Played → Type 0 where
-  short : room a b (longest (take j (revisions l)) (chars t)) ≡ false → Ends l j t a b a' played.Short
-  whole : {n at : ℕ} → Stands l j t a b a' n at → Ends l j t a b a' (played.Of n at)
+pub data Ends (l : List ℕ) (j : ℕ) (t : List ℕ) (a b : ℕ) (a' : List ℕ) : Option (ℕ × ℕ) → Type 0 where
+  short : room a b (longest (take j (revisions l)) (chars t)) ≡ false → Ends l j t a b a' None
+  whole : {n at : ℕ} → Stands l j t a b a' n at → Ends l j t a b a' (Some (n, at))

@@ -9,21 +9,6 @@ ghost use Rattle.playback_steps.specs.InnerStages.{Ends, Advances, Holds};
 
 use session_log::inner::LOG_HEADER;
 
-// How many bytes the text at the front of the first scratch buffer has, and where the next revision begins; or one of the two buffers
-// was too short.
-#[derive(Clone, Copy)]
-pub enum Played {
-    Short,
-    Of(usize, usize),
-}
-
-// The text after one revision: how many bytes it has.
-#[derive(Clone, Copy)]
-pub(crate) enum Reached {
-    Short,
-    Of(usize),
-}
-
 // The text goes to the front of `a`, unless it is too long.
 fn store_text(a: &mut [u8], text: &[u8]) -> bool
     ensures { Holds text.now a.old a.new result }
@@ -35,8 +20,8 @@ fn store_text(a: &mut [u8], text: &[u8]) -> bool
     true
 }
 
-// The text a[..n] becomes the text after the edit.
-fn advance(rec: &[u8], n: usize, a: &mut [u8], b: &mut [u8]) -> Reached
+// The text a[..n] becomes the text after the edit: how many bytes it has, unless one of the two buffers is too short.
+fn advance(rec: &[u8], n: usize, a: &mut [u8], b: &mut [u8]) -> Option<usize>
     requires { (record_fault rec.now ≡ 0) × (n ≤ length a.old) × T (is_well_formed (take n a.old))
         × (number_of_chars (take n a.old) ≡ base_of rec.now) }
     ensures { Advances rec.now (take n a.old) (length a.old) (length b.old)
@@ -44,16 +29,23 @@ fn advance(rec: &[u8], n: usize, a: &mut [u8], b: &mut [u8]) -> Reached
 {
     let m = apply_steps::inner::apply_into(b, rec, &a[..n]);
     if b.len() < m {
-        return Reached::Short;
+        return None;
     }
     if !store_text(a, &b[..m]) {
-        return Reached::Short;
+        return None;
     }
-    Reached::Of(m)
+    Some(m)
 }
 
-// The first j revisions, played on the text a[..n].
-fn play_revisions(log: &[u8], j: usize, n: usize, a: &mut [u8], b: &mut [u8]) -> Played
+// The first j revisions, played on the text a[..n]: how many bytes the text at the front of `a` has then, and where the next revision
+// begins. Nothing where one of the two buffers is too short.
+fn play_revisions(
+    log: &[u8],
+    j: usize,
+    n: usize,
+    a: &mut [u8],
+    b: &mut [u8],
+) -> Option<(usize, usize)>
     requires { T (readable log.now) × (j ≤ count_of log.now) × (n ≤ length a.old) × (n ≤ length b.old)
         × T (is_well_formed (take n a.old)) × (number_of_chars (take n a.old) ≡ start_of log.now) }
     ensures { Ends log.now j (take n a.old) (length a.old) (length b.old)
@@ -65,28 +57,34 @@ fn play_revisions(log: &[u8], j: usize, n: usize, a: &mut [u8], b: &mut [u8]) ->
     while k < j {
         let rec = &log[at..];
         match advance(rec, len, a, b) {
-            Reached::Short => return Played::Short,
-            Reached::Of(m) => {
+            None => return None,
+            Some(m) => {
                 len = m;
             }
         }
         at += reader::inner::size(rec);
         k += 1;
     }
-    Played::Of(len, at)
+    Some((len, at))
 }
 
-// The first j revisions, played on a text. The scratch buffers each have to hold every text on the way.
-pub fn play_first(log: &[u8], j: usize, text: &[u8], a: &mut [u8], b: &mut [u8]) -> Played
+// `play_revisions` on a text that stands elsewhere. The scratch buffers each have to hold every text on the way.
+pub fn play_first(
+    log: &[u8],
+    j: usize,
+    text: &[u8],
+    a: &mut [u8],
+    b: &mut [u8],
+) -> Option<(usize, usize)>
     requires { T (readable log.now) × (j ≤ count_of log.now) × T (is_well_formed text.now)
         × (number_of_chars text.now ≡ start_of log.now) }
     ensures { Ends log.now j text.now (length a.old) (length b.old) a.new result }
 {
     if b.len() < text.len() {
-        return Played::Short;
+        return None;
     }
     if !store_text(a, text) {
-        return Played::Short;
+        return None;
     }
     play_revisions(log, j, text.len(), a, b)
 }

@@ -34,7 +34,7 @@ use Rattle.session_log.proofs.Scanning.{to_end}
 use Rattle.session.specs.Rows.{Moved, rebase, rule}
 use Rattle.counterparts.specs.InnerRunning.{RecordsFollow, Holds, SameText, Fit, Ready, ReplacesEdit, Runs}
 use Rattle.counterparts.specs.declared.inner.Progress.{Progress}
-use Rattle.counterparts.specs.declared.inner.Run.TheVariants as outcome
+use Rattle.counterparts.specs.declared.inner.Stop.TheVariants as stop
 use Rattle.counterparts.proofs.Following.{lie_first, lie_rest}
 
 pub within_fits : (s : Seq) (e : Emitter) → Sizes s e → within_limits e ≡ true → T (fits s)
@@ -84,7 +84,7 @@ module _ (e : Seq) (l : List ℕ) (from n left : ℕ) (spot : Progress) (cur par
   pub moving_place : spot.at ≤ length l
   moving_place = g.place
 
-  pub moving_end : (slots room : ℕ) → left ≡ 0 → Runs slots room e (edits_in n (drop from l)) (outcome.Kept spot.bytes) cur parts₀ parts
+  pub moving_end : (slots room : ℕ) → left ≡ 0 → Runs slots room e (edits_in n (drop from l)) (Ok spot.bytes) cur parts₀ parts
   unfolding rebase edits_in
   moving_end slots room z =
       let w : rebase e (edits_in n (drop from l)) ≡ behind g.done (record { edit = ops cur; counterparts = []; kept = true }) =
@@ -127,7 +127,7 @@ module _ (e : Seq) (l : List ℕ) (from n left : ℕ) (spot : Progress) (cur par
         ∙ ap (λ r. let m = rebase (rule (ops cur) (ops r)).left (edits_in (left - 1) (drop (size_of r) (drop at l))) in record { edit = m.edit; counterparts = (rule (ops cur) (ops r)).right ∷ m.counterparts; kept = fits (rule (ops cur) (ops r)).left && (fits (rule (ops cur) (ops r)).right && m.kept) }) (sym rec_is)
 
     module _ (p : Pair) (d : SizedBoth s p) (v : Bool) (q : v ≡ (within_limits p.e && within_limits p.f)) where
-      pub moving_stop : (slots room : ℕ) → not v ≡ true → Runs slots room e (edits_in n (drop from l)) (outcome.Refused Limit) cur parts₀ parts
+      pub moving_stop : (slots room : ℕ) → not v ≡ true → Runs slots room e (edits_in n (drop from l)) (Err (stop.Refused Limit)) cur parts₀ parts
       moving_stop slots room h =
           let z : fits s.left && fits s.right ≡ false = ap₂ ◌&&◌ (sym (sized_fits s.left p.e d.left)) (sym (sized_fits s.right p.f d.right)) ∙ sym q ∙ not-true v h in
           record { runs = (refl, ap (λ m. m.kept) (g.whole ∙ ap (behind g.done) moving_whole) ∙ stays (fits s.left) (fits s.right) _ z) }
@@ -159,7 +159,7 @@ module _ (e : Seq) (l : List ℕ) (from n left : ℕ) (spot : Progress) (cur par
               }
 
           -- what keeps the limits has places in long buffers
-          pub moving_short : not u ≡ true → (room : ℕ) → found ≡ room → Runs slots room e (edits_in n (drop from l)) outcome.Short cur parts₀ parts
+          pub moving_short : not u ≡ true → (room : ℕ) → found ≡ room → Runs slots room e (edits_in n (drop from l)) (Err stop.Short) cur parts₀ parts
           moving_short z room as-found = record {
             runs = λ few wide.
                 let m = (fits_limits s.left).0 moving_fit.left in

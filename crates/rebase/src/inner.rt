@@ -7,7 +7,7 @@ ghost use Rattle.session_log.specs.Log.{edits_in, max_revisions};
 ghost use Rattle.counterparts.specs.InnerRunning.{RecordsFollow, Holds, Runs};
 
 use answers::Refusal;
-use counterparts::inner::{Progress, Run};
+use counterparts::inner::{Progress, Stop};
 
 // Past n revisions, whose records begin at `from`: the first whose transform passes a limit ends the run. The edit stands in `cur`, too,
 // which is written. The counterparts go to `parts`, one behind the other, as long as there is room.
@@ -21,7 +21,7 @@ pub fn rebase(
     side: &mut [u8],
     parts: &mut [u8],
     slots: usize,
-) -> Run
+) -> Result<usize, Stop>
     requires { (from ≤ length log.now) × (n ≤ max_revisions) × RecordsFollow n (base_of edit.now) (drop from log.now)
         × (record_fault edit.now ≡ 0) × Holds (ops edit.now) cur.old × (length next.old ≡ start_of_text slots)
         × (length side.old ≡ start_of_text slots) × (slots ≤ 2 ^ 40) }
@@ -33,7 +33,7 @@ pub fn rebase(
     let mut left = n;
     'run: loop {
         if left == 0 {
-            break 'run Run::Kept(spot.bytes);
+            break 'run Ok(spot.bytes);
         }
         let at = spot.at;
         let rec = &log[at..];
@@ -45,10 +45,10 @@ pub fn rebase(
                 let c = rebase_steps::inner::finish_both(next, side, slots, b);
                 let p = steps::inner::sizes(cur, rec, c);
                 if !counterparts::inner::keep_limits(p) {
-                    break 'run Run::Refused(Refusal::Limit);
+                    break 'run Err(Stop::Refused(Refusal::Limit));
                 }
                 if !counterparts::inner::have_places(p, slots, cur.len()) {
-                    break 'run Run::Short;
+                    break 'run Err(Stop::Short);
                 }
                 break p;
             }

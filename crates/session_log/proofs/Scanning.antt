@@ -1,5 +1,5 @@
 -- Going through a log, record by record.
-use Rattle.std.specs.Prelude.{◌≡◌, ℕ, zero, suc, ◌+◌, ◌-◌, ◌<◌, ◌≤◌, Bool, true, false, cond, T, eqb, List, [], ◌∷◌, length, take, drop}
+use Rattle.std.specs.Prelude.{◌≡◌, ℕ, zero, suc, ◌+◌, ◌-◌, ◌<◌, ◌≤◌, Bool, true, false, cond, T, eqb, List, [], ◌∷◌, length, take, drop, Result, Option, Ok, Err, Some, None}
 use native.Mathlib.Omega.{arith}
 use mathlib.Core.Path.{sym, ap, refl, ◌∙◌, ap₂}
 use lib.ListN.{length-drop}
@@ -9,9 +9,7 @@ use borrow.Author.Tests.{ne_eqb, eq-eqb, le-leb, lt-leb, eqb-true, eqb-false}
 use native.Mathlib.Nat.{sub-zero}
 use Rattle.buffers.proofs.Tests.{eq_and, le_and, known}
 use Rattle.answers.specs.declared.Refusal.{Refusal}
-use Rattle.answers.specs.declared.Fact.{Fact}
-use Rattle.answers.specs.declared.Fact.TheVariants as fact
-use Rattle.answers.specs.Answer.{fact_of}
+use Rattle.answers.specs.Answer.{answer_of}
 use Rattle.record.specs.Layout.{size_of, target_of, base_of, max_size}
 use Rattle.record.specs.Record.{ops, record_fault}
 use Rattle.record.specs.Calls.{check_call}
@@ -20,11 +18,8 @@ use Rattle.record.proofs.Checked.{passed, stopped as check-stopped}
 use Rattle.operation.proofs.Answers.{no_fault}
 use Rattle.session_log.specs.Log.{sizes_in, length_in, edits_in, readable_from, count_of, start_of, records_start, readable, place_of, length_at, revisions, size_of_log, max_revisions}
 use Rattle.session_log.specs.declared.inner.Spot.{Spot}
-use Rattle.session_log.specs.declared.inner.Stepped.TheVariants.{Stopped, On}
 use Rattle.session_log.specs.InnerSteps.{Steps, stop, on, Passing, Past}
 use Rattle.session_log.specs.InnerScan.{Scans, Found}
-use Rattle.session_log.specs.declared.inner.Scanned.TheVariants.{Unreadable, Of}
-use Rattle.session_log.specs.declared.inner.Stepped.{Stepped}
 
 -- ---- records that stand end to end
 
@@ -181,34 +176,34 @@ length_small l r (suc k) h =
 
 -- ---- one step
 
-module _ (l : List ℕ) (p : Spot) (f : Fact) (e : fact_of f ≡ check_call (take (length l - p.at) (drop p.at l))) where
+module _ (l : List ℕ) (p : Spot) (f : Result ℕ Refusal) (e : answer_of f ≡ check_call (take (length l - p.at) (drop p.at l))) where
   abbrev part : List ℕ
   part = take (length l - p.at) (drop p.at l)
 
-  pub step_fault : (x : Refusal) → f ≡ fact.Refused x → Steps l p Stopped
+  pub step_fault : (x : Refusal) → f ≡ Err x → Steps l p None
   unfolding readable_from
   step_fault x q =
       let s = check-stopped part f e x q in
       let z : record_fault (drop p.at l) ≡ suc s.less = ap record_fault (sym (to_end l p.at)) ∙ s.fault in
       stop (λ n. rw (ne_eqb (record_fault (drop p.at l)) 0 (λ y. absurd (omega arith))))
 
-  module _ (s : ℕ) (q : f ≡ fact.Is s) where
+  module _ (s : ℕ) (q : f ≡ Ok s) where
     faults : record_fault (drop p.at l) ≡ 0
     faults = ap record_fault (sym (to_end l p.at)) ∙ passed part f e s q
 
-    pub step_base : (b : ℕ) → b ≡ base_of part → (b ≡ p.len → ⊥) → Steps l p Stopped
+    pub step_base : (b : ℕ) → b ≡ base_of part → (b ≡ p.len → ⊥) → Steps l p None
     unfolding readable_from
     step_base b g d =
         stop (λ n. rw (faults, ne_eqb (base_of (drop p.at l)) p.len (λ z. d (g ∙ ap base_of (to_end l p.at) ∙ z))))
 
     size_is : s ≡ size_of part
     unfolding check_call
-    size_is = let z = rw (passed part f e s q) at (ap fact_of (sym q) ∙ e) in cc z
+    size_is = let z = rw (passed part f e s q) at (ap answer_of (sym q) ∙ e) in cc z
 
     pub step_room : p.at ≤ length l → p.at + s ≤ length l
     step_room h = omega (arith, size_is, (no_fault part (passed part f e s q)).room, ap length (to_end l p.at), length-drop p.at l)
 
-    pub step_on : p.at ≤ length l → (b t : ℕ) → b ≡ base_of part → b ≡ p.len → t ≡ target_of part → Steps l p (On (record { at = p.at + s; len = t }))
+    pub step_on : p.at ≤ length l → (b t : ℕ) → b ≡ base_of part → b ≡ p.len → t ≡ target_of part → Steps l p (Some (record { at = p.at + s; len = t }))
     step_on h b t g d u =
         let w = to_end l p.at in
         on (record {
@@ -227,21 +222,21 @@ chosen k r here mark e = rw (eq-eqb k r e)
 pub kept : (k r : ℕ) (here mark : Spot) → (k ≡ r → ⊥) → mark ≡ cond (eqb k r) here mark
 kept k r here mark e = rw (ne_eqb k r e)
 
-pub unreadable : (l : List ℕ) (r : ℕ) → readable l ≡ false → Scans l r Unreadable
+pub unreadable : (l : List ℕ) (r : ℕ) → readable l ≡ false → Scans l r None
 unreadable l r e = record { scans = e }
 
 module _ (l : List ℕ) (r : ℕ) where
-  pub scan_short : length l < 4 → Scans l r Unreadable
+  pub scan_short : length l < 4 → Scans l r None
   unfolding readable
   scan_short h = unreadable l r (rw (lt-leb 4 (length l) h))
 
   module _ (h : 4 ≤ length l) (n : ℕ) (e : n ≡ count_of l) where
-    pub scan_many : 256 < n → Scans l r Unreadable
+    pub scan_many : 256 < n → Scans l r None
     unfolding readable
     scan_many g = unreadable l r (rw (le-leb 4 (length l) h, lt-leb (count_of l) 256 (omega arith)))
 
     module _ (g : n ≤ 256) (s : ℕ) (d : s ≡ start_of l) where
-      pub scan_long : max_size < s → Scans l r Unreadable
+      pub scan_long : max_size < s → Scans l r None
       unfolding readable
       scan_long k = unreadable l r (rw (le-leb 4 (length l) h, le-leb (count_of l) 256 (omega arith), lt-leb (start_of l) max_size (omega arith)))
 
@@ -263,7 +258,7 @@ module _ (l : List ℕ) (r n k : ℕ) (here mark : Spot) (e : n ≡ count_of l) 
   more : k < n → readable l ≡ readable_from (suc (count_of l - (k + 1))) here.len (drop here.at l)
   more h = let z : count_of l - k ≡ suc (count_of l - (k + 1)) = omega arith in p.left ∙ ap (λ i. readable_from i here.len (drop here.at l)) z
 
-  pub scan_stop : k < n → (x : Stepped) → Steps l here x → x ≡ Stopped → Scans l r Unreadable
+  pub scan_stop : k < n → (x : Option Spot) → Steps l here x → x ≡ None → Scans l r None
   scan_stop h x (stop f) q = unreadable l r (more h ∙ f (count_of l - (k + 1)))
   scan_stop h x (on a) q = absurd (let z : ◌≡◌ {A = ℕ} 0 1 = cc q in omega arith)
 
@@ -298,12 +293,12 @@ module _ (l : List ℕ) (r n k : ℕ) (here mark : Spot) (e : n ≡ count_of l) 
           mark_len = marked_len;
         }
 
-    pub scan_next : k < n → (x : Stepped) (q : Spot) → Steps l here x → x ≡ On q → Passing l r (k + 1) q m
+    pub scan_next : k < n → (x : Option Spot) (q : Spot) → Steps l here x → x ≡ Some q → Passing l r (k + 1) q m
     scan_next h x q (stop f) z = absurd (let y : ◌≡◌ {A = ℕ} 0 1 = cc z in omega arith)
     scan_next h x q (on {q = y} a) z = let d : y ≡ q = cc z in passes h q (rw d at a)
 
     pub scan_end : (s : ℕ) → n ≤ k → k ≤ n → n ≤ 256 → s ≡ start_of l → s ≤ max_size
-        → Scans l r (Of (record { count = n; start = s; size = here.at; at = m.at; len = m.len }))
+        → Scans l r (Some (record { count = n; start = s; size = here.at; at = m.at; len = m.len }))
     unfolding readable_from size_of_log
     scan_end s a b c d g =
         let z : count_of l - k ≡ 0 = omega arith in

@@ -1,10 +1,8 @@
 -- What `inner` of the log promises. No entry's contract cites this.
-use Rattle.std.specs.Prelude.{◌≡◌, ℕ, ◌≤◌, false, T, List, length}
+use Rattle.std.specs.Prelude.{◌≡◌, ℕ, ◌≤◌, false, T, List, length, Option, Some, None}
 use Rattle.record.specs.Layout.{max_size}
 use Rattle.session_log.specs.Log.{count_of, start_of, readable, size_of_log, place_of, length_at, max_revisions}
 use Rattle.session_log.specs.declared.inner.Scan.{Scan}
-use Rattle.session_log.specs.declared.inner.Scanned.{Scanned}
-use Rattle.session_log.specs.declared.inner.Scanned.TheVariants.{Unreadable, Of}
 
 -- a log that can be read: what it states, where it ends, and where revision r does
 pub record Found (l : List ℕ) (r : ℕ) (s : Scan) : Type 0 where
@@ -18,9 +16,9 @@ pub record Found (l : List ℕ) (r : ℕ) (s : Scan) : Type 0 where
   pub place : r ≤ count_of l → s.at ≡ place_of r l
   pub len : r ≤ count_of l → s.len ≡ length_at r l
 
-abbrev pub ScansTo : List ℕ → ℕ → Scanned → Type 0
-ScansTo l r Unreadable = readable l ≡ false
-ScansTo l r (Of s) = Found l r s
+abbrev pub ScansTo : List ℕ → ℕ → Option Scan → Type 0
+ScansTo l r None = readable l ≡ false
+ScansTo l r (Some s) = Found l r s
 
-pub record Scans (l : List ℕ) (r : ℕ) (x : Scanned) : Type 0 where
+pub record Scans (l : List ℕ) (r : ℕ) (x : Option Scan) : Type 0 where
   pub scans : ScansTo l r x

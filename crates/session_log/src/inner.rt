@@ -5,7 +5,6 @@ ghost use Rattle.session_log.specs.InnerScan.{Scans};
 ghost use Rattle.session_log.specs.Log.{count_of, start_of, max_revisions};
 ghost use Rattle.session_log.specs.InnerSteps.{Steps};
 
-use answers::Fact;
 use record::inner::MAX_SIZE;
 
 // The limit of document 01's refusal 6: at most so many revisions.
@@ -25,12 +24,6 @@ pub struct Scan {
     pub len: usize,
 }
 
-#[derive(Clone, Copy)]
-pub enum Scanned {
-    Unreadable,
-    Of(Scan),
-}
-
 // On the way: where a revision ends, and the length after it.
 #[derive(Clone, Copy)]
 pub(crate) struct Spot {
@@ -38,31 +31,25 @@ pub(crate) struct Spot {
     pub len: usize,
 }
 
-#[derive(Clone, Copy)]
-pub(crate) enum Stepped {
-    Stopped,
-    On(Spot),
-}
-
-// One pass over the log; revision r is looked for on the way.
-pub fn read(log: &[u8], r: u64) -> Scanned
+// One pass over the log, which gives nothing where it can't be read; revision r is looked for on the way.
+pub fn read(log: &[u8], r: u64) -> Option<Scan>
     ensures { Scans log.now r result }
 {
     if log.len() < LOG_HEADER {
-        return Scanned::Unreadable;
+        return None;
     }
     let count = buffers::inner::word(log, 0);
     if MAX_REVISIONS < count {
-        return Scanned::Unreadable;
+        return None;
     }
     let start = buffers::inner::word(log, 2);
     if MAX_SIZE < start {
-        return Scanned::Unreadable;
+        return None;
     }
     go_through(log, count, start, r)
 }
 
-fn go_through(log: &[u8], count: usize, start: usize, r: u64) -> Scanned
+fn go_through(log: &[u8], count: usize, start: usize, r: u64) -> Option<Scan>
     requires { (4 ≤ length log.now) × (count ≡ count_of log.now) × (count ≤ max_revisions) × (start ≡ start_of log.now)
         × (start ≤ max_size) }
     ensures { Scans log.now r result }
@@ -76,15 +63,15 @@ fn go_through(log: &[u8], count: usize, start: usize, r: u64) -> Scanned
     while k < count {
         mark = marked(k, r, here, mark);
         match next_revision(log, here) {
-            Stepped::Stopped => return Scanned::Unreadable,
-            Stepped::On(next) => {
+            None => return None,
+            Some(next) => {
                 here = next;
             }
         }
         k += 1;
     }
     mark = marked(k, r, here, mark);
-    Scanned::Of(Scan {
+    Some(Scan {
         count,
         start,
         size: here.at,
@@ -110,19 +97,19 @@ fn marked(k: usize, r: u64, here: Spot, kept: Spot) -> Spot
 }
 
 // The spot behind the record that stands here, unless the log can't be read.
-fn next_revision(log: &[u8], here: Spot) -> Stepped
+fn next_revision(log: &[u8], here: Spot) -> Option<Spot>
     requires { here.at ≤ length log.now }
     ensures { Steps log.now here result }
 {
     let at = here.at;
     let rec = &log[at..];
-    let Fact::Is(size) = operation::check(rec) else {
-        return Stepped::Stopped;
+    let Ok(size) = operation::check(rec) else {
+        return None;
     };
     if reader::inner::base(rec) != here.len {
-        return Stepped::Stopped;
+        return None;
     }
-    Stepped::On(Spot {
+    Some(Spot {
         at: at + size,
         len: reader::inner::target(rec),
     })

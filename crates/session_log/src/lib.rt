@@ -2,11 +2,11 @@
 #![tactic(auto)]
 
 ghost use Rattle.std.specs.Prelude.{◌≡◌};
-ghost use Rattle.answers.specs.Answer.{written_of};
+ghost use Rattle.answers.specs.Answer.{answer_of};
 ghost use Rattle.session_log.specs.Open.{open_call};
 
 use crate::inner::LOG_HEADER;
-use answers::{Refusal, Written};
+use answers::Refusal;
 use record::inner::MAX_SIZE;
 
 pub mod inner;
@@ -15,17 +15,17 @@ pub mod inner;
 const LIMIT: u64 = MAX_SIZE as u64;
 
 // A log with no revisions, for texts that have `start` characters at first.
-pub fn open(start: u64, log: &mut [u8]) -> Written
-    ensures { (written_of result ≡ (open_call start log.old).answer)
+pub fn open(start: u64, log: &mut [u8]) -> Result<usize, Refusal>
+    ensures { (answer_of result ≡ (open_call start log.old).answer)
         × (log.new ≡ (open_call start log.old).out) }
 {
     if LIMIT < start {
-        return Written::Refused(Refusal::Limit);
+        return Err(Refusal::Limit);
     }
     if log.len() < LOG_HEADER {
-        return Written::Refused(Refusal::Room);
+        return Err(Refusal::Room);
     }
     buffers::inner::put16(log, 0, 0);
     buffers::inner::put16(log, 2, start as usize);
-    Written::Bytes(LOG_HEADER)
+    Ok(LOG_HEADER)
 }

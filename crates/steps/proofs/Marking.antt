@@ -1,5 +1,5 @@
 -- Both sides from stages without text: counted, sized, and moved to their places with the text of the operands.
-use Rattle.std.specs.Prelude.{◌≡◌, ℕ, ◌+◌, ◌-◌, ◌≤◌, min, Bool, true, false, ◌&&◌, List, map, length, take, drop}
+use Rattle.std.specs.Prelude.{◌≡◌, ℕ, ◌+◌, ◌-◌, ◌≤◌, min, Bool, true, false, ◌&&◌, List, map, length, take, drop, Result, Ok, Err}
 use mathlib.Core.Path.{◌∙◌, ap, sym, refl}
 use mathlib.Core.Bool.{and-eq-true_iff}
 use native.Mathlib.Omega.{arith}
@@ -10,8 +10,6 @@ use Rattle.characters.specs.Text.{Char}
 use Rattle.edits.specs.Transform.{transform, Sides}
 use Rattle.edits.proofs.Theorems.{base_left, base_right, targets_agree}
 use Rattle.answers.specs.declared.Refusal.TheVariants.{Limit}
-use Rattle.answers.specs.declared.WrittenPair.{WrittenPair}
-use Rattle.answers.specs.declared.WrittenPair.TheVariants as written
 use Rattle.record.specs.Record.{ops, record_fault, in_bytes, text, text_of}
 use Rattle.record.specs.Layout.{start_of_text, op_count_of, text_bytes_of, base_of, target_of}
 use Rattle.record.proofs.Faults.{InLimits, limits, faultless}
@@ -28,6 +26,7 @@ use Rattle.steps.specs.InnerBoth.{MarkedBoth, WritesBoth, Counted, SizedBoth}
 use Rattle.steps.specs.declared.inner.Pair.{Pair}
 use Rattle.steps.specs.declared.inner.Counts.{Counts}
 use Rattle.steps.proofs.Looping.{GoingBoth, both_done}
+use Rattle.answers.specs.declared.Refusal.{Refusal}
 
 -- ---- `run`
 
@@ -95,14 +94,14 @@ module _ (a b : List ℕ) (za : record_fault a ≡ 0) (zb : record_fault b ≡ 0
     text_room_right = omega (arith, z.right.text_bytes, right_bytes, (bounds b zb).whole)
 
     -- what is written has a place in its stage
-    module _ (slots : ℕ) (h : min (na + nb) 1024 ≤ slots) (x y : ℕ) (v : WrittenPair) (w : v ≡ limits_then_room_both p.e p.f x y) (k l : ℕ) (q : v ≡ written.Bytes k l) where
+    module _ (slots : ℕ) (h : min (na + nb) 1024 ≤ slots) (x y : ℕ) (v : Result (ℕ × ℕ) Refusal) (w : v ≡ limits_then_room_both p.e p.f x y) (k l : ℕ) (q : v ≡ Ok (k, l)) where
       inside : (within_limits p.e ≡ true) × (within_limits p.f ≡ true)
       unfolding limits_then_room_both
       inside = go (within_limits p.e && within_limits p.f) refl
         where
           go : (t : Bool) → (within_limits p.e && within_limits p.f) ≡ t → (within_limits p.e ≡ true) × (within_limits p.f ≡ true)
           go true e = (and-eq-true_iff (within_limits p.e) (within_limits p.f)).0 e
-          go false e = absurd (let u : v ≡ written.Refused Limit = w ∙ rw e in let c : ◌≡◌ {A = ℕ} 0 1 = cc (u, q) in omega arith)
+          go false e = absurd (let u : v ≡ Err Limit = w ∙ rw e in let c : ◌≡◌ {A = ℕ} 0 1 = cc (u, q) in omega arith)
 
       pub few_places_left : p.e.ops ≤ slots
       few_places_left = omega (arith, (within_inside p.e (known inside.0)).ops, left_length (ops a) (ops b), ops_length a za, ops_length b zb, z.left.ops)

@@ -12,9 +12,9 @@ ghost use Rattle.steps.specs.InnerSteps.{Operands, live_is, Chooses, Begun};
 ghost use Rattle.steps.specs.InnerSides.{gives_of};
 ghost use Rattle.steps.specs.InnerBoth.{Counted, SizedBoth};
 
-use characters::Ordering;
 use emitter::inner::Emitter;
 use record::inner::{AT_DELETE, AT_END, AT_INSERT, Front};
+use std::cmp::Ordering;
 
 // Of two inserts that meet, the lesser by byte order goes first.
 pub fn rank(a: &[u8], b: &[u8], x: Front, y: Front) -> Ordering

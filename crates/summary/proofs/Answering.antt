@@ -1,5 +1,5 @@
 -- What goes to the output, and the answers of the call.
-use Rattle.std.specs.Prelude.{◌≡◌, ℕ, ◌-◌, ◌<◌, ◌≤◌, false, T, List, [], ◌∷◌, length, take, drop}
+use Rattle.std.specs.Prelude.{◌≡◌, ℕ, ◌-◌, ◌<◌, ◌≤◌, false, T, List, [], ◌∷◌, length, take, drop, Result, Option, Ok, Err, Some, None}
 use mathlib.Core.Path.{refl, sym, ap, ◌∙◌}
 use native.Mathlib.Omega.{arith}
 use native.Mathlib.Nat.{sub-zero}
@@ -8,8 +8,6 @@ use Rattle.buffers.specs.InnerOver.{over}
 use Rattle.buffers.proofs.Tests.{holds}
 use Rattle.buffers.proofs.Over.{over_front}
 use Rattle.answers.specs.declared.Refusal.{Refusal}
-use Rattle.answers.specs.declared.Written.{Written}
-use Rattle.answers.specs.declared.Written.TheVariants.{Bytes, Refused}
 use Rattle.answers.specs.declared.Refusal.TheVariants.{Room}
 use Rattle.answers.specs.Answer.{success, refused}
 use Rattle.answers.specs.Output.{writing}
@@ -21,8 +19,6 @@ use Rattle.emitter.proofs.Delivering.{writing_refused}
 use Rattle.session_log.specs.Log.{start_of, revisions, count_of, readable}
 use Rattle.session_log.specs.InnerScan.{Found, Scans}
 use Rattle.session_log.specs.declared.inner.Scan.{Scan}
-use Rattle.session_log.specs.declared.inner.Scanned.{Scanned}
-use Rattle.session_log.specs.declared.inner.Scanned.TheVariants.{Unreadable, Of}
 use Rattle.session.specs.Rows.{retain_whole, compose_all}
 use Rattle.session.specs.Session.{summary_fault, summary_call}
 use Rattle.partial.specs.InnerSumming.{Sums}
@@ -33,12 +29,12 @@ module _ (c : List ℕ) (k : ℕ) (o : List ℕ) (h : k ≤ length c) where
   taken : length (take k c) ≡ k
   taken = length-take-le k c h
 
-  pub deliver_short : length o < k → Gives (writing 0 (take k c) o) (Refused Room) o
+  pub deliver_short : length o < k → Gives (writing 0 (take k c) o) (Err Room) o
   deliver_short g =
       let a = writing_short 0 (take k c) o refl (omega (arith, taken)) in
       record { answer = a; out = untouched 0 (take k c) o 10 a }
 
-  pub deliver_whole : k ≤ length o → (o' : List ℕ) → o' ≡ over 0 (take (k - 0) (drop 0 c)) o → Gives (writing 0 (take k c) o) (Bytes k) o'
+  pub deliver_whole : k ≤ length o → (o' : List ℕ) → o' ≡ over 0 (take (k - 0) (drop 0 c)) o → Gives (writing 0 (take k c) o) (Ok k) o'
   deliver_whole g o' w =
       let a = writing_goes 0 (take k c) o refl (omega (arith, taken)) in
       record {
@@ -48,25 +44,25 @@ module _ (c : List ℕ) (k : ℕ) (o : List ℕ) (h : k ≤ length c) where
 
 -- ---- the answers
 
-module _ (l o : List ℕ) (r : T (readable l)) (v : Written) (b : List ℕ) (s : Sums l v b) where
-  pub summed_refused : (x : Refusal) → v ≡ Refused x → Gives (summary_call l o) (Refused x) o
+module _ (l o : List ℕ) (r : T (readable l)) (v : Result ℕ Refusal) (b : List ℕ) (s : Sums l v b) where
+  pub summed_refused : (x : Refusal) → v ≡ Err x → Gives (summary_call l o) (Err x) o
   unfolding summary_call summary_fault
   summed_refused x q =
       let (i, j) = (rw q at s).sums in
       rw (holds (readable l) r, j) (rw (writing_refused 9 (encode (compose_all (retain_whole (start_of l)) (revisions l))) o (λ z. absurd (omega arith))) (record { answer = ap refused i; out = refl }))
 
-  module _ (k : ℕ) (q : v ≡ Bytes k) where
+  module _ (k : ℕ) (q : v ≡ Ok k) where
     pub summed_room : k ≤ length b
     summed_room = (rw q at s).sums.1.room
 
-    pub summed_whole : (w : Written) (o' : List ℕ) → Gives (writing 0 (take k b) o) w o' → Gives (summary_call l o) w o'
+    pub summed_whole : (w : Result ℕ Refusal) (o' : List ℕ) → Gives (writing 0 (take k b) o) w o' → Gives (summary_call l o) w o'
     unfolding summary_call summary_fault
     summed_whole w o' g =
         let (i, j) = (rw q at s).sums in
         rw (holds (readable l) r, i) (rw j.is at g)
 
-module _ (l o : List ℕ) (x : Scanned) (s : Scans l 0 x) where
-  module _ (q : x ≡ Unreadable) where
+module _ (l o : List ℕ) (x : Option Scan) (s : Scans l 0 x) where
+  module _ (q : x ≡ None) where
     unread : summary_call l o ≡ record { answer = refused 6; out = o }
     unfolding summary_call summary_fault
     unread =
@@ -79,7 +75,7 @@ module _ (l o : List ℕ) (x : Scanned) (s : Scans l 0 x) where
     pub summary_same : o ≡ (summary_call l o).out
     summary_same = ap (λ y. y.out) (sym unread)
 
-  module _ (f : Scan) (q : x ≡ Of f) where
+  module _ (f : Scan) (q : x ≡ Some f) where
     found : Found l 0 f
     found = (rw q at s).scans
 

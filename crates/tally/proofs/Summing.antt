@@ -1,5 +1,5 @@
 -- What the sums are of.
-use Rattle.std.specs.Prelude.{◌≡◌, ℕ, zero, suc, ◌+◌, ◌-◌, ◌≤◌, Bool, true, false, cond, ◌&&◌, eqb, List, [], ◌∷◌, take, drop}
+use Rattle.std.specs.Prelude.{◌≡◌, ℕ, zero, suc, ◌+◌, ◌-◌, ◌≤◌, Bool, true, false, cond, ◌&&◌, eqb, List, [], ◌∷◌, take, drop, Some, None}
 use native.Mathlib.Omega.{arith}
 use mathlib.Core.Path.{refl, sym, ap, ◌∙◌}
 use borrow.Author.Tests.{eq-eqb, ne_eqb, eqb-true}
@@ -15,7 +15,6 @@ use Rattle.entries.specs.declared.inner.Tally.{Tally}
 use Rattle.entries.specs.InnerTally.{picked, invalid, sum_from, Tallied, of_kind}
 use Rattle.entries.proofs.Tallying.{holds_all, none_clashes, chars_part}
 use Rattle.tally.specs.InnerSums.{keeps, sums_of, entries_of}
-use Rattle.tally.specs.declared.inner.Entries.TheVariants.{Unsound, Of}
 use Rattle.tally.specs.declared.inner.Sums.{Sums}
 
 module _ (r : List ℕ) where
@@ -59,7 +58,7 @@ module _ (r : List ℕ) (n : ℕ) (t : Tally) (e : n ≡ op_count_of r) (g : Tal
   unfolding entries
   none_invalid = g.invalids ∙ invalid_none r 0 n ∙ ap (λ m. all_of sound_entry (entries_from r 0 m)) e
 
-  pub sums_unsound : (t.invalid ≡ 0 → ⊥) → Unsound ≡ entries_of r
+  pub sums_unsound : (t.invalid ≡ 0 → ⊥) → None ≡ entries_of r
   unfolding entries_of
   sums_unsound z = rw (sym none_invalid ∙ ne_eqb t.invalid 0 z)
 
@@ -67,14 +66,14 @@ module _ (r : List ℕ) (n : ℕ) (t : Tally) (e : n ≡ op_count_of r) (g : Tal
     all_sound : all_of sound_entry (entries r) ≡ true
     all_sound = sym none_invalid ∙ eq-eqb t.invalid 0 z
 
-    pub sums_found : Of (record { inserts = t.inserts; ordered = eqb t.clashes 0; base = t.all - t.inserts; kept = t.kept }) ≡ entries_of r
+    pub sums_found : Some (record { inserts = t.inserts; ordered = eqb t.clashes 0; base = t.all - t.inserts; kept = t.kept }) ≡ entries_of r
     unfolding entries_of sums_of entries byte_ops
     sums_found =
         let x : t.inserts ≡ insert_bytes (entries r) = g.inserted ∙ inserts_sum r 0 n ∙ ap (λ m. insert_bytes (entries_from r 0 m)) e in
         let y : t.all ≡ insert_bytes (entries r) + base (byte_ops r) = g.counts ∙ base_sum r 0 n (text_of r) ∙ ap (λ m. insert_bytes (entries_from r 0 m) + base (operations (entries_from r 0 m) (text_of r))) e in
         let w : t.all - t.inserts ≡ base (byte_ops r) = omega arith in
         let v : t.kept ≡ total keeps (byte_ops r) = g.retained ∙ kept_sum r 0 n (text_of r) ∙ ap (λ m. total keeps (operations (entries_from r 0 m) (text_of r))) e in
-        rw (all_sound) (λ i. Of (record { inserts = x i; ordered = (ap (λ j. eqb j 0) (g.neighbours z) ∙ none_clashes r n e (known all_sound)) i; base = w i; kept = v i }))
+        rw (all_sound) (λ i. Some (record { inserts = x i; ordered = (ap (λ j. eqb j 0) (g.neighbours z) ∙ none_clashes r n e (known all_sound)) i; base = w i; kept = v i }))
 
 keeps_less : (s : ByteSeq) → total keeps s ≤ base s
 keeps_less [] = omega arith

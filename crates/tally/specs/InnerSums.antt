@@ -1,12 +1,10 @@
 -- What the kinds and the counts come to. Only inner contracts cite this.
-use Rattle.std.specs.Prelude.{ℕ, cond, List}
+use Rattle.std.specs.Prelude.{ℕ, cond, List, Option, Some, None}
 use Rattle.buffers.specs.Lists.{all_of}
 use Rattle.edits.specs.Op.{Op, retain, insert, delete, total, base}
 use Rattle.edits.specs.Built.{chained}
 use Rattle.record.specs.Record.{sound_entry, entries, byte_ops, insert_bytes}
 use Rattle.tally.specs.declared.inner.Sums.{Sums}
-use Rattle.tally.specs.declared.inner.Entries.{Entries}
-use Rattle.tally.specs.declared.inner.Entries.TheVariants.{Unsound, Of}
 
 abbrev pub keeps : Op ℕ → ℕ
 keeps (retain n) = n
@@ -17,6 +15,6 @@ unfoldable pub sums_of : List ℕ → Sums
 unfolding entries byte_ops
 sums_of r = record { inserts = insert_bytes (entries r); ordered = chained (byte_ops r); base = base (byte_ops r); kept = total keeps (byte_ops r) }
 
-unfoldable pub entries_of : List ℕ → Entries
+unfoldable pub entries_of : List ℕ → Option Sums
 unfolding entries sums_of
-entries_of r = cond (all_of sound_entry (entries r)) (Of (sums_of r)) Unsound
+entries_of r = cond (all_of sound_entry (entries r)) (Some (sums_of r)) None

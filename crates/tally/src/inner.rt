@@ -19,13 +19,6 @@ pub struct Sums {
     pub kept: usize,
 }
 
-// A kind or a count that can't be, or the sums.
-#[derive(Clone, Copy)]
-pub enum Entries {
-    Unsound,
-    Of(Sums),
-}
-
 // n where it counts, else 0.
 fn pick_u16(counts: bool, n: u16) -> u16
     ensures { (result ≡ picked counts n) × (result ≤ n) }
@@ -163,15 +156,15 @@ fn tally_all(rec: &[u8], n: usize) -> Tally
     }
 }
 
-// What the tally of n entries comes to. (The record is what the contract speaks of.)
-fn sums_of(rec: &[u8], n: usize, t: Tally) -> Entries
+// What the tally of n entries comes to: nothing where a kind or a count can't be. (The record is what the contract speaks of.)
+fn sums_of(rec: &[u8], n: usize, t: Tally) -> Option<Sums>
     requires { HasEntries rec.now n × Tallied rec.now n t }
     ensures { result ≡ entries_of rec.now }
 {
     if t.invalid != 0 {
-        return Entries::Unsound;
+        return None;
     }
-    Entries::Of(Sums {
+    Some(Sums {
         inserts: t.inserts as usize,
         ordered: t.clashes == 0,
         base: (t.all - t.inserts) as usize,
@@ -179,7 +172,8 @@ fn sums_of(rec: &[u8], n: usize, t: Tally) -> Entries
     })
 }
 
-pub fn sum_up(rec: &[u8], n: usize) -> Entries
+// The sums of the entries, unless a kind or a count can't be.
+pub fn sum_up(rec: &[u8], n: usize) -> Option<Sums>
     requires { HasEntries rec.now n }
     ensures { result ≡ entries_of rec.now }
 {
@@ -189,7 +183,7 @@ pub fn sum_up(rec: &[u8], n: usize) -> Entries
 
 // `sum_up`, entry by entry. (A second caller of `sum_up` would have the compiler no longer inline it into the check, which every call
 // begins with.)
-pub fn sum_up_by_entry(rec: &[u8], n: usize) -> Entries
+pub fn sum_up_by_entry(rec: &[u8], n: usize) -> Option<Sums>
     requires { HasEntries rec.now n }
     ensures { result ≡ entries_of rec.now }
 {

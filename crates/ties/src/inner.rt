@@ -7,7 +7,7 @@ ghost use Rattle.record.specs.InnerFront.{Cut};
 ghost use Rattle.steps.specs.InnerBoth.{Fed, ReadyBoth, FirstBoth, SecondBoth, Meets, TogetherBoth, WentBoth};
 ghost use Rattle.steps.specs.InnerSteps.{Operands, Chooses};
 
-use characters::Ordering;
+use std::cmp::Ordering;
 use steps::inner::{Both, Pair, Turn};
 
 // The lesser insert goes by itself: the other side retains what it gives.

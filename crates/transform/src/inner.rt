@@ -9,7 +9,7 @@ ghost use Rattle.steps.specs.InnerBoth.{BegunBoth, MarkedBoth};
 ghost use Rattle.steps.specs.InnerSteps.{Operands, live_is};
 ghost use Rattle.transform.specs.InnerPairs.{Transforms, small_ops, medium_ops};
 
-use answers::{Refusal, WrittenPair};
+use answers::Refusal;
 use emitter::inner::Emitter;
 use record::inner::{HEADER, MAX_OPS, OP_BYTES};
 use steps::inner::{Both, Counts};
@@ -65,25 +65,30 @@ fn transform_into(
 }
 
 // 9 where either side passes a limit, then 10 where either output is too short.
-fn limits_then_room(e: Emitter, f: Emitter, room_a: usize, room_b: usize) -> WrittenPair
+fn limits_then_room(
+    e: Emitter,
+    f: Emitter,
+    room_a: usize,
+    room_b: usize,
+) -> Result<(usize, usize), Refusal>
     requires { Under (2 ^ 40) e × Under (2 ^ 40) f }
     ensures { result ≡ limits_then_room_both e f room_a room_b }
 {
     if !emitter::inner::keeps_limits(e) {
-        return WrittenPair::Refused(Refusal::Limit);
+        return Err(Refusal::Limit);
     }
     if !emitter::inner::keeps_limits(f) {
-        return WrittenPair::Refused(Refusal::Limit);
+        return Err(Refusal::Limit);
     }
     let p = emitter::inner::size(e);
     let q = emitter::inner::size(f);
     if room_a < p {
-        return WrittenPair::Refused(Refusal::Room);
+        return Err(Refusal::Room);
     }
     if room_b < q {
-        return WrittenPair::Refused(Refusal::Room);
+        return Err(Refusal::Room);
     }
-    WrittenPair::Bytes(p, q)
+    Ok((p, q))
 }
 
 // Of two records whose lengths agree: both sides are written to stages, judged, and moved to the outputs. A side has no more records
@@ -98,7 +103,7 @@ fn staged(
     slots: usize,
     out_a: &mut [u8],
     out_b: &mut [u8],
-) -> WrittenPair
+) -> Result<(usize, usize), Refusal>
     requires { Operands na nb a.now b.now × (slots ≤ max_ops) × (min (na + nb) max_ops ≤ slots)
         × (length stage_a.old ≡ start_of_text slots) × (length stage_b.old ≡ start_of_text slots) × (base_of a.now ≡ base_of b.now) }
     ensures { Transforms a.now b.now out_a.old out_b.old result out_a.new
@@ -108,15 +113,11 @@ fn staged(
     let p = steps::inner::sizes(a, b, c);
     let e = p.e;
     let f = p.f;
-    match limits_then_room(e, f, out_a.len(), out_b.len()) {
-        WrittenPair::Refused(x) => WrittenPair::Refused(x),
-        WrittenPair::Bytes(k, l) => {
-            // made anew: with the slices handed on as they came the loop would read them from memory
-            steps::inner::place_with_text(out_a, stage_a, slots, e, &a[..], na);
-            steps::inner::place_with_text(out_b, stage_b, slots, f, &b[..], nb);
-            WrittenPair::Bytes(k, l)
-        }
-    }
+    let (k, l) = limits_then_room(e, f, out_a.len(), out_b.len())?;
+    // made anew: with the slices handed on as they came the loop would read them from memory
+    steps::inner::place_with_text(out_a, stage_a, slots, e, &a[..], na);
+    steps::inner::place_with_text(out_b, stage_b, slots, f, &b[..], nb);
+    Ok((k, l))
 }
 
 // The operations that a stage has places for, and its bytes.
@@ -139,14 +140,14 @@ fn in_small_stages(
     nb: usize,
     out_a: &mut [u8],
     out_b: &mut [u8],
-) -> WrittenPair
+) -> Result<(usize, usize), Refusal>
     requires { Operands na nb a.now b.now × (na + nb ≤ small_ops) × (base_of a.now ≡ base_of b.now) }
     ensures { Transforms a.now b.now out_a.old out_b.old result out_a.new
         out_b.new }
 {
     let mut stage_a = [0u8; SMALL_STAGE];
     let mut stage_b = [0u8; SMALL_STAGE];
-    match staged(
+    staged(
         a,
         na,
         b,
@@ -156,10 +157,7 @@ fn in_small_stages(
         SMALL_OPS,
         out_a,
         out_b,
-    ) {
-        WrittenPair::Bytes(k, l) => WrittenPair::Bytes(k, l),
-        WrittenPair::Refused(x) => WrittenPair::Refused(x),
-    }
+    )
 }
 
 fn in_medium_stages(
@@ -169,14 +167,14 @@ fn in_medium_stages(
     nb: usize,
     out_a: &mut [u8],
     out_b: &mut [u8],
-) -> WrittenPair
+) -> Result<(usize, usize), Refusal>
     requires { Operands na nb a.now b.now × (na + nb ≤ medium_ops) × (base_of a.now ≡ base_of b.now) }
     ensures { Transforms a.now b.now out_a.old out_b.old result out_a.new
         out_b.new }
 {
     let mut stage_a = [0u8; MEDIUM_STAGE];
     let mut stage_b = [0u8; MEDIUM_STAGE];
-    match staged(
+    staged(
         a,
         na,
         b,
@@ -186,10 +184,7 @@ fn in_medium_stages(
         MEDIUM_OPS,
         out_a,
         out_b,
-    ) {
-        WrittenPair::Bytes(k, l) => WrittenPair::Bytes(k, l),
-        WrittenPair::Refused(x) => WrittenPair::Refused(x),
-    }
+    )
 }
 
 fn in_large_stages(
@@ -199,14 +194,14 @@ fn in_large_stages(
     nb: usize,
     out_a: &mut [u8],
     out_b: &mut [u8],
-) -> WrittenPair
+) -> Result<(usize, usize), Refusal>
     requires { Operands na nb a.now b.now × (base_of a.now ≡ base_of b.now) }
     ensures { Transforms a.now b.now out_a.old out_b.old result out_a.new
         out_b.new }
 {
     let mut stage_a = [0u8; LARGE_STAGE];
     let mut stage_b = [0u8; LARGE_STAGE];
-    match staged(
+    staged(
         a,
         na,
         b,
@@ -216,14 +211,16 @@ fn in_large_stages(
         MAX_OPS,
         out_a,
         out_b,
-    ) {
-        WrittenPair::Bytes(k, l) => WrittenPair::Bytes(k, l),
-        WrittenPair::Refused(x) => WrittenPair::Refused(x),
-    }
+    )
 }
 
 // Of two records that were checked.
-pub fn transformed(a: &[u8], b: &[u8], out_a: &mut [u8], out_b: &mut [u8]) -> WrittenPair
+pub fn transformed(
+    a: &[u8],
+    b: &[u8],
+    out_a: &mut [u8],
+    out_b: &mut [u8],
+) -> Result<(usize, usize), Refusal>
     requires { (record_fault a.now ≡ 0) × (record_fault b.now ≡ 0) }
     ensures { Transforms a.now b.now out_a.old out_b.old result out_a.new
         out_b.new }
@@ -231,7 +228,7 @@ pub fn transformed(a: &[u8], b: &[u8], out_a: &mut [u8], out_b: &mut [u8]) -> Wr
     let base_a = reader::inner::base(a);
     let base_b = reader::inner::base(b);
     if base_a != base_b {
-        return WrittenPair::Refused(Refusal::IncompatibleLengths);
+        return Err(Refusal::IncompatibleLengths);
     }
     let na = reader::inner::op_count(a);
     let nb = reader::inner::op_count(b);

@@ -1,12 +1,10 @@
 -- From what the code finds to the answer of undo.
-use Rattle.std.specs.Prelude.{◌≡◌, ℕ, suc, ◌-◌, ◌<◌, ◌≤◌, true, T, List, [], get_or, take, drop}
+use Rattle.std.specs.Prelude.{◌≡◌, ℕ, suc, ◌-◌, ◌<◌, ◌≤◌, true, T, List, [], get_or, take, drop, Result, Option, Err, Some, None}
 use native.Mathlib.Omega.{arith}
 use mathlib.Core.Path.{refl, sym, ap, ◌∙◌}
 use lib.Seq.{drop-cons}
 use borrow.Author.Tests.{le-leb, lt-leb, eq-eqb, ne_eqb}
 use Rattle.buffers.proofs.Tests.{holds}
-use Rattle.characters.specs.declared.Form.{Form}
-use Rattle.characters.specs.declared.Form.TheVariants as form
 use Rattle.characters.specs.Form.{is_well_formed}
 use Rattle.characters.specs.InnerPassed.{form_of}
 use Rattle.characters.specs.Chars.{number_of_chars}
@@ -18,57 +16,51 @@ use Rattle.edits.specs.Invert.{invert}
 use Rattle.answers.specs.Answer.{number, refused}
 use Rattle.answers.specs.declared.Refusal.{Refusal}
 use Rattle.answers.specs.declared.Refusal.TheVariants.{Utf8, Log, Revision, IncompatibleLengths, Room}
-use Rattle.answers.specs.declared.WrittenPair.{WrittenPair}
-use Rattle.answers.specs.declared.WrittenPair.TheVariants as pair
 use Rattle.record.specs.Record.{ops}
 use Rattle.session_log.specs.declared.inner.Scan.{Scan}
-use Rattle.session_log.specs.declared.inner.Scanned.{Scanned}
-use Rattle.session_log.specs.declared.inner.Scanned.TheVariants as scanned
 use Rattle.session_log.specs.Log.{count_of, start_of, readable, revisions}
 use Rattle.session_log.specs.InnerScan.{Found, Scans, ScansTo}
 use Rattle.session_log.proofs.Scanning.{revision_at, revisions_length}
 use Rattle.session.specs.Rows.{play_all}
 use Rattle.session.specs.Session.{inverse_in, undo_fault, undo_call}
 use Rattle.session.proofs.UndoAccepts.{undo_tests, undo_accepts}
-use Rattle.playback_steps.specs.declared.inner.Played.{Played}
-use Rattle.playback_steps.specs.declared.inner.Played.TheVariants as end
 use Rattle.playback_steps.specs.InnerStages.{Stands, Ends}
 use Rattle.playback_steps.proofs.Stages.{ends_short, ends_stand}
 use Rattle.undo.specs.InnerUndoing.{Before, inverse_at, inverse_call, AcceptsInverse, Undoes}
 
 module _ (log : List ℕ) (k : ℕ) (text : List ℕ) (a b : ℕ) (out : List ℕ) where
-  stops : (x : Refusal) (n : ℕ) → number x ≡ suc n → undo_fault log k text a b out ≡ suc n → Undoes log k text a b out (pair.Refused x) log out
+  stops : (x : Refusal) (n : ℕ) → number x ≡ suc n → undo_fault log k text a b out ≡ suc n → Undoes log k text a b out (Err x) log out
   unfolding undo_call
   stops x n e f = record { answer = rw f (ap refused e); log_is = rw f; out_is = rw f }
 
-  pub undo_refused : (x : Refusal) → Undoes log k text a b out (pair.Refused x) log out
+  pub undo_refused : (x : Refusal) → Undoes log k text a b out (Err x) log out
       → (refused (number x) ≡ (undo_call log k text a b out).answer) × (log ≡ (undo_call log k text a b out).out_a) × (out ≡ (undo_call log k text a b out).out_b)
   undo_refused x u = (u.answer, u.log_is, u.out_is)
 
   -- ---- the text and the log
 
-  module _ (v : Form) (pv : v ≡ form_of text) where
-    pub undo_3 : v ≡ form.IllFormed → Undoes log k text a b out (pair.Refused Utf8) log out
+  module _ (v : Option ℕ) (pv : v ≡ form_of text) where
+    pub undo_3 : v ≡ None → Undoes log k text a b out (Err Utf8) log out
     unfolding undo_fault
     undo_3 h = stops Utf8 2 refl (rw (sym (form_ill text v pv h)))
 
-    module _ (c : ℕ) (h : v ≡ form.Chars c) where
+    module _ (c : ℕ) (h : v ≡ Some c) where
       abbrev well : is_well_formed text ≡ true
       well = sym (form_well text v pv h)
 
-      module _ (x : Scanned) (px : Scans log k x) where
-        pub undo_6 : x ≡ scanned.Unreadable → Undoes log k text a b out (pair.Refused Log) log out
+      module _ (x : Option Scan) (px : Scans log k x) where
+        pub undo_6 : x ≡ None → Undoes log k text a b out (Err Log) log out
         unfolding undo_fault
-        undo_6 e = let z : ScansTo log k scanned.Unreadable = rw e at px.scans in stops Log 5 refl (rw (well, z))
+        undo_6 e = let z : ScansTo log k None = rw e at px.scans in stops Log 5 refl (rw (well, z))
 
-        module _ (s : Scan) (e : x ≡ scanned.Of s) where
+        module _ (s : Scan) (e : x ≡ Some s) where
           pub undo_found : Found log k s
           undo_found = rw e at px.scans
 
           abbrev reads : readable log ≡ true
           reads = holds (readable log) undo_found.reads
 
-          pub undo_none : k ≡ 0 → Undoes log k text a b out (pair.Refused Revision) log out
+          pub undo_none : k ≡ 0 → Undoes log k text a b out (Err Revision) log out
           unfolding undo_fault
           undo_none z = stops Revision 6 refl (rw (well, reads, lt-leb 1 k (omega arith)))
 
@@ -76,7 +68,7 @@ module _ (log : List ℕ) (k : ℕ) (text : List ℕ) (a b : ℕ) (out : List �
             some : 1 ≤ k
             some = omega arith
 
-            pub undo_7 : s.count < k → Undoes log k text a b out (pair.Refused Revision) log out
+            pub undo_7 : s.count < k → Undoes log k text a b out (Err Revision) log out
             unfolding undo_fault
             undo_7 l = stops Revision 6 refl (rw (well, reads, le-leb 1 k some, lt-leb k (count_of log) (omega (arith, undo_found.count))))
 
@@ -84,7 +76,7 @@ module _ (log : List ℕ) (k : ℕ) (text : List ℕ) (a b : ℕ) (out : List �
               pub undo_rev : k ≤ count_of log
               undo_rev = omega (arith, undo_found.count)
 
-              pub undo_8 : (c ≡ s.start → ⊥) → Undoes log k text a b out (pair.Refused IncompatibleLengths) log out
+              pub undo_8 : (c ≡ s.start → ⊥) → Undoes log k text a b out (Err IncompatibleLengths) log out
               unfolding undo_fault
               undo_8 d =
                   stops IncompatibleLengths 7 refl
@@ -102,15 +94,15 @@ module _ (log : List ℕ) (k : ℕ) (text : List ℕ) (a b : ℕ) (out : List �
     abbrev before : List Char
     before = play_all earlier (chars text)
 
-    module _ (a' : List ℕ) (y : Played) (g : Ends log (k - 1) text a b a' y) where
-      pub back_short : y ≡ end.Short → Undoes log k text a b out (pair.Refused Room) log out
+    module _ (a' : List ℕ) (y : Option (ℕ × ℕ)) (g : Ends log (k - 1) text a b a' y) where
+      pub back_short : y ≡ None → Undoes log k text a b out (Err Room) log out
       unfolding undo_fault
       back_short q =
           let x = ends_short log (k - 1) text a b a' y g q in
           stops Room 9 refl
           (rw (holds (is_well_formed text) w, holds (readable log) f.reads, le-leb 1 k some, le-leb k (count_of log) rev, eq-eqb (number_of_chars text) (start_of log) d, x))
 
-      module _ (n at : ℕ) (q : y ≡ end.Of n at) where
+      module _ (n at : ℕ) (q : y ≡ Some (n, at)) where
         stands : Stands log (k - 1) text a b a' n at
         stands = ends_stand log (k - 1) text a b a' y g n at q
 
@@ -140,7 +132,7 @@ module _ (log : List ℕ) (k : ℕ) (text : List ℕ) (a b : ℕ) (out : List �
             undo_accepts log k text a b out
             ∙ rw (holds (is_well_formed text) w, holds (readable log) f.reads, le-leb 1 k some, le-leb k (count_of log) rev, eq-eqb (number_of_chars text) (start_of log) d, stands.has_room) refl
 
-        pub back_undoes : (x : WrittenPair) (log' out' : List ℕ) → AcceptsInverse (inverse_at log at (take n a')) k log out x log' out' → Undoes log k text a b out x log' out'
+        pub back_undoes : (x : Result (ℕ × ℕ) Refusal) (log' out' : List ℕ) → AcceptsInverse (inverse_at log at (take n a')) k log out x log' out' → Undoes log k text a b out x log' out'
         back_undoes x log' out' i =
             let z : inverse_call (inverse_at log at (take n a')) k log out ≡ undo_call log k text a b out = ap (λ e. inverse_call e k log out) same_inverse ∙ sym tests in
             record {

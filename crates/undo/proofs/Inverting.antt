@@ -1,5 +1,5 @@
 -- Revision k is inverted on the text before it, and the inverse is accepted.
-use Rattle.std.specs.Prelude.{◌≡◌, ℕ, ◌+◌, ◌-◌, ◌<◌, ◌≤◌, Bool, true, false, T, eqb, leb, List, [], ◌∷◌, ◌++◌, length, take, drop}
+use Rattle.std.specs.Prelude.{◌≡◌, ℕ, ◌+◌, ◌-◌, ◌<◌, ◌≤◌, Bool, true, false, T, eqb, leb, List, [], ◌∷◌, ◌++◌, length, take, drop, Result, Ok, Err}
 use native.Mathlib.Omega.{arith}
 use mathlib.Core.Path.{refl, sym, ap, ap₂, ◌∙◌, subst}
 use mathlib.Core.List.{append-nil}
@@ -12,15 +12,11 @@ use Rattle.edits.specs.Sequence.{Seq}
 use Rattle.edits.specs.Invert.{invert}
 use Rattle.edits.specs.Op.{base}
 use Rattle.edits.proofs.Claims.{invert_built, invert_base}
-use Rattle.answers.specs.Answer.{Answer, number, success, refused, succeeds, needs, or_else, written_of}
+use Rattle.answers.specs.Answer.{Answer, number, success, refused, succeeds, needs, or_else, answer_of}
 use Rattle.answers.specs.InnerGiven.{Gives}
 use Rattle.answers.specs.Output.{writing}
 use Rattle.answers.specs.declared.Refusal.{Refusal}
 use Rattle.answers.specs.declared.Refusal.TheVariants.{Limit}
-use Rattle.answers.specs.declared.Written.{Written}
-use Rattle.answers.specs.declared.Written.TheVariants as written
-use Rattle.answers.specs.declared.WrittenPair.{WrittenPair}
-use Rattle.answers.specs.declared.WrittenPair.TheVariants as pair
 use Rattle.answers.proofs.Outputs.{Wrote, wrote, writing_stops, writing_goes}
 use Rattle.answers.proofs.Refusals.{needs_out}
 use Rattle.record.specs.Layout.{base_of, op_count_of, start_of_text, max_record}
@@ -78,7 +74,7 @@ module _ (inverse : List ℕ) (k : ℕ) (log : List ℕ) (s : Scan) (z : record_
   meets : base_of inverse ≡ s.len
   meets = b ∙ sym (f.len rev)
 
-  pub admit_many : (out : List ℕ) → 256 ≤ s.count → Accepts inverse k log out (pair.Refused Limit) log out
+  pub admit_many : (out : List ℕ) → 256 ≤ s.count → Accepts inverse k log out (Err Limit) log out
   admit_many out h = accepts_many inverse k log out z s f counted (base_of inverse) refl meets h
 
   pub admit_few : s.count < 256 → Admitted inverse k log s
@@ -128,11 +124,11 @@ module _ (log : List ℕ) (k : ℕ) (s : Scan) (at : ℕ) (here : List ℕ) (b :
 
   -- ---- what `inverted` gave
 
-  module _ (buffer : List ℕ) (r : RoomFor e buffer) (w : Written) (buffer' : List ℕ) (g : Gives (deliver 0 (invert (ops part) (chars here)) buffer) w buffer') where
+  module _ (buffer : List ℕ) (r : RoomFor e buffer) (w : Result ℕ Refusal) (buffer' : List ℕ) (g : Gives (deliver 0 (invert (ops part) (chars here)) buffer) w buffer') where
     abbrev fault : ℕ
     fault = or_else 0 (needs (fits e) 9 0)
 
-    answer_is : written_of w ≡ (writing fault (encode e) buffer).answer
+    answer_is : answer_of w ≡ (writing fault (encode e) buffer).answer
     unfolding deliver
     answer_is = g.answer ∙ ap (λ x. (deliver 0 x buffer).answer) inverse_is
 
@@ -140,18 +136,18 @@ module _ (log : List ℕ) (k : ℕ) (s : Scan) (at : ℕ) (here : List ℕ) (b :
     unfolding deliver
     out_is = g.out ∙ ap (λ x. (deliver 0 x buffer).out) inverse_is
 
-    pub inverse_refused : (out : List ℕ) (x : Refusal) → w ≡ written.Refused x → AcceptsInverse e k log out (pair.Refused x) log out
+    pub inverse_refused : (out : List ℕ) (x : Refusal) → w ≡ Err x → AcceptsInverse e k log out (Err x) log out
     unfolding inverse_call
     inverse_refused out x q = go (fits e) refl
       where
         says : refused (number x) ≡ (writing fault (encode e) buffer).answer
-        says = ap written_of (sym q) ∙ answer_is
+        says = ap answer_of (sym q) ∙ answer_is
 
         stopped : Answer → Bool
         stopped (success ns) = false
         stopped (refused n) = true
 
-        go : (y : Bool) → fits e ≡ y → AcceptsInverse e k log out (pair.Refused x) log out
+        go : (y : Bool) → fits e ≡ y → AcceptsInverse e k log out (Err x) log out
         go true p =
             let z : fault ≡ 0 = ap (λ v. or_else 0 (needs v 9 0)) p in
             let f : T (fits e) = rw p tt in
@@ -160,9 +156,9 @@ module _ (log : List ℕ) (k : ℕ) (s : Scan) (at : ℕ) (here : List ℕ) (b :
             let z : fault ≡ 9 = ap (λ v. or_else 0 (needs v 9 0)) p in
             record { answer = rw p (says ∙ sym (writing_stops fault (encode e) buffer 8 z)); log_is = rw p; out_is = rw p }
 
-    module _ (n : ℕ) (q : w ≡ written.Bytes n) where
+    module _ (n : ℕ) (q : w ≡ Ok n) where
       gives : Wrote fault (encode e) buffer
-      gives = wrote fault (encode e) buffer (let z : success (n ∷ []) ≡ (writing fault (encode e) buffer).answer = ap written_of (sym q) ∙ answer_is in subst (λ x. T (succeeds x)) z tt)
+      gives = wrote fault (encode e) buffer (let z : success (n ∷ []) ≡ (writing fault (encode e) buffer).answer = ap answer_of (sym q) ∙ answer_is in subst (λ x. T (succeeds x)) z tt)
 
       in_limits : T (fits e)
       in_limits = (needs_out (fits e) 8 0 gives.no_fault).0
@@ -181,7 +177,7 @@ module _ (log : List ℕ) (k : ℕ) (s : Scan) (at : ℕ) (here : List ℕ) (b :
           ap base_of stands ∙ base_encode e (drop (length (encode e)) buffer)
           ∙ ap base (sym inverse_is) ∙ invert_base (ops part) (chars here) ∙ ops_target part before_fault ∙ this.target ∙ ap (λ i. length_at i log) r
 
-      pub inverse_accepted : (out : List ℕ) (x : WrittenPair) (log' out' : List ℕ) → Accepts buffer' k log out x log' out' → AcceptsInverse e k log out x log' out'
+      pub inverse_accepted : (out : List ℕ) (x : Result (ℕ × ℕ) Refusal) (log' out' : List ℕ) → Accepts buffer' k log out x log' out' → AcceptsInverse e k log out x log' out'
       unfolding inverse_call
       inverse_accepted out x log' out' a =
           let p = holds (fits e) in_limits in

@@ -1,11 +1,10 @@
 -- What the functions of `undo` promise each other. No entry's contract cites this.
-use Rattle.std.specs.Prelude.{◌≡◌, ℕ, ◌-◌, ◌≤◌, T, List, length, drop}
+use Rattle.std.specs.Prelude.{◌≡◌, ℕ, ◌-◌, ◌≤◌, T, List, length, drop, Result}
 use Rattle.characters.specs.Form.{is_well_formed}
 use Rattle.characters.specs.Chars.{number_of_chars}
 use Rattle.characters.specs.Text.{chars}
 use Rattle.edits.specs.Sequence.{Seq}
 use Rattle.edits.specs.Invert.{invert}
-use Rattle.answers.specs.declared.WrittenPair.{WrittenPair}
 use Rattle.answers.specs.Answer.{pair_of, needs, refused, unless_refused}
 use Rattle.answers.specs.Output.{Outs}
 use Rattle.record.specs.Record.{ops, encode, fits}
@@ -13,6 +12,7 @@ use Rattle.session_log.specs.declared.inner.Scan.{Scan}
 use Rattle.session_log.specs.Log.{count_of, place_of, length_at}
 use Rattle.session_log.specs.InnerScan.{Found}
 use Rattle.session.specs.Session.{accept_call, undo_call}
+use Rattle.answers.specs.declared.Refusal.{Refusal}
 
 -- the record of revision k begins at `at`, and `here` is a text that it can be played on
 pub record Before (log : List ℕ) (k : ℕ) (s : Scan) (at : ℕ) (here : List ℕ) : Type 0 where
@@ -38,13 +38,13 @@ unfolding fits encode accept_call
 inverse_call e k log out =
     unless_refused (needs (fits e) 9 0) (λ n. record { answer = refused n; out_a = log; out_b = out }) (accept_call (encode e) k log out)
 
-pub record AcceptsInverse (e : Seq) (k : ℕ) (log out : List ℕ) (x : WrittenPair) (log' out' : List ℕ) : Type 0 where
+pub record AcceptsInverse (e : Seq) (k : ℕ) (log out : List ℕ) (x : Result (ℕ × ℕ) Refusal) (log' out' : List ℕ) : Type 0 where
   pub answer : pair_of x ≡ (inverse_call e k log out).answer
   pub log_is : log' ≡ (inverse_call e k log out).out_a
   pub out_is : out' ≡ (inverse_call e k log out).out_b
 
 -- the answer, the log and the output are undo's
-pub record Undoes (log : List ℕ) (k : ℕ) (text : List ℕ) (a b : ℕ) (out : List ℕ) (x : WrittenPair) (log' out' : List ℕ) : Type 0 where
+pub record Undoes (log : List ℕ) (k : ℕ) (text : List ℕ) (a b : ℕ) (out : List ℕ) (x : Result (ℕ × ℕ) Refusal) (log' out' : List ℕ) : Type 0 where
   pub answer : pair_of x ≡ (undo_call log k text a b out).answer
   pub log_is : log' ≡ (undo_call log k text a b out).out_a
   pub out_is : out' ≡ (undo_call log k text a b out).out_b

@@ -17,38 +17,37 @@ ghost use Rattle.session.specs.Session.{undo_call};
 ghost use Rattle.append.specs.InnerAccepting.{Accepts};
 ghost use Rattle.undo.specs.InnerUndoing.{Before, inverse_at, RoomFor, AcceptsInverse, Undoes};
 
-use answers::{Refusal, Written, WrittenPair};
-use characters::Form;
-use invert::inner::Decided;
-use playback_steps::inner::Played;
+use answers::Refusal;
 use record::inner::MAX_RECORD;
-use session_log::inner::{MAX_REVISIONS, Scan, Scanned};
+use session_log::inner::{MAX_REVISIONS, Scan};
 
 // The inverse's record goes to a buffer, unless 9 or 10 refuses it.
-fn inverted(rec: &[u8], text: &[u8], buffer: &mut [u8]) -> Written
+fn inverted(rec: &[u8], text: &[u8], buffer: &mut [u8]) -> Result<usize, Refusal>
     requires { (record_fault rec.now ≡ 0) × T (is_well_formed text.now) × (number_of_chars text.now ≡ base_of rec.now) }
     ensures { Gives (deliver 0 (invertOf (ops rec.now) (chars_of text.now)) buffer.old) result
         buffer.new }
 {
     let count = reader::inner::op_count(rec);
-    match invert::inner::decide(rec, count, text, buffer.len()) {
-        Decided::Refused(x) => Written::Refused(x),
-        Decided::Fits => Written::Bytes(invert_steps::inner::write_emitted(
-            rec, count, text, buffer,
-        )),
-    }
+    invert::inner::decide(rec, count, text, buffer.len())?;
+    Ok(invert_steps::inner::write_emitted(rec, count, text, buffer))
 }
 
 // The inverse was checked, and its base is the length after revision k. It is accepted as written against k: past no revision or past
 // some, in buffers that are long enough for nearly all. (As `accept` does, whose own functions are inlined there as long as they have one
 // caller.)
-fn admit_inverse(inverse: &[u8], k: u64, log: &mut [u8], s: Scan, out: &mut [u8]) -> WrittenPair
+fn admit_inverse(
+    inverse: &[u8],
+    k: u64,
+    log: &mut [u8],
+    s: Scan,
+    out: &mut [u8],
+) -> Result<(usize, usize), Refusal>
     requires { (record_fault inverse.now ≡ 0) × Found log.old k s × (k ≤ count_of log.old)
         × (base_of inverse.now ≡ length_at k log.old) }
     ensures { Accepts inverse.now k log.old out.old result log.new out.new }
 {
     if MAX_REVISIONS <= s.count {
-        return WrittenPair::Refused(Refusal::Limit);
+        return Err(Refusal::Limit);
     }
     let n = s.count - k as usize;
     if n == 0 {
@@ -66,15 +65,13 @@ fn accept_inverse(
     text: &[u8],
     inverse: &mut [u8],
     out: &mut [u8],
-) -> WrittenPair
+) -> Result<(usize, usize), Refusal>
     requires { Before log.old k s at text.now × RoomFor (inverse_at log.old at text.now) inverse.old }
     ensures { AcceptsInverse (inverse_at log.old at text.now) k log.old out.old result
         log.new out.new }
 {
-    match inverted(&log[at..], text, inverse) {
-        Written::Refused(x) => WrittenPair::Refused(x),
-        Written::Bytes(_) => admit_inverse(inverse, k, log, s, out),
-    }
+    inverted(&log[at..], text, inverse)?;
+    admit_inverse(inverse, k, log, s, out)
 }
 
 // The inverse in a buffer in which every record has a place.
@@ -85,7 +82,7 @@ fn in_own_buffer(
     at: usize,
     text: &[u8],
     out: &mut [u8],
-) -> WrittenPair
+) -> Result<(usize, usize), Refusal>
     requires { Before log.old k s at text.now }
     ensures { AcceptsInverse (inverse_at log.old at text.now) k log.old out.old result
         log.new out.new }
@@ -112,7 +109,7 @@ fn choose_buffer(
     text: &[u8],
     scratch: &mut [u8],
     out: &mut [u8],
-) -> WrittenPair
+) -> Result<(usize, usize), Refusal>
     requires { Before log.old k s at text.now }
     ensures { AcceptsInverse (inverse_at log.old at text.now) k log.old out.old result
         log.new out.new }
@@ -132,16 +129,15 @@ fn take_back(
     a: &mut [u8],
     b: &mut [u8],
     out: &mut [u8],
-) -> WrittenPair
+) -> Result<(usize, usize), Refusal>
     requires { T (is_well_formed text.now) × Found log.old k s × (1 ≤ k) × (k ≤ count_of log.old)
         × (number_of_chars text.now ≡ start_of log.old) }
     ensures { Undoes log.old k text.now (length a.old) (length b.old)
         out.old result log.new out.new }
 {
-    let Played::Of(n, at) = playback_steps::inner::play_first(log, (k - 1) as usize, text, a, b)
-    else {
-        return WrittenPair::Refused(Refusal::Room);
-    };
+    let (n, at) = playback_steps::inner::play_first(log, (k - 1) as usize, text, a, b).ok_or(
+        Refusal::Room,
+    )?;
     choose_buffer(log, k, s, at, &a[..n], b, out)
 }
 
@@ -154,7 +150,7 @@ pub fn undo(
     scratch_a: &mut [u8],
     scratch_b: &mut [u8],
     out: &mut [u8],
-) -> WrittenPair
+) -> Result<(usize, usize), Refusal>
     ensures { (pair_of result ≡ (undo_call log.old k text.now (length scratch_a.old)
         (length scratch_b.old) out.old).answer)
         × (log.new ≡ (undo_call log.old k text.now (length scratch_a.old)
@@ -162,20 +158,16 @@ pub fn undo(
         × (out.new ≡ (undo_call log.old k text.now (length scratch_a.old)
         (length scratch_b.old) out.old).out_b) }
 {
-    let Form::Chars(chars) = utf8::inner::form_of(text) else {
-        return WrittenPair::Refused(Refusal::Utf8);
-    };
-    let Scanned::Of(s) = session_log::inner::read(log, k) else {
-        return WrittenPair::Refused(Refusal::Log);
-    };
+    let chars = utf8::inner::form_of(text).ok_or(Refusal::Utf8)?;
+    let s = session_log::inner::read(log, k).ok_or(Refusal::Log)?;
     if k == 0 {
-        return WrittenPair::Refused(Refusal::Revision);
+        return Err(Refusal::Revision);
     }
     if (s.count as u64) < k {
-        return WrittenPair::Refused(Refusal::Revision);
+        return Err(Refusal::Revision);
     }
     if chars != s.start {
-        return WrittenPair::Refused(Refusal::IncompatibleLengths);
+        return Err(Refusal::IncompatibleLengths);
     }
     take_back(log, k, s, text, scratch_a, scratch_b, out)
 }

@@ -6,7 +6,8 @@ ghost use Rattle.characters.specs.Form.{is_well_formed};
 ghost use Rattle.characters.specs.Order.{byte_order};
 ghost use Rattle.utf8.specs.InnerChars.{CharAt};
 
-use characters::{Form, Lead, Ordering};
+use characters::Lead;
+use std::cmp::Ordering;
 
 pub fn continues(b: u8) -> bool
     ensures { result ≡ is_continuation b }
@@ -14,19 +15,19 @@ pub fn continues(b: u8) -> bool
     counting::inner::is_cont(b)
 }
 
-pub fn form_of(text: &[u8]) -> Form
+pub fn form_of(text: &[u8]) -> Option<usize>
     ensures { result ≡ form_of text.now }
 {
     crate::form_from(text, 0)
 }
 
 // `form_of` for texts that are short and ASCII for the most part, as typed ones are.
-pub fn typed_form(text: &[u8]) -> Form
+pub fn typed_form(text: &[u8]) -> Option<usize>
     ensures { result ≡ form_of text.now }
 {
     let i = ascii::inner::short_run(text);
     if i == text.len() {
-        return Form::Chars(i);
+        return Some(i);
     }
     form_of(text)
 }

@@ -1,20 +1,19 @@
 -- "A step gives the kind and count found there and moves on by one; past the last record, and wherever the record is
 -- refused, it gives the end."
-use Rattle.std.specs.Prelude.{ℕ, zero, suc, ◌+◌, cond, List, [], ◌∷◌, nat_lt}
+use Rattle.std.specs.Prelude.{ℕ, zero, suc, ◌+◌, cond, List, [], ◌∷◌, nat_lt, Option, Some, None}
 use Rattle.answers.specs.Answer.{Answer, success, refused, unless_refused}
 use Rattle.record.specs.Layout.{op_count_of, kind_at, count_at}
 use Rattle.record.specs.Record.{record_fault}
-use Rattle.walker.specs.declared.Found.{Found}
-use Rattle.walker.specs.declared.Found.TheVariants.{Op, End}
+use Rattle.walker.specs.declared.Op.{Op}
 
 -- the end: no numbers
 abbrev pub end : Answer
 end = success []
 
 -- what the code finds, in the paper's numbers
-abbrev pub found_of : Found → Answer
-found_of (Op kind count) = success (kind ∷ count ∷ [])
-found_of End = end
+abbrev pub found_of : Option Op → Answer
+found_of (Some op) = success (op.kind ∷ op.count ∷ [])
+found_of None = end
 
 -- what a step at a position gives
 unfoldable pub step_call : List ℕ → ℕ → Answer

@@ -4,8 +4,6 @@
 ghost use Rattle.std.specs.Prelude.{◌≡◌};
 ghost use Rattle.walker.specs.Walk.{found_of, step_call, next_at};
 
-use answers::Fact;
-
 pub mod inner;
 
 #[derive(Clone, Copy)]
@@ -14,45 +12,39 @@ pub struct Walker<'a> {
     pub at: usize,
 }
 
-// What a step finds: a kind (1 retain, 2 insert, 3 delete) and its count, an insert's in bytes; or the end.
-#[derive(Clone, Copy)]
-pub enum Found {
-    Op { kind: u8, count: u16 },
-    End,
+// What a step finds: a kind (1 retain, 2 insert, 3 delete) and its count, an insert's in bytes. At the end it finds nothing.
+#[derive(Clone, Copy, Debug, PartialEq, Eq)]
+pub struct Op {
+    pub kind: u8,
+    pub count: u16,
 }
 
 // What is found at a position, and the position behind it.
 #[derive(Clone, Copy)]
 struct Moved {
-    step: Found,
+    step: Option<Op>,
     at: usize,
 }
 
 fn move_at(rec: &[u8], at: usize) -> Moved
     ensures { (found_of result.step ≡ step_call rec.now at) × (result.at ≡ next_at rec.now at) }
 {
-    let Fact::Is(_) = operation::check(rec) else {
-        return Moved {
-            step: Found::End,
-            at,
-        };
-    };
+    if operation::check(rec).is_err() {
+        return Moved { step: None, at };
+    }
     let n = reader::inner::op_count(rec);
     if n <= at {
-        return Moved {
-            step: Found::End,
-            at,
-        };
+        return Moved { step: None, at };
     }
     let kind = reader::inner::kind(rec, at);
     let count = reader::inner::count(rec, n, at) as u16;
     Moved {
-        step: Found::Op { kind, count },
+        step: Some(Op { kind, count }),
         at: at + 1,
     }
 }
 
-fn step_at(rec: &[u8], at: usize) -> Found
+fn step_at(rec: &[u8], at: usize) -> Option<Op>
     ensures { found_of result ≡ step_call rec.now at }
 {
     let m = move_at(rec, at);
@@ -68,7 +60,7 @@ impl<'a> Walker<'a> {
     }
 
     // A step: what is found, the walker moved on by one. At the end it stays.
-    pub fn next(&mut self) -> Found
+    pub fn next(&mut self) -> Option<Op>
         ensures { (found_of result ≡ step_call self.old.rec.now self.old.at)
             × ((self.new.rec ≡ self.old.rec)
             × (self.new.at ≡ next_at self.old.rec.now self.old.at)) }
@@ -79,7 +71,7 @@ impl<'a> Walker<'a> {
     }
 
     // What the next step will find.
-    pub fn peek(self) -> Found
+    pub fn peek(self) -> Option<Op>
         ensures { found_of result ≡ step_call self.entry.rec.now self.entry.at }
     {
         step_at(self.rec, self.at)
@@ -87,7 +79,7 @@ impl<'a> Walker<'a> {
 }
 
 // What a walker finds at operation `at`: with plain parameters, for callers that keep the position themselves.
-pub fn step(rec: &[u8], at: usize) -> Found
+pub fn step(rec: &[u8], at: usize) -> Option<Op>
     ensures { found_of result ≡ step_call rec.now at }
 {
     let w = Walker { rec, at };

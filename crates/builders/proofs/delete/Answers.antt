@@ -1,5 +1,5 @@
+use Rattle.std.specs.Prelude.{Err}
 use Rattle.answers.specs.declared.Refusal.TheVariants.{Limit}
-use Rattle.answers.specs.declared.Written.TheVariants as written
 use Rattle.answers.specs.InnerGiven.{Gives}
 use Rattle.record.proofs.Checked.{passed}
 use Rattle.operational_transform.specs.Calls.{delete_call}
@@ -10,7 +10,7 @@ use Rattle.builders.proofs.delete.Goals as goal
 pub returns-then-n-gt-LIMIT : goal.returns-then-n-gt-LIMIT
 unfolding delete_call
 returns-then-n-gt-LIMIT c = let a = c.args in
-    let w : Gives (delete_call a.rec.now a.n a.out.now) (written.Refused Limit) a.out.now = search (passed, record_passed, delete_limit) in
+    let w : Gives (delete_call a.rec.now a.n a.out.now) (Err Limit) a.out.now = search (passed, record_passed, delete_limit) in
     (w.answer, w.out)
 
 pub deleted-requires : goal.deleted-requires
@@ -19,7 +19,7 @@ deleted-requires c = (search passed, search rules)
 pub returns-in-Refused : goal.returns-in-Refused
 unfolding delete_call
 returns-in-Refused c = let a = c.args in
-    let w : Gives (delete_call a.rec.now a.n a.out.now) (written.Refused c.in-Refused.y) a.out.now = search (record_refused) in
+    let w : Gives (delete_call a.rec.now a.n a.out.now) (Err c.in-Refused.y) a.out.now = search (record_refused) in
     (w.answer, w.out)
 
 pub returns-else-n-gt-LIMIT : goal.returns-else-n-gt-LIMIT

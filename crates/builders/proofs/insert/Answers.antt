@@ -1,6 +1,6 @@
+use Rattle.std.specs.Prelude.{Err}
 use Rattle.characters.proofs.Passed.{form_ill, form_holds, form_num}
 use Rattle.answers.specs.declared.Refusal.TheVariants.{Utf8, Limit}
-use Rattle.answers.specs.declared.Written.TheVariants as written
 use Rattle.answers.specs.InnerGiven.{Gives}
 use Rattle.record.proofs.Checked.{passed}
 use Rattle.operational_transform.specs.Calls.{insert_call}
@@ -12,13 +12,13 @@ use Rattle.builders.proofs.insert.Goals as goal
 pub returns-in_default : goal.returns-in_default
 unfolding insert_call
 returns-in_default c = let a = c.args in
-    let w : Gives (insert_call a.rec.now a.text.now a.out.now) (written.Refused Utf8) a.out.now = search (passed, text_ill, form_ill) in
+    let w : Gives (insert_call a.rec.now a.text.now a.out.now) (Err Utf8) a.out.now = search (passed, text_ill, form_ill) in
     (w.answer, w.out)
 
 pub returns-then-text-gt-MAX_SIZE : goal.returns-then-text-gt-MAX_SIZE
 unfolding insert_call
 returns-then-text-gt-MAX_SIZE c = let a = c.args in
-    let w : Gives (insert_call a.rec.now a.text.now a.out.now) (written.Refused Limit) a.out.now = search (passed, text_passed, form_holds, insert_limit) in
+    let w : Gives (insert_call a.rec.now a.text.now a.out.now) (Err Limit) a.out.now = search (passed, text_passed, form_holds, insert_limit) in
     (w.answer, w.out)
 
 pub inserted-requires : goal.inserted-requires
@@ -27,7 +27,7 @@ inserted-requires c = (search passed, search form_holds, search form_num, search
 pub returns-in-Refused : goal.returns-in-Refused
 unfolding insert_call
 returns-in-Refused c = let a = c.args in
-    let w : Gives (insert_call a.rec.now a.text.now a.out.now) (written.Refused c.in-Refused.y) a.out.now = search (text_refused) in
+    let w : Gives (insert_call a.rec.now a.text.now a.out.now) (Err c.in-Refused.y) a.out.now = search (text_refused) in
     (w.answer, w.out)
 
 pub returns-else-text-gt-MAX_SIZE : goal.returns-else-text-gt-MAX_SIZE

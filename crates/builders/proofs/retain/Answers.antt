@@ -1,5 +1,5 @@
+use Rattle.std.specs.Prelude.{Err}
 use Rattle.answers.specs.declared.Refusal.TheVariants.{Limit}
-use Rattle.answers.specs.declared.Written.TheVariants as written
 use Rattle.answers.specs.InnerGiven.{Gives}
 use Rattle.record.proofs.Checked.{passed}
 use Rattle.operational_transform.specs.Calls.{retain_call}
@@ -10,7 +10,7 @@ use Rattle.builders.proofs.retain.Goals as goal
 pub returns-then-n-gt-LIMIT : goal.returns-then-n-gt-LIMIT
 unfolding retain_call
 returns-then-n-gt-LIMIT c = let a = c.args in
-    let w : Gives (retain_call a.rec.now a.n a.out.now) (written.Refused Limit) a.out.now = search (passed, record_passed, retain_limit) in
+    let w : Gives (retain_call a.rec.now a.n a.out.now) (Err Limit) a.out.now = search (passed, record_passed, retain_limit) in
     (w.answer, w.out)
 
 pub retained-requires : goal.retained-requires
@@ -19,7 +19,7 @@ retained-requires c = (search passed, search rules)
 pub returns-in-Refused : goal.returns-in-Refused
 unfolding retain_call
 returns-in-Refused c = let a = c.args in
-    let w : Gives (retain_call a.rec.now a.n a.out.now) (written.Refused c.in-Refused.y) a.out.now = search (record_refused) in
+    let w : Gives (retain_call a.rec.now a.n a.out.now) (Err c.in-Refused.y) a.out.now = search (record_refused) in
     (w.answer, w.out)
 
 pub returns-else-n-gt-LIMIT : goal.returns-else-n-gt-LIMIT

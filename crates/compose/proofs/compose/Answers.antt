@@ -1,4 +1,4 @@
-use Rattle.answers.specs.declared.Written.TheVariants.{Refused}
+use Rattle.std.specs.Prelude.{Err}
 use Rattle.answers.specs.InnerGiven.{Gives}
 use Rattle.record.proofs.Checked.{passed}
 use Rattle.operational_transform.specs.Calls.{compose_call}
@@ -10,5 +10,5 @@ composed_with-requires c = search passed
 
 pub returns-in-Refused : goal.returns-in-Refused
 returns-in-Refused c = let a = c.args in
-    let w : Gives (compose_call a.a.now a.b.now a.out.now) (Refused c.in-Refused.x) a.out.now = search composes_first in
+    let w : Gives (compose_call a.a.now a.b.now a.out.now) (Err c.in-Refused.x) a.out.now = search composes_first in
     (w.answer, w.out)

@@ -1,4 +1,4 @@
-use Rattle.answers.specs.declared.WrittenPair.TheVariants.{Refused}
+use Rattle.std.specs.Prelude.{Err}
 use Rattle.record.proofs.Checked.{passed}
 use Rattle.transform.specs.InnerPairs.{Transforms}
 use Rattle.transform.proofs.Answering.{transforms_first}
@@ -9,5 +9,5 @@ transformed_with-requires c = search passed
 
 pub returns-in-Refused : goal.returns-in-Refused
 returns-in-Refused c = let a = c.args in
-    let w : Transforms a.a.now a.b.now a.out_a.now a.out_b.now (Refused c.in-Refused.x) a.out_a.now a.out_b.now = search transforms_first in
+    let w : Transforms a.a.now a.b.now a.out_a.now a.out_b.now (Err c.in-Refused.x) a.out_a.now a.out_b.now = search transforms_first in
     (w.answer, w.out_a, w.out_b)
