@@ -26,11 +26,12 @@ abbrev pub succeeds : Answer → Bool
 succeeds (success ns) = true
 succeeds (refused n) = false
 
--- the answers of the code, in the paper's numbers
+-- the code's answer, in the paper's numbers: a number that was asked for, or how many bytes were written
 abbrev pub answer_of : Result ℕ Refusal → Answer
 answer_of (Ok n) = success (n ∷ [])
 answer_of (Err x) = refused (number x)
 
+-- whether a sequence has no effect
 abbrev pub noop_of : Result Bool Refusal → Answer
 noop_of (Ok true) = success (1 ∷ [])
 noop_of (Ok false) = success (0 ∷ [])
@@ -50,12 +51,7 @@ abbrev pub unless_refused : {A : Type 0} → ℕ → (ℕ → A) → A → A
 unless_refused zero f x = x
 unless_refused (suc n) f x = f (suc n)
 
--- the code's answer, in the paper's numbers
-abbrev pub answer_of : Result ℕ Refusal → Answer
-answer_of (Ok n) = success (n ∷ [])
-answer_of (Err x) = refused (number x)
-
--- the code's answer, in the paper's numbers
+-- how many bytes were written to either output
 abbrev pub pair_of : Result (ℕ × ℕ) Refusal → Answer
 pair_of (Ok (p, q)) = success (p ∷ q ∷ [])
 pair_of (Err x) = refused (number x)
