@@ -5,7 +5,7 @@ ghost use Rattle.buffers.specs.Lists.{all_of};
 ghost use Rattle.characters.specs.InnerAscii.{word_of, is_ascii, ahead_of, Runs};
 
 // The top bit of each byte of a word: set where the byte is not ASCII.
-const TOP_BITS: u64 = 0x8080_8080_8080_8080;
+pub const TOP_BITS: u64 = 0x8080_8080_8080_8080;
 
 // The eight bytes at `at` as one number, the first lowest: one load.
 pub fn word(text: &[u8], at: usize) -> u64

@@ -12,13 +12,10 @@ ghost use Rattle.json_measure.specs.InnerSizes.{entry_frame, marks_of, sizes_of,
 
 use answers::{Fact, Refusal};
 use inserts::inner::Inserted;
+use json_lists::inner::{BACKSLASH, QUOTATION_MARK};
 use operation::inner::{Entered, Totals};
 use record::inner::{INSERT, RETAIN};
 use tally::inner::Entries;
-
-const QUOTATION_MARK: u8 = 0x22;
-
-const BACKSLASH: u8 = 0x5C;
 
 // How many digits a number has.
 pub fn digits(n: usize) -> usize
@@ -126,12 +123,10 @@ fn frames(rec: &[u8], n: usize) -> usize
     ensures { (result ≡ sum_of entry_frame rec.now n) × (result ≤ 6 * n) }
 {
     let mut sum = 0;
-    let mut k = 0;
-    while k < n {
+    for k in 0..n {
         let kind = layout::inner::kind(rec, k);
         let count = layout::inner::count(rec, n, k);
         sum += frame_bytes(kind, count);
-        k += 1;
     }
     sum
 }
