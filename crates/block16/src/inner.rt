@@ -13,20 +13,7 @@ ghost use Rattle.characters.specs.Chars.{is_continuation};
 pub fn in_range(b: u8, lo: u8, hi: u8) -> bool
     ensures { result ≡ within lo hi b }
 {
-    lo <= b && b <= hi
-}
-
-fn bit(b: bool) -> u8
-    ensures { (result ≡ bit_of b) × (result ≤ 1) }
-{
-    if b { 1 } else { 0 }
-}
-
-// The saturating subtraction: how far b is above `most`.
-fn saturating_sub(b: u8, most: u8) -> u8
-    ensures { result ≡ b - most }
-{
-    if most < b { b - most } else { 0 }
+    (lo..=hi).contains(&b)
 }
 
 fn mask(b: bool) -> u8
@@ -39,14 +26,14 @@ fn mask(b: bool) -> u8
 fn due(p3: u8, p2: u8, p1: u8) -> u8
     ensures { Tells result (due_of p3 p2 p1) }
 {
-    saturating_sub(p1, 0xBF) | saturating_sub(p2, 0xDF) | saturating_sub(p3, 0xEF)
+    p1.saturating_sub(0xBF) | p2.saturating_sub(0xDF) | p3.saturating_sub(0xEF)
 }
 
 // A number that isn't 0 exactly where b neither begins a character nor continues one.
 fn invalid_byte(b: u8) -> u8
     ensures { Tells result (invalid_byte_of b) }
 {
-    mask(b & 0xFE == 0xC0) | saturating_sub(b, 0xF4)
+    mask(b & 0xFE == 0xC0) | b.saturating_sub(0xF4)
 }
 
 // A number that isn't 0 exactly where the second byte is outside of the range that the first asks for.
@@ -88,13 +75,11 @@ pub fn check16(text: &[u8], at: usize) -> Found
 {
     let mut bad: u8 = 0;
     let mut conts: u8 = 0;
-    let mut k = 0;
-    while k < 16 {
+    for k in 0..16 {
         let i = at + k;
         let b = text[i];
         bad = bad | misplaced(text[i - 3], text[i - 2], text[i - 1], b);
         conts += cont_bit(b);
-        k += 1;
     }
     Found { bad, conts }
 }
@@ -104,5 +89,7 @@ pub fn pending(text: &[u8], i: usize) -> u8
     requires { (3 ≤ i) × (i ≤ length text.now) }
     ensures { (result ≡ before pending_of text.now i) × (result ≤ 6) }
 {
-    bit(0xC0 <= text[i - 1]) + 2 * bit(0xE0 <= text[i - 2]) + 3 * bit(0xF0 <= text[i - 3])
+    u8::from(0xC0 <= text[i - 1])
+        + 2 * u8::from(0xE0 <= text[i - 2])
+        + 3 * u8::from(0xF0 <= text[i - 3])
 }

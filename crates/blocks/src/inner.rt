@@ -33,7 +33,7 @@ fn pass(text: &[u8], from: usize, passed: usize) -> Spot
     let mut i = from;
     let mut conts = passed;
     while 16 <= text.len() - i {
-        if ascii::inner::plain(text, i) {
+        if ascii::inner::are_ascii::<2>(text, i) {
             if block16::inner::pending(text, i) != 0 {
                 return Spot { at: i, conts };
             }
@@ -76,7 +76,7 @@ fn ends_ascii(text: &[u8], at: usize) -> bool
     if 8 < text.len() - at {
         return false;
     }
-    if !ascii::inner::eight(text, text.len() - 8) {
+    if !ascii::inner::are_ascii::<1>(text, text.len() - 8) {
         return false;
     }
     block16::inner::pending(text, at) == 0

@@ -2,3 +2,4 @@
 pub mod Over
 pub mod Tests
 pub mod Moves
+pub mod Fronts

@@ -1,34 +1,10 @@
--- A few bytes laid over others, by one move or by two that overlap.
-use Prim.Native.Nat.{ℕ, suc, ◌+◌, ◌≤◌, ◌<◌, ◌-◌}
-use native.Mathlib.Nat.{add-zero}
+-- A few bytes laid over others by two moves that overlap.
+use Prim.Native.Nat.{ℕ, ◌+◌, ◌≤◌, ◌-◌}
 use native.Mathlib.Omega.{arith}
 use mathlib.Core.Path.{◌≡◌, sym, ◌∙◌, ap}
 use mathlib.Core.List.{List, ◌++◌, append_assoc}
-use lib.ListN.{length, get_or, drop, set, length-drop, take, take-append-drop}
-use lib.Seq.{get_or-drop, paste, paste-zero, paste-suc, take-length, take_all, take-take, take-append-add, take-append-le, drop-paste, drop-drop, length-take-le, length_paste_head}
-
-module _ (d : List ℕ) (at : ℕ) (s : List ℕ) (from : ℕ) where
-  -- one byte more
-  step : (j : ℕ) → at + j < length d → from + j < length s → set (paste d at (drop from s) j) (at + j) (get_or s (from + j) 0) ≡ paste d at (drop from s) (suc j)
-  step j h l = rw (← get_or-drop from s j 0) (paste-suc d at (drop from s) j 0 h (simp length-drop (omega arith)))
-
-  pub first_laid : at < length d → from < length s → set d at (get_or s from 0) ≡ paste d at (drop from s) 1
-  first_laid h l =
-      let x : at + 0 ≡ at = add-zero at in
-      let y : from + 0 ≡ from = add-zero from in
-      (λ i. set (paste-zero d at (drop from s) i) (sym x i) (get_or s (sym y i) 0)) ∙ step 0 (omega arith) (omega arith)
-
-  pub two_laid : at + 2 ≤ length d → from + 2 ≤ length s → set (set d at (get_or s from 0)) (at + 1) (get_or s (from + 1) 0) ≡ paste d at (drop from s) 2
-  two_laid h l = rw (first_laid (omega arith) (omega arith)) (step 1 (omega arith) (omega arith))
-
-  pub four_laid : at + 4 ≤ length d → from + 4 ≤ length s
-      → set (set (set (set d at (get_or s from 0)) (at + 1) (get_or s (from + 1) 0)) (at + 2) (get_or s (from + 2) 0)) (at + 3) (get_or s (from + 3) 0) ≡ paste d at (drop from s) 4
-  four_laid h l =
-      rw (two_laid (omega arith) (omega arith), step 2 (omega arith) (omega arith)) (step 3 (omega arith) (omega arith))
-
--- all of the bytes, where there is one or none
-pub laid : (d : List ℕ) (at : ℕ) (s x : List ℕ) (n : ℕ) → length s ≡ n → x ≡ paste d at s n → x ≡ take at d ++ s ++ drop (at + length s) d
-laid d at s x n e p = rw (← e, take-length) at p
+use lib.ListN.{length, drop, length-drop, take, take-append-drop}
+use lib.Seq.{paste, take_all, take-take, take-append-add, take-append-le, drop-paste, drop-drop, length-take-le, length_paste_head}
 
 -- the first w bytes and then the last w
 pub two_moves : (w : ℕ) (d : List ℕ) (at : ℕ) (s x y : List ℕ) → w ≤ length s → length s ≤ w + w → at + length s ≤ length d

@@ -4,18 +4,12 @@ ghost use Rattle.std.specs.Prelude.{◌≡◌, ◌<◌, ◌+◌, ◌^◌, ◌≤
 ghost use Rattle.buffers.specs.Words.{word_at};
 ghost use Rattle.buffers.specs.InnerOver.{over, bytes16};
 
-fn wide(x: u8) -> usize
-    ensures { (result ≡ x) × (result < 256) }
-{
-    x as usize
-}
-
 // Low byte first.
 pub fn word(rec: &[u8], at: usize) -> usize
     requires { at + 1 < length rec.now }
     ensures { (result ≡ word_at rec.now at) × (result < 65536) }
 {
-    wide(rec[at]) + 256 * wide(rec[at + 1])
+    usize::from(u16::from_le_bytes([rec[at], rec[at + 1]]))
 }
 
 pub fn put(out: &mut [u8], at: usize, v: u8)
@@ -30,10 +24,26 @@ pub fn put16(out: &mut [u8], at: usize, v: usize)
     requires { at ≤ 2 ^ 50 }
     ensures { out.new ≡ over at (bytes16 v) out.old }
 {
-    let low = (v % 256) as u8;
-    let high = (v / 256 % 256) as u8;
+    let [low, high] = ((v % 65536) as u16).to_le_bytes();
     put(out, at, low);
     put(out, at + 1, high);
+}
+
+// As many of the bytes src[from..to] as have a place; FEW where they are mostly few.
+fn copy_fitting<const FEW: bool>(out: &mut [u8], at: usize, src: &[u8], from: usize, to: usize)
+    requires { (at ≤ 2 ^ 50) × (from ≤ to) × (to ≤ length src.now) }
+    ensures { out.new ≡ over at (take (to - from) (drop from src.now)) out.old }
+{
+    if out.len() <= at {
+        return;
+    }
+    let len = (to - from).min(out.len() - at);
+    let fitting = &src[from..from + len];
+    if FEW {
+        copy_few(out, at, fitting);
+    } else {
+        copy_into(out, at, fitting);
+    }
 }
 
 // As many of the bytes src[from..to] as have a place.
@@ -41,11 +51,7 @@ pub fn copy(out: &mut [u8], at: usize, src: &[u8], from: usize, to: usize)
     requires { (at ≤ 2 ^ 50) × (from ≤ to) × (to ≤ length src.now) }
     ensures { out.new ≡ over at (take (to - from) (drop from src.now)) out.old }
 {
-    if out.len() <= at {
-        return;
-    }
-    let len = lesser(to - from, out.len() - at);
-    copy_into(out, at, &src[from..from + len]);
+    copy_fitting::<false>(out, at, src, from, to);
 }
 
 // `copy` for what is mostly short. (In the emitter `copy` is inlined into loops, and has to be short itself.)
@@ -53,17 +59,13 @@ pub fn copy_short(out: &mut [u8], at: usize, src: &[u8], from: usize, to: usize)
     requires { (at ≤ 2 ^ 50) × (from ≤ to) × (to ≤ length src.now) }
     ensures { out.new ≡ over at (take (to - from) (drop from src.now)) out.old }
 {
-    if out.len() <= at {
-        return;
-    }
-    let len = lesser(to - from, out.len() - at);
-    copy_few(out, at, &src[from..from + len]);
+    copy_fitting::<true>(out, at, src, from, to);
 }
 
 pub fn lesser(a: usize, b: usize) -> usize
     ensures { result ≡ min a b }
 {
-    if a < b { a } else { b }
+    a.min(b)
 }
 
 pub fn copy_into(dst: &mut [u8], at: usize, src: &[u8])
@@ -71,38 +73,17 @@ pub fn copy_into(dst: &mut [u8], at: usize, src: &[u8])
     ensures { dst.new ≡ take at dst.old ++ src.now ++ drop (at + length src.now)
         dst.old }
 {
-    let mut j = 0;
-    while j < src.len() {
-        dst[at + j] = src[j];
-        j += 1;
-    }
+    dst[at..at + src.len()].copy_from_slice(src);
 }
 
-// Four or two bytes, read before any is written: one move.
-fn four(dst: &mut [u8], at: usize, src: &[u8], from: usize)
-    requires { (at + 4 ≤ length dst.old) × (from + 4 ≤ length src.now) }
-    ensures { dst.new ≡ take at dst.old ++ take 4 (drop from src.now) ++ drop (at + 4)
+// N bytes, read before any is written: one move, where N is 1, 2, 4 or 8.
+pub fn copy_array<const N: usize>(dst: &mut [u8], at: usize, src: &[u8], from: usize)
+    requires { (at + N ≤ length dst.old) × (from + N ≤ length src.now) }
+    ensures { dst.new ≡ take at dst.old ++ take N (drop from src.now) ++ drop (at + N)
         dst.old }
 {
-    let a = src[from];
-    let b = src[from + 1];
-    let c = src[from + 2];
-    let d = src[from + 3];
-    dst[at] = a;
-    dst[at + 1] = b;
-    dst[at + 2] = c;
-    dst[at + 3] = d;
-}
-
-fn two(dst: &mut [u8], at: usize, src: &[u8], from: usize)
-    requires { (at + 2 ≤ length dst.old) × (from + 2 ≤ length src.now) }
-    ensures { dst.new ≡ take at dst.old ++ take 2 (drop from src.now) ++ drop (at + 2)
-        dst.old }
-{
-    let a = src[from];
-    let b = src[from + 1];
-    dst[at] = a;
-    dst[at + 1] = b;
+    let bytes = *src[from..from + N].as_array::<N>().unwrap();
+    dst[at..at + N].copy_from_slice(&bytes);
 }
 
 // `copy_into` for what is mostly short: up to eight bytes are copied by two moves, which may overlap.
@@ -117,16 +98,16 @@ pub fn copy_few(dst: &mut [u8], at: usize, src: &[u8])
         return;
     }
     if 4 <= n {
-        four(dst, at, src, 0);
-        four(dst, at + (n - 4), src, n - 4);
+        copy_array::<4>(dst, at, src, 0);
+        copy_array::<4>(dst, at + (n - 4), src, n - 4);
         return;
     }
     if 2 <= n {
-        two(dst, at, src, 0);
-        two(dst, at + (n - 2), src, n - 2);
+        copy_array::<2>(dst, at, src, 0);
+        copy_array::<2>(dst, at + (n - 2), src, n - 2);
         return;
     }
     if n == 1 {
-        dst[at] = src[0];
+        copy_array::<1>(dst, at, src, 0);
     }
 }

@@ -6,12 +6,16 @@ use borrow.Author.Tests.{lt-ltb, ne_eqb, not-false, leb-true, ltb-true}
 use mathlib.Core.List.{List, [], ◌∷◌}
 use lib.ListN.{get_or, length, take, drop, length-take, length-drop}
 use native.Mathlib.Omega.{arith}
-use lib.Dec.{eqb, lit<, lit≤, leb}
+use lib.Dec.{eqb, lit<, lit≤, leb, ltb}
 use lib.Bits.{bit_and, and_block, bit_or, or_shifted_r}
 use lib.Seq.{get_or-drop, take-add, drop-drop}
-use lib.Pow as Pow
+use Rattle.std.specs.Int.{from_le_bytes}
+use Rattle.std.specs.List.{prefix_len}
+use Rattle.std.proofs.lemmas.List.Sums.{prefix_len-le-length}
+use Rattle.std.proofs.Common.{w64}
 use native.Mathlib.Nat.{zero-add}
 use Rattle.buffers.specs.Lists.{all_of}
+use Rattle.buffers.proofs.Fronts.{all_front}
 use Rattle.buffers.proofs.Tests.{beq_true, holds, known}
 use Rattle.characters.specs.InnerAscii.{is_ascii, word_of, Tops, ahead_of, Runs}
 use Rattle.characters.specs.declared.Lead.TheVariants.{Of}
@@ -68,38 +72,15 @@ word_tops t at x e l h =
     let n : length bs ≡ 8 = simp (length-take, length-drop) (omega arith) in
     record { none = ap₂ (λ y m. eqb (bit_and y (tops m)) 0) e (sym n) ∙ no_tops bs (bytes_take 8 (drop at t) (λ k. rw get_or-drop (h (at + k)))) }
 
--- one more byte on top
-up : (k : ℕ) {y : ℕ} (x b : ℕ) → y ≡ x → x < 2 ^ k → b < 256 → 8 + k ≤ 64 → bit_or y ((b * 2 ^ k) % 2 ^ 64) ≡ b * 2 ^ k + x
-up k x b e l h m = ap₂ bit_or e (Pow.shl_exact 8 k 64 h m) ∙ or_shifted_r b k x l
-
 eight_bytes : (t : List ℕ) (at : ℕ) → at + 8 ≤ length t
     → take 8 (drop at t) ≡ get_or t at 0 ∷ get_or t (at + 1) 0 ∷ get_or t (at + 2) 0 ∷ get_or t (at + 3) 0 ∷ get_or t (at + 4) 0 ∷ get_or t (at + 5) 0 ∷ get_or t (at + 6) 0 ∷ get_or t (at + 7) 0 ∷ []
 eight_bytes t at h =
     let step : (j : ℕ) → j < 8 → drop (at + j) t ≡ get_or t (at + j) 0 ∷ drop (at + suc j) t = λ j l. let e : at + j + 1 ≡ at + suc j = omega arith in next t (at + j) (omega arith) ∙ ap (λ i. get_or t (at + j) 0 ∷ drop i t) e in
     rw (next t at (omega arith), step 1 (lit< tt), step 2 (lit< tt), step 3 (lit< tt), step 4 (lit< tt), step 5 (lit< tt), step 6 (lit< tt), step 7 (lit< tt))
 
-word_bytes : (b₀ b₁ b₂ b₃ b₄ b₅ b₆ b₇ : ℕ) → b₀ < 256 → b₁ < 256 → b₂ < 256 → b₃ < 256 → b₄ < 256 → b₅ < 256 → b₆ < 256 → b₇ < 256
-    → bit_or (bit_or (bit_or (bit_or (bit_or (bit_or (bit_or b₀ ((b₁ * 2 ^ 8) % 2 ^ 64)) ((b₂ * 2 ^ 16) % 2 ^ 64)) ((b₃ * 2 ^ 24) % 2 ^ 64)) ((b₄ * 2 ^ 32) % 2 ^ 64)) ((b₅ * 2 ^ 40) % 2 ^ 64)) ((b₆ * 2 ^ 48) % 2 ^ 64)) ((b₇ * 2 ^ 56) % 2 ^ 64)
-    ≡ word_of (b₀ ∷ b₁ ∷ b₂ ∷ b₃ ∷ b₄ ∷ b₅ ∷ b₆ ∷ b₇ ∷ [])
-word_bytes b₀ b₁ b₂ b₃ b₄ b₅ b₆ b₇ h₀ h₁ h₂ h₃ h₄ h₅ h₆ h₇ =
-    let x₁ = b₁ * 2 ^ 8 + b₀ in
-    let x₂ = b₂ * 2 ^ 16 + x₁ in
-    let x₃ = b₃ * 2 ^ 24 + x₂ in
-    let x₄ = b₄ * 2 ^ 32 + x₃ in
-    let x₅ = b₅ * 2 ^ 40 + x₄ in
-    let x₆ = b₆ * 2 ^ 48 + x₅ in
-    up 56 x₆ b₇ (up 48 x₅ b₆ (up 40 x₄ b₅ (up 32 x₃ b₄ (up 24 x₂ b₃ (up 16 x₁ b₂ (up 8 b₀ b₁ refl (omega arith) h₁ (lit≤ tt)) (omega arith) h₂ (lit≤ tt)) (omega arith) h₃ (lit≤ tt)) (omega arith) h₄ (lit≤ tt)) (omega arith) h₅ (lit≤ tt)) (omega arith) h₆ (lit≤ tt)) (omega arith) h₇ (lit≤ tt)
-    ∙ omega arith
-
-pub word_eight : (t : List ℕ) (at : ℕ) {w₀ w₁ w₂ w₃ w₄ w₅ w₆ w₇ : ℕ}
-    → w₀ ≡ get_or t at 0 → w₁ ≡ get_or t (at + 1) 0 → w₂ ≡ get_or t (at + 2) 0 → w₃ ≡ get_or t (at + 3) 0 → w₄ ≡ get_or t (at + 4) 0 → w₅ ≡ get_or t (at + 5) 0 → w₆ ≡ get_or t (at + 6) 0 → w₇ ≡ get_or t (at + 7) 0
-    → at + 8 ≤ length t → Bytes t
-    → bit_or (bit_or (bit_or (bit_or (bit_or (bit_or (bit_or w₀ ((w₁ * 2 ^ 8) % 2 ^ 64)) ((w₂ * 2 ^ 16) % 2 ^ 64)) ((w₃ * 2 ^ 24) % 2 ^ 64)) ((w₄ * 2 ^ 32) % 2 ^ 64)) ((w₅ * 2 ^ 40) % 2 ^ 64)) ((w₆ * 2 ^ 48) % 2 ^ 64)) ((w₇ * 2 ^ 56) % 2 ^ 64)
-    ≡ word_of (take 8 (drop at t))
-word_eight t at e₀ e₁ e₂ e₃ e₄ e₅ e₆ e₇ h b =
-    rw (e₀, e₁, e₂, e₃, e₄, e₅, e₆, e₇)
-    (word_bytes (get_or t at 0) (get_or t (at + 1) 0) (get_or t (at + 2) 0) (get_or t (at + 3) 0) (get_or t (at + 4) 0) (get_or t (at + 5) 0) (get_or t (at + 6) 0) (get_or t (at + 7) 0) (b at) (b (at + 1)) (b (at + 2)) (b (at + 3)) (b (at + 4)) (b (at + 5)) (b (at + 6)) (b (at + 7))
-    ∙ ap word_of (sym (eight_bytes t at h)))
+-- the bytes as a number, the first lowest
+pub word_read : (t : List ℕ) (at : ℕ) → at + 8 ≤ length t → from_le_bytes w64 (take 8 (drop at t)) ≡ word_of (take 8 (drop at t))
+word_read t at h = rw (eight_bytes t at h) (omega arith)
 
 -- ---- two parts next to each other
 
@@ -109,8 +90,15 @@ parts t at n m = ap (all_of is_ascii) (take-add n m (drop at t)) ∙ all_append 
 pub tops_join : (t : List ℕ) (at n m x y : ℕ) → Tops x (take n (drop at t)) → Tops y (take m (drop (at + n) t)) → Tops (bit_or x y) (take (n + m) (drop at t))
 tops_join t at n m x y p q = record { none = mask_or x y 0x8080_8080_8080_8080 ∙ ap₂ ◌&&◌ p.none q.none ∙ sym (parts t at n m) }
 
-pub words_tops : (t : List ℕ) (at x y : ℕ) → x ≡ word_of (take 8 (drop at t)) → y ≡ word_of (take 8 (drop (at + 8) t)) → at + 16 ≤ length t → Bytes t → Tops (bit_or x y) (take 16 (drop at t))
-words_tops t at x y p q l h = tops_join t at 8 8 x y (word_tops t at x p (omega arith) h) (word_tops t (at + 8) y q (omega arith) h)
+-- no word, and one word more
+pub tops_none : (t : List ℕ) (at : ℕ) → Tops 0 (take 0 (drop at t))
+tops_none t at = record { none = refl }
+
+pub tops_more : (t : List ℕ) (at k x y : ℕ) → Tops x (take (8 * k) (drop at t)) → y ≡ word_of (take 8 (drop (at + 8 * k) t)) → at + 8 * (k + 1) ≤ length t → Bytes t
+    → Tops (bit_or x y) (take (8 * (k + 1)) (drop at t))
+tops_more t at k x y p q l h =
+    let e : 8 * k + 8 ≡ 8 * (k + 1) = omega arith in
+    rw e at (tops_join t at (8 * k) 8 x y p (word_tops t (at + 8 * k) y q (omega arith) h))
 
 -- ---- a run
 
@@ -160,6 +148,15 @@ module _ (t : List ℕ) (at : ℕ) where
   pub runs_one : at < length t → get_or t at 0 < 0x80 → Runs t at (at + 1)
   runs_one h l = runs_some 1 refl (rw (next t at h, ascii (get_or t at 0) l)) (omega arith)
 
+-- the bytes at the front, as far as they are ASCII
+pub runs_front : (t : List ℕ) → Runs t 0 (prefix_len (λ b. ltb b 0x80) t)
+unfolding is_ascii
+runs_front t =
+    let n = prefix_len is_ascii t in
+    let z : n - 0 ≡ n = omega arith in
+    record { above = omega arith; below = prefix_len-le-length is_ascii t; plain = rw z (all_front is_ascii t) }
+
+module _ (t : List ℕ) (at : ℕ) where
   -- each byte of a run
   pub runs_byte : (to k : ℕ) → Runs t at to → at ≤ k → k < to → get_or t k 0 < 0x80
   unfolding is_ascii

@@ -37,38 +37,14 @@ module _ (t : List ℕ) (at lo hi : ℕ) where
   whole_next n h = ap (λ l. whole (take (suc n) l) (Of (suc n) lo hi)) (next t at h)
 
   module _ (a : Bool) (e : a ≡ within lo hi (get_or t at 0)) where
-    first_out : (n : ℕ) → not a ≡ true → at + suc n ≤ length t → false ≡ whole (take (suc n) (drop at t)) (Of (suc n) lo hi)
-    first_out n x h = sym (whole_next n (omega arith) ∙ ap (λ z. z && whole (take n (drop (at + 1) t)) (Of n 0x80 0xBF)) (sym e ∙ not-true a x))
+    pub first_out : (n : ℕ) → a ≡ false → at + suc n ≤ length t → false ≡ whole (take (suc n) (drop at t)) (Of (suc n) lo hi)
+    first_out n x h = sym (whole_next n (omega arith) ∙ ap (λ z. z && whole (take n (drop (at + 1) t)) (Of n 0x80 0xBF)) (sym e ∙ x))
 
-    first_in : (n : ℕ) {b : Bool} → not a ≡ false → at + suc n ≤ length t → b ≡ whole (take n (drop (at + 1) t)) (Of n 0x80 0xBF) → b ≡ whole (take (suc n) (drop at t)) (Of (suc n) lo hi)
-    first_in n x h y = y ∙ sym (whole_next n (omega arith) ∙ ap (λ z. z && whole (take n (drop (at + 1) t)) (Of n 0x80 0xBF)) (sym e ∙ not-false a x))
+    pub first_in : (n : ℕ) {b : Bool} → a ≡ true → at + suc n ≤ length t → b ≡ whole (take n (drop (at + 1) t)) (Of n 0x80 0xBF) → b ≡ whole (take (suc n) (drop at t)) (Of (suc n) lo hi)
+    first_in n x h y = y ∙ sym (whole_next n (omega arith) ∙ ap (λ z. z && whole (take n (drop (at + 1) t)) (Of n 0x80 0xBF)) (sym e ∙ x))
 
     pub only : at + 1 ≤ length t → a ≡ whole (take 1 (drop at t)) (Of 1 lo hi)
     only h = e ∙ sym (whole_next 0 (omega arith) ∙ and-true (within lo hi (get_or t at 0)))
-
-module _ (t : List ℕ) (at lo hi : ℕ) (a : Bool) (e : a ≡ within lo hi (get_or t at 0)) where
-  -- of two
-  pub two_out : not a ≡ true → at + 2 ≤ length t → false ≡ whole (take 2 (drop at t)) (Of 2 lo hi)
-  two_out x h = first_out t at lo hi a e 1 x h
-
-  pub two_in : (b : Bool) → not a ≡ false → at + 2 ≤ length t → b ≡ is_continuation (get_or t (at + 1) 0) → b ≡ whole (take 2 (drop at t)) (Of 2 lo hi)
-  unfolding is_continuation
-  two_in b x h y = first_in t at lo hi a e 1 x h (only t (at + 1) 0x80 0xBF b y (omega arith))
-
-  -- of three
-  pub three_out : not a ≡ true → at + 3 ≤ length t → false ≡ whole (take 3 (drop at t)) (Of 3 lo hi)
-  three_out x h = first_out t at lo hi a e 2 x h
-
-  module _ (b : Bool) (x : not a ≡ false) (h : at + 3 ≤ length t) (f : b ≡ is_continuation (get_or t (at + 1) 0)) where
-    pub second_out : not b ≡ true → false ≡ whole (take 3 (drop at t)) (Of 3 lo hi)
-    unfolding is_continuation
-    second_out y = first_in t at lo hi a e 2 x h (first_out t (at + 1) 0x80 0xBF b f 1 y (omega arith))
-
-    pub three_in : (c : Bool) → not b ≡ false → c ≡ is_continuation (get_or t (at + 2) 0) → c ≡ whole (take 3 (drop at t)) (Of 3 lo hi)
-    unfolding is_continuation
-    three_in c y z =
-        let i : at + 2 ≡ at + 1 + 1 = omega arith in
-        first_in t at lo hi a e 2 x h (first_in t (at + 1) 0x80 0xBF b f 1 y (omega arith) (only t (at + 1 + 1) 0x80 0xBF c (z ∙ ap (λ j. within 0x80 0xBF (get_or t j 0)) i) (omega arith)))
 
 -- a first byte, and what is due behind it
 module _ (t : List ℕ) (i : ℕ) (h : i < length t) {more lo hi : ℕ} (f : lead_from (get_or t i 0) ≡ Of more lo hi) where

@@ -6,7 +6,7 @@ ghost use Rattle.characters.specs.InnerMarks.{marks_of, Further, count_mod255, S
 pub fn is_cont(b: u8) -> bool
     ensures { result ≡ is_continuation b }
 {
-    0x80 <= b && b <= 0xBF
+    (0x80..=0xBF).contains(&b)
 }
 
 // The number of bytes that aren't continuations. A count in one byte is what makes this fast.
@@ -15,12 +15,10 @@ pub fn count_block(text: &[u8]) -> u8
     ensures { (result ≡ number_of_chars text.now) × (result ≤ length text.now) }
 {
     let mut n: u8 = 0;
-    let mut i = 0;
-    while i < text.len() {
-        if !is_cont(text[i]) {
+    for &b in text {
+        if !is_cont(b) {
             n += 1;
         }
-        i += 1;
     }
     n
 }
@@ -31,12 +29,10 @@ fn count(bytes: &[u8]) -> usize
     ensures { (result ≡ number_of_chars bytes.now) × (result ≤ length bytes.now) }
 {
     let mut n: usize = 0;
-    let mut i = 0;
-    while i < bytes.len() {
-        if !is_cont(bytes[i]) {
+    for &b in bytes {
+        if !is_cont(b) {
             n += 1;
         }
-        i += 1;
     }
     n
 }
@@ -48,7 +44,7 @@ pub fn count_in(text: &[u8], at: usize, to: usize) -> usize
 {
     if to - at <= 8 {
         if 8 <= text.len() - at {
-            if ascii::inner::eight(text, at) {
+            if ascii::inner::are_ascii::<1>(text, at) {
                 return to - at;
             }
         }

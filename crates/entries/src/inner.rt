@@ -82,13 +82,11 @@ pub fn tally_wide(rec: &[u8], n: usize) -> Tally
     let first = layout::inner::kind(rec, 0);
     let one = layout::inner::count(rec, n, 0);
     t = add_entry(t, first, one, false);
-    let mut k = 1;
-    while k < n {
+    for k in 1..n {
         let last = layout::inner::kind(rec, k - 1);
         let kind = layout::inner::kind(rec, k);
         let count = layout::inner::count(rec, n, k);
         t = add_entry(t, kind, count, !may_follow(last, kind));
-        k += 1;
     }
     t
 }
@@ -151,13 +149,11 @@ pub fn tally_short(rec: &[u8], n: usize) -> Tally
         clashes: 0,
     };
     let mut last: u8 = 0;
-    let mut k = 0;
-    while k < n {
+    for k in 0..n {
         let kind = layout::inner::kind(rec, k);
         let count = layout::inner::count(rec, n, k) as u32;
         t = add_entry_by_kind(t, last, kind, count);
         last = kind;
-        k += 1;
     }
     t
 }

@@ -60,13 +60,10 @@ pub fn text_at(rec: &[u8], n: usize, k: usize) -> usize
     ensures { Reached rec.now k result }
 {
     let mut at = layout::inner::text_start(n);
-    let mut i = 0;
-    while i < k {
-        let kind = layout::inner::kind(rec, i);
-        if kind == INSERT {
+    for i in 0..k {
+        if layout::inner::kind(rec, i) == INSERT {
             at += layout::inner::count(rec, n, i);
         }
-        i += 1;
     }
     at
 }

@@ -1,2 +1,4 @@
-// Edits as JSON lists (RFC 8259), as document 02 has them: the definitions and their laws. There is no code here.
+// Edits as JSON lists (RFC 8259), as document 02 has them: the definitions and their laws, and the marks of a list.
 #![tactic(auto)]
+
+pub mod inner;

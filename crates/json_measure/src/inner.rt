@@ -11,12 +11,9 @@ ghost use Rattle.json_lists.specs.Written.{decimal, escaped as escapedOf};
 ghost use Rattle.json_measure.specs.InnerSizes.{entry_frame, marks_of, sizes_of, inserts_of, measured_of, measure_call};
 
 use answers::Refusal;
+use json_lists::inner::{BACKSLASH, QUOTATION_MARK};
 use operation::inner::Totals;
 use record::inner::{INSERT, RETAIN};
-
-const QUOTATION_MARK: u8 = 0x22;
-
-const BACKSLASH: u8 = 0x5C;
 
 // How many digits a number has.
 pub fn digits(n: usize) -> usize
@@ -123,12 +120,10 @@ fn frames(rec: &[u8], n: usize) -> usize
     ensures { (result ≡ sum_of entry_frame rec.now n) × (result ≤ 6 * n) }
 {
     let mut sum = 0;
-    let mut k = 0;
-    while k < n {
+    for k in 0..n {
         let kind = layout::inner::kind(rec, k);
         let count = layout::inner::count(rec, n, k);
         sum += frame_bytes(kind, count);
-        k += 1;
     }
     sum
 }

@@ -1,12 +1,13 @@
 // The strings of a JSON list, scanned: plain characters many bytes at a time, and escapes. Each function gives what it found and the
 // place behind it by value; nothing is written.
 ghost use Rattle.std.specs.Prelude.{◌≡◌, ◌+◌, ◌<◌, ◌≤◌, length, take, drop};
+ghost use Rattle.std.specs.List.{prefix_len};
 ghost use Rattle.buffers.specs.Lists.{all_of};
 ghost use Rattle.json_lists.specs.InnerRuns.{Run, Plain};
 ghost use Rattle.json_strings.specs.InnerStrings.{is_plain, Plains};
 
-// The top bit of each byte of a word.
-const TOP_BITS: u64 = 0x8080_8080_8080_8080;
+use ascii::inner::TOP_BITS;
+use json_lists::inner::{BACKSLASH, QUOTATION_MARK};
 
 // In each byte of a word, 9F, 22 and 5C. The difference of 9F and an ASCII code has its top bit set where the code is below 20; that of
 // 80 and two ASCII codes laid over each other exclusively, where the two are the same.
@@ -15,10 +16,6 @@ const BELOW_20: u64 = 0x9F9F_9F9F_9F9F_9F9F;
 const QUOTATION_MARKS: u64 = 0x2222_2222_2222_2222;
 
 const BACKSLASHES: u64 = 0x5C5C_5C5C_5C5C_5C5C;
-
-const QUOTATION_MARK: u8 = 0x22;
-
-const BACKSLASH: u8 = 0x5C;
 
 // Whether the eight bytes at `at` are ASCII that stands for itself in a string.
 pub fn plain_eight(text: &[u8], at: usize) -> bool
@@ -65,19 +62,20 @@ fn by_eight(text: &[u8], at: usize) -> usize
     i
 }
 
+// How many bytes at the front are plain.
+fn plain_front(text: &[u8]) -> usize
+    ensures { result ≡ prefix_len is_plain text.now }
+{
+    text.iter().take_while(|&&b| plain_byte(b)).count()
+}
+
 // The place of the first byte from `at` on that is not plain, or the end.
 fn plain_ascii(text: &[u8], at: usize) -> usize
     requires { at ≤ length text.now }
     ensures { Run is_plain text.now at result }
 {
-    let mut i = by_eight(text, at);
-    while i < text.len() {
-        if !plain_byte(text[i]) {
-            return i;
-        }
-        i += 1;
-    }
-    i
+    let i = by_eight(text, at);
+    i + plain_front(&text[i..])
 }
 
 // The place behind characters that need no escape, and how many they are.

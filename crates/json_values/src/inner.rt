@@ -1,15 +1,13 @@
 // The values of a list, and the white space between them, scanned. Each function gives what it found and the place behind it by value.
 ghost use Rattle.std.specs.Prelude.{◌≡◌, ◌+◌, ◌-◌, ◌*◌, ◌<◌, ◌≤◌, min, length, slice_index};
+ghost use Rattle.std.specs.List.{prefix_len};
 ghost use Rattle.json_lists.specs.Form.{is_white_space, after_minus, after_comma};
 ghost use Rattle.json_lists.specs.InnerRuns.{Run, over_limit};
 ghost use Rattle.json_values.specs.InnerValues.{DigitsAt, ValueFrom, NoSpace, OtherByte};
 
 use json_escapes::inner::Scanned;
+use json_lists::inner::{MINUS, QUOTATION_MARK};
 use record::inner::MAX_SIZE;
-
-const QUOTATION_MARK: u8 = 0x22;
-
-const MINUS: u8 = 0x2D;
 
 fn is_space(b: u8) -> bool
     ensures { result ≡ is_white_space b }
@@ -29,19 +27,19 @@ fn is_space(b: u8) -> bool
     b == 0x09
 }
 
+// How many bytes at the front are white space.
+fn spaces(list: &[u8]) -> usize
+    ensures { result ≡ prefix_len is_white_space list.now }
+{
+    list.iter().take_while(|&&b| is_space(b)).count()
+}
+
 // The place of the first byte from `at` on that is no white space, or the end.
 pub fn after_spaces(list: &[u8], at: usize) -> usize
     requires { at ≤ length list.now }
     ensures { Run is_white_space list.now at result }
 {
-    let mut i = at;
-    while i < list.len() {
-        if !is_space(list[i]) {
-            return i;
-        }
-        i += 1;
-    }
-    i
+    at + spaces(&list[at..])
 }
 
 // The first number over the limit of a record's sizes.
@@ -72,8 +70,7 @@ fn number(list: &[u8], at: usize) -> Digits
     ensures { DigitsAt list.now at result }
 {
     let mut value = (list[at] - 0x30) as usize;
-    let mut i = at + 1;
-    while i < list.len() {
+    for i in at + 1..list.len() {
         let b = list[i];
         if b < 0x30 {
             return Digits { value, to: i };
@@ -82,9 +79,11 @@ fn number(list: &[u8], at: usize) -> Digits
             return Digits { value, to: i };
         }
         value = with_digit(value, (b - 0x30) as usize);
-        i += 1;
     }
-    Digits { value, to: i }
+    Digits {
+        value,
+        to: list.len(),
+    }
 }
 
 // A value: none of the form's; a number, which retains or deletes; or a string, which inserts so many bytes and characters. Each with the

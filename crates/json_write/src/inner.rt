@@ -8,16 +8,8 @@ ghost use Rattle.json_lists.specs.Written.{decimal, written};
 ghost use Rattle.json_write_text.specs.InnerPutting.{Puts};
 ghost use Rattle.json_write.specs.InnerWriting.{negative, value_of, bytes_of_text, marks_behind, left, Steps};
 
+use json_lists::inner::{BEGIN_ARRAY, COMMA, END_ARRAY, MINUS};
 use record::inner::{INSERT, RETAIN};
-
-// The marks of a list.
-const START: u8 = 0x5B;
-
-const END: u8 = 0x5D;
-
-const COMMA: u8 = 0x2C;
-
-const MINUS: u8 = 0x2D;
 
 // A number in decimal: the place behind it.
 fn write_decimal(out: &mut [u8], at: usize, n: usize) -> usize
@@ -25,10 +17,8 @@ fn write_decimal(out: &mut [u8], at: usize, n: usize) -> usize
     ensures { Puts at (decimal n) out.old result out.new }
 {
     let to = at + json_measure::inner::digits(n);
-    let mut i = to;
     let mut rest = n;
-    while at < i {
-        i -= 1;
+    for i in (at..to).rev() {
         out[i] = 0x30 + (rest % 10) as u8;
         rest /= 10;
     }
@@ -70,7 +60,7 @@ fn text_bytes(kind: u8, count: usize) -> usize
 fn mark_behind(last: bool) -> u8
     ensures { result ≡ marks_behind last }
 {
-    if last { END } else { COMMA }
+    if last { END_ARRAY } else { COMMA }
 }
 
 // How far the record was gone through and the list written: the next operation, the place of the next insert's text, and that of the next
@@ -107,9 +97,9 @@ pub fn write_list(out: &mut [u8], rec: &[u8], n: usize)
     requires { (record_fault rec.now ≡ 0) × (n ≡ op_count_of rec.now) × (length (written (ops rec.now)) ≤ length out.old) }
     ensures { out.new ≡ over 0 (written (ops rec.now)) out.old }
 {
-    out[0] = START;
+    out[0] = BEGIN_ARRAY;
     if n == 0 {
-        out[1] = END;
+        out[1] = END_ARRAY;
         return;
     }
     let from = layout::inner::text_start(n);

@@ -9,9 +9,10 @@ use lib.Dec.{ltb, eqb}
 use lib.ListN.{length, set, get_or, take, drop, length-drop}
 use lib.Seq.{take-suc, take-add, drop-drop, length-take-le, get_or-drop}
 use borrow.Author.Tests.{lt-ltb, le-ltb, eq-eqb, ne_eqb}
+use Rattle.std.specs.Int.{from_bool}
 use Rattle.buffers.specs.Lists.{all_of}
 use Rattle.buffers.specs.InnerOver.{over}
-use Rattle.buffers.proofs.Over.{over_nil, put_in}
+use Rattle.buffers.proofs.Over.{over_at, put_in}
 use Rattle.characters.proofs.Bits.{or_zero}
 use Rattle.characters.proofs.Chars.{all_append}
 use Rattle.characters.proofs.Walk.{next}
@@ -84,35 +85,21 @@ module _ (b : ℕ) where
 
 -- ---- eight bytes
 
-module _ (o : List ℕ) (at : ℕ) (s : List ℕ) (from : ℕ) where
-  copied_more : (k : ℕ) {o₁ : List ℕ} → from + k < length s → o₁ ≡ over at (take k (drop from s)) o → set o₁ (at + k) (get_or s (from + k) 0) ≡ over at (take (suc k) (drop from s)) o
-  copied_more k h p =
-      let l : k < length (drop from s) = simp length-drop (omega arith) in
-      laid_more at k (take k (drop from s)) o p (length-take-le k (drop from s) (omega arith)) (get_or s (from + k) 0)
-      ∙ ap (λ b. over at (take k (drop from s) ++ (b ∷ [])) o) (sym (get_or-drop from s k 0))
-      ∙ ap (λ l. over at l o) (sym (take-suc (drop from s) k 0 l))
-
-  copied_one : from < length s → set o at (get_or s from 0) ≡ over at (take 1 (drop from s)) o
-  copied_one h =
-      let x : at ≡ at + 0 = omega arith in
-      let y : from ≡ from + 0 = omega arith in
-      ap₂ (λ i j. set o i (get_or s j 0)) x y ∙ copied_more 0 (omega arith) (sym (over_nil at o))
-
-  pub copied_eight : from + 8 ≤ length s
-      → set (set (set (set (set (set (set (set o at (get_or s from 0)) (at + 1) (get_or s (from + 1) 0)) (at + 2) (get_or s (from + 2) 0)) (at + 3) (get_or s (from + 3) 0)) (at + 4) (get_or s (from + 4) 0)) (at + 5) (get_or s (from + 5) 0)) (at + 6) (get_or s (from + 6) 0)) (at + 7) (get_or s (from + 7) 0)
-      ≡ over at (take 8 (drop from s)) o
-  copied_eight h =
-      let x = copied_more 3 (omega arith) (copied_more 2 (omega arith) (copied_more 1 (omega arith) (copied_one (omega arith)))) in
-      copied_more 7 (omega arith) (copied_more 6 (omega arith) (copied_more 5 (omega arith) (copied_more 4 (omega arith) x)))
+pub eight_laid : (at : ℕ) (s : List ℕ) (from : ℕ) (o o₁ : List ℕ) → from + 8 ≤ length s → at + 8 ≤ length o
+    → o₁ ≡ take at o ++ take 8 (drop from s) ++ drop (at + 8) o → o₁ ≡ over at (take 8 (drop from s)) o
+eight_laid at s from o o₁ h r p =
+    let xs = take 8 (drop from s) in
+    let n : length xs ≡ 8 = length-take-le 8 (drop from s) (simp length-drop (omega arith)) in
+    p ∙ ap (λ k. take at o ++ xs ++ drop (at + k) o) (sym n) ∙ sym (over_at at xs o (omega arith))
 
 -- ---- bytes that stand for themselves
 
-module _ (b x y z : ℕ) (p : x ≡ cond (ltb b 0x20) 1 0) (q : y ≡ cond (eqb b 0x22) 1 0) (r : z ≡ cond (eqb b 0x5C) 1 0) where
+module _ (b x y z : ℕ) (p : x ≡ from_bool (ltb b 0x20)) (q : y ≡ from_bool (eqb b 0x22)) (r : z ≡ from_bool (eqb b 0x5C)) where
   pub special_none : eqb (x + y + z) 0 ≡ is_raw b
   unfolding is_raw
   special_none = rw (p, q, r) (go (eqb b 0x22) (eqb b 0x5C) (ltb b 0x20))
     where
-      go : (e f g : Bool) → eqb (cond g 1 0 + cond e 1 0 + cond f 1 0) 0 ≡ (not e && (not f && not g))
+      go : (e f g : Bool) → eqb (from_bool g + from_bool e + from_bool f) 0 ≡ (not e && (not f && not g))
       go true true true = refl
       go true true false = refl
       go true false true = refl

@@ -1,15 +1,12 @@
 // An inserted text as a string of a list: between quotation marks, escaped where it must be, eight bytes at once where none must. Each byte
 // has its place in the output.
-ghost use Rattle.std.specs.Prelude.{◌≡◌, ◌||◌, cond, ◌+◌, ◌-◌, ◌≤◌, ◌<◌, eqb, length, take, drop};
+ghost use Rattle.std.specs.Prelude.{◌≡◌, ◌||◌, ◌+◌, ◌-◌, ◌≤◌, ◌<◌, eqb, length, take, drop};
 ghost use Rattle.buffers.specs.Lists.{all_of};
-ghost use Rattle.buffers.specs.InnerOver.{over};
 ghost use Rattle.json_lists.specs.Grammar.{is_raw};
 ghost use Rattle.json_lists.specs.Written.{hex_digit_of, escaped, escaped_all};
 ghost use Rattle.json_write_text.specs.InnerPutting.{Puts, quoted};
 
-const QUOTATION_MARK: u8 = 0x22;
-
-const BACKSLASH: u8 = 0x5C;
+use json_lists::inner::{BACKSLASH, QUOTATION_MARK};
 
 // A small hexadecimal digit.
 fn hex_digit(n: u8) -> u8
@@ -66,50 +63,18 @@ fn write_bytes(out: &mut [u8], at: usize, rec: &[u8], from: usize, to: usize) ->
         × (at + length (escaped_all (take (to - from) (drop from rec.now))) ≤ length out.old) }
     ensures { Puts at (escaped_all (take (to - from) (drop from rec.now))) out.old result out.new }
 {
-    let mut i = from;
     let mut end = at;
-    while i < to {
+    for i in from..to {
         end = write_byte(out, end, rec[i]);
-        i += 1;
     }
     end
-}
-
-// Eight bytes, read before any is written: one move.
-fn copy_eight(out: &mut [u8], at: usize, rec: &[u8], from: usize)
-    requires { (at + 8 ≤ length out.old) × (from + 8 ≤ length rec.now) }
-    ensures { out.new ≡ over at (take 8 (drop from rec.now)) out.old }
-{
-    let a = rec[from];
-    let b = rec[from + 1];
-    let c = rec[from + 2];
-    let d = rec[from + 3];
-    let e = rec[from + 4];
-    let f = rec[from + 5];
-    let g = rec[from + 6];
-    let h = rec[from + 7];
-    out[at] = a;
-    out[at + 1] = b;
-    out[at + 2] = c;
-    out[at + 3] = d;
-    out[at + 4] = e;
-    out[at + 5] = f;
-    out[at + 6] = g;
-    out[at + 7] = h;
-}
-
-// 1 where the condition holds, else 0.
-fn one_if(c: bool) -> u8
-    ensures { (result ≡ cond c 1 0) × (result ≤ 1) }
-{
-    if c { 1 } else { 0 }
 }
 
 // 0 where the byte stands for itself in a string.
 fn special(b: u8) -> u8
     ensures { eqb result 0 ≡ is_raw b }
 {
-    one_if(b < 0x20) + one_if(b == QUOTATION_MARK) + one_if(b == BACKSLASH)
+    u8::from(b < 0x20) + u8::from(b == QUOTATION_MARK) + u8::from(b == BACKSLASH)
 }
 
 // Whether eight bytes stand for themselves. It is branch-free, so that the compiler vectorises it.
@@ -130,7 +95,7 @@ fn write_eight(out: &mut [u8], at: usize, rec: &[u8], from: usize) -> usize
     ensures { Puts at (escaped_all (take 8 (drop from rec.now))) out.old result out.new }
 {
     if raw_eight(rec, from) {
-        copy_eight(out, at, rec, from);
+        buffers::inner::copy_array::<8>(out, at, rec, from);
         return at + 8;
     }
     write_bytes(out, at, rec, from, from + 8)

@@ -2,11 +2,11 @@
 // vectorises them: the narrower their numbers, the more entries are done at once. Others are gone through by `entries`.
 ghost use Rattle.std.specs.Prelude.{◌≡◌, ◌+◌, ◌-◌, ◌<◌, ◌≤◌, length};
 ghost use Rattle.record.specs.Layout.{op_count_of, start_of_text, max_ops};
-ghost use Rattle.entries.specs.InnerTally.{HasEntries, picked, entry, Tallied, sum_from, clash_at};
+ghost use Rattle.entries.specs.InnerTally.{HasEntries, entry, Tallied, sum_from, clash_at};
 ghost use Rattle.tally.specs.InnerParts.{parted_by, Parted, Whole};
 ghost use Rattle.tally.specs.InnerSums.{entries_of};
 
-use entries::inner::Tally;
+use entries::inner::{Tally, pick};
 use record::inner::{DELETE, INSERT, RETAIN};
 
 // What the kinds and the counts come to: the bytes inserted, whether all neighbours may stand so, the characters of
@@ -19,19 +19,6 @@ pub struct Sums {
     pub kept: usize,
 }
 
-// n where it counts, else 0.
-fn pick_u16(counts: bool, n: u16) -> u16
-    ensures { (result ≡ picked counts n) × (result ≤ n) }
-{
-    if counts { n } else { 0 }
-}
-
-fn pick_u8(counts: bool, n: u8) -> u8
-    ensures { (result ≡ picked counts n) × (result ≤ n) }
-{
-    if counts { n } else { 0 }
-}
-
 // All counts, or 65,536 where the entries are so few that one pass in 32 bits was measured to be faster.
 fn all_counts(rec: &[u8], n: usize) -> u32
     requires { HasEntries rec.now n }
@@ -41,10 +28,8 @@ fn all_counts(rec: &[u8], n: usize) -> u32
         return TOO_MANY;
     }
     let mut all: u32 = 0;
-    let mut k = 0;
-    while k < n {
+    for k in 0..n {
         all += layout::inner::count(rec, n, k) as u32;
-        k += 1;
     }
     all
 }
@@ -63,12 +48,12 @@ fn add_part(p: Parts, kind: u8, count: usize) -> Parts
     requires { (p.empty ≤ max_ops) × (p.inserts + p.kept + p.deleted + count < 65536) }
     ensures { result ≡ parted_by p (entry kind count) }
 {
-    let c = count as u16;
+    let c = count as u32;
     Parts {
-        empty: p.empty + pick_u16(c == 0, 1),
-        inserts: p.inserts + pick_u16(kind == INSERT, c),
-        kept: p.kept + pick_u16(kind == RETAIN, c),
-        deleted: p.deleted + pick_u16(kind == DELETE, c),
+        empty: p.empty + pick(c == 0, 1) as u16,
+        inserts: p.inserts + pick(kind == INSERT, c) as u16,
+        kept: p.kept + pick(kind == RETAIN, c) as u16,
+        deleted: p.deleted + pick(kind == DELETE, c) as u16,
     }
 }
 
@@ -83,12 +68,10 @@ fn sum_parts(rec: &[u8], n: usize, all: u32) -> Parts
         kept: 0,
         deleted: 0,
     };
-    let mut k = 0;
-    while k < n {
+    for k in 0..n {
         let kind = layout::inner::kind(rec, k);
         let count = layout::inner::count(rec, n, k);
         p = add_part(p, kind, count);
-        k += 1;
     }
     p
 }
@@ -107,12 +90,10 @@ fn clashes_in(rec: &[u8], from: usize, to: usize) -> u8
     ensures { (result ≡ sum_from (clash_at rec.now) (from - 1) (to - from)) × (result ≤ to - from) }
 {
     let mut clashes: u8 = 0;
-    let mut k = from;
-    while k < to {
+    for k in from..to {
         let last = layout::inner::kind(rec, k - 1);
         let kind = layout::inner::kind(rec, k);
-        clashes += pick_u8(!entries::inner::may_follow(last, kind), 1);
-        k += 1;
+        clashes += pick(!entries::inner::may_follow(last, kind), 1) as u8;
     }
     clashes
 }

@@ -52,13 +52,11 @@ pub fn skip(bytes: &[u8], at: usize, k: usize) -> usize
     ensures { result ≡ at + length (take_chars k (drop at bytes.now)) }
 {
     let mut i = at;
-    let mut left = k;
-    while i < bytes.len() {
-        if left == 0 {
+    for _passed in 0..k {
+        if i == bytes.len() {
             return i;
         }
         i += crate::width(bytes[i]);
-        left -= 1;
     }
     i
 }

@@ -9,10 +9,8 @@ pub fn nth(rec: &[u8], k: usize) -> Option<Op>
     ensures { found_of result ≡ step_call rec.now (position_after rec.now k) }
 {
     let mut w = Walker::new(rec);
-    let mut i: usize = 0;
-    while i < k {
+    for _i in 0..k {
         w.next();
-        i += 1;
     }
     w.next()
 }

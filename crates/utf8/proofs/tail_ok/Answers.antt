@@ -1,16 +1,40 @@
-use Rattle.std.specs.Prelude.{◌≡◌}
-use native.Mathlib.Omega.{arith}
-use Rattle.characters.proofs.Steps.{due_none}
+use Rattle.std.proofs.Common.{◌≡◌, ◌+◌, ◌-◌, suc, refl, take, drop, false, arith}
+use Rattle.characters.specs.declared.Lead.TheVariants.{Of}
+use Rattle.characters.specs.Chars.{is_continuation}
+use Rattle.characters.specs.Form.{whole}
+use Rattle.characters.proofs.Steps.{due_none, first_out, first_in, only}
 use Rattle.utf8.proofs.tail_ok.Goals as goal
 
+pub returns-then-more-eq0 : goal.returns-then-more-eq0
+returns-then-more-eq0 c = search due_none
+
+pub returns-then-not-in_range : goal.returns-then-not-in_range
+returns-then-not-in_range c = let a = c.args in
+    let e : suc (a.more - 1) ≡ a.more = omega arith in
+    rw e at (first_out a.text.now a.at a.lo a.hi _ c.in_range.ensures (a.more - 1) c.if-not-in_range.true (omega arith))
+
 pub returns-then-more-eq1 : goal.returns-then-more-eq1
-returns-then-more-eq1 c = rw c.if-more-eq1.true c.one_due.ensures
+returns-then-more-eq1 c = let a = c.args in let t = a.text.now in
+    rw c.if-more-eq1.true (first_in t a.at a.lo a.hi _ c.in_range.ensures 0 c.if-not-in_range.false (omega arith) (due_none t (a.at + 1) 0x80 0xBF 0 refl))
+
+pub returns-then-not-is_cont : goal.returns-then-not-is_cont
+unfolding is_continuation
+returns-then-not-is_cont c = let a = c.args in let t = a.text.now in
+    let e : suc (a.more - 1) ≡ a.more = omega arith in
+    let f : suc (a.more - 2) ≡ a.more - 1 = omega arith in
+    let y : false ≡ whole (take (a.more - 1) (drop (a.at + 1) t)) (Of (a.more - 1) 0x80 0xBF) = rw f at (first_out t (a.at + 1) 0x80 0xBF _ c.is_cont.ensures (a.more - 2) c.if-not-is_cont.true (omega arith)) in
+    rw e at (first_in t a.at a.lo a.hi _ c.in_range.ensures (a.more - 1) c.if-not-in_range.false (omega arith) y)
 
 pub returns-then-more-eq2 : goal.returns-then-more-eq2
-returns-then-more-eq2 c = rw c.if-more-eq2.true c.two_due.ensures
-
-pub returns-then-more-eq3 : goal.returns-then-more-eq3
-returns-then-more-eq3 c = rw c.if-more-eq3.true c.three_due.ensures
+unfolding is_continuation
+returns-then-more-eq2 c = let a = c.args in let t = a.text.now in
+    rw c.if-more-eq2.true (first_in t a.at a.lo a.hi _ c.in_range.ensures 1 c.if-not-in_range.false (omega arith)
+    (first_in t (a.at + 1) 0x80 0xBF _ c.is_cont.ensures 0 c.if-not-is_cont.false (omega arith) (due_none t (a.at + 1 + 1) 0x80 0xBF 0 refl)))
 
 pub returns : goal.returns
-returns c = let z : c.args.more ≡ 0 = omega arith in search due_none
+unfolding is_continuation
+returns c = let a = c.args in let t = a.text.now in
+    let three : a.more ≡ 3 = omega arith in
+    let e : a.at + 1 + 1 ≡ a.at + 2 = omega arith in
+    rw three (first_in t a.at a.lo a.hi _ c.in_range.ensures 2 c.if-not-in_range.false (omega arith)
+    (first_in t (a.at + 1) 0x80 0xBF _ c.is_cont.ensures 1 c.if-not-is_cont.false (omega arith) (rw e (only t (a.at + 2) 0x80 0xBF _ c.is_cont-2.ensures (omega arith)))))

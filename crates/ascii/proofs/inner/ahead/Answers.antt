@@ -5,4 +5,4 @@ pub returns-then-text-at-lt64 : goal.returns-then-text-at-lt64
 returns-then-text-at-lt64 c = simp (lt-leb _ _ c.if-text-at-lt64.true)
 
 pub returns : goal.returns
-returns c = simp (le-leb _ _ c.if-text-at-lt64.false, c.sixty_four.ensures)
+returns c = simp (le-leb _ _ c.if-text-at-lt64.false, c.are_ascii.ensures)

@@ -7,8 +7,8 @@ returns-then-text-lt8 c = search runs_none
 pub returns-then-at-from : goal.returns-then-at-from
 returns-then-at-from c = search runs_none
 
-pub returns-then-not-eight : goal.returns-then-not-eight
-returns-then-not-eight c = search runs_none
+pub returns-then-not-are_ascii : goal.returns-then-not-are_ascii
+returns-then-not-are_ascii c = search runs_none
 
 pub returns : goal.returns
 returns c = search runs_last

@@ -1,6 +1,8 @@
-use native.Mathlib.Omega.{arith}
-use Rattle.characters.proofs.Runs.{word_eight}
+use Rattle.std.proofs.Common.{◌≡◌, ◌∙◌, take, drop, arith, rules}
+use Rattle.characters.proofs.Runs.{word_read}
 use Rattle.ascii.proofs.inner.word.Goals as goal
 
 pub returns : goal.returns
-returns c = word_eight c.args.text.now c.args.at c.wide.ensures c.wide-2.ensures c.wide-3.ensures c.wide-4.ensures c.wide-5.ensures c.wide-6.ensures c.wide-7.ensures c.wide-8.ensures (omega arith) (λ k. omega (arith, c.shared_slice_known-1.given k))
+returns c = let t = c.args.text.now in
+    let e : c.unwrap.result.now ≡ take 8 (drop c.args.at t) = search rules in
+    (rw e at c.from_le_bytes.ensures) ∙ word_read t c.args.at (omega arith)

@@ -7,8 +7,8 @@ use Rattle.blocks.proofs.inner.ends_ascii.Goals as goal
 pub returns-then-text-at-gt8 : goal.returns-then-text-at-gt8
 returns-then-text-at-gt8 c = search only_not
 
-pub returns-then-not-eight : goal.returns-then-not-eight
-returns-then-not-eight c = search only_not
+pub returns-then-not-are_ascii : goal.returns-then-not-are_ascii
+returns-then-not-are_ascii c = search only_not
 
 pub returns : goal.returns
-returns c = only_none _ _ c.pending.ensures.0 (λ z. (runs_last _ _ _ (omega arith) refl (omega arith) (omega arith) c.eight.ensures c.if-not-eight.false-raw, z))
+returns c = only_none _ _ c.pending.ensures.0 (λ z. (runs_last _ _ _ (omega arith) refl (omega arith) (omega arith) c.are_ascii.ensures c.if-not-are_ascii.false-raw, z))

@@ -19,10 +19,10 @@ pub loop-i-smaller-then-ahead : goal.loop-i-smaller-then-ahead
 loop-i-smaller-then-ahead c = let r : Runs c.args.text.now (c.loop-i.i + 16) (c.loop-i.i + 16 + 64) = runs_ahead _ _ c.ahead.ensures c.if-ahead.true (omega arith) in omega arith
 
 pub loop-i-preserved-then-ahead : goal.loop-i-preserved-then-ahead
-loop-i-preserved-then-ahead c = let r : Runs c.args.text.now (c.loop-i.i + 16) (c.loop-i.i + 16 + 64) = runs_ahead _ _ c.ahead.ensures c.if-ahead.true (omega arith) in window_run _ _ _ _ _ c.loop-i.invariant c.pending.ensures.0 (omega arith) (runs_join _ _ _ _ (runs_some _ _ 16 c.plain.ensures c.if-plain.true (omega arith)) (runs_join _ _ _ _ r c.bulk-i.ensures)) (omega arith)
+loop-i-preserved-then-ahead c = let r : Runs c.args.text.now (c.loop-i.i + 16) (c.loop-i.i + 16 + 64) = runs_ahead _ _ c.ahead.ensures c.if-ahead.true (omega arith) in window_run _ _ _ _ _ c.loop-i.invariant c.pending.ensures.0 (omega arith) (runs_join _ _ _ _ (runs_some _ _ 16 c.are_ascii.ensures c.if-are_ascii.true (omega arith)) (runs_join _ _ _ _ r c.bulk-i.ensures)) (omega arith)
 
 pub loop-i-preserved-else-ahead : goal.loop-i-preserved-else-ahead
-loop-i-preserved-else-ahead c = window_run _ _ _ _ _ c.loop-i.invariant c.pending.ensures.0 (omega arith) (runs_join _ _ _ _ (runs_some _ _ 16 c.plain.ensures c.if-plain.true (omega arith)) (runs_none _ _ (omega arith))) (omega arith)
+loop-i-preserved-else-ahead c = window_run _ _ _ _ _ c.loop-i.invariant c.pending.ensures.0 (omega arith) (runs_join _ _ _ _ (runs_some _ _ 16 c.are_ascii.ensures c.if-are_ascii.true (omega arith)) (runs_none _ _ (omega arith))) (omega arith)
 
 pub loop-i-preserved : goal.loop-i-preserved
 loop-i-preserved c = search goes_on

@@ -1,10 +1,7 @@
-use Rattle.std.specs.Prelude.{◌≡◌, ◌-◌, ◌*◌, ◌≤◌}
+use Rattle.std.specs.Prelude.{◌≡◌, ◌*◌, ◌≤◌}
 use Rattle.entries.specs.InnerTally.{sum_of}
 use Rattle.json_measure.specs.InnerSizes.{entry_frame}
 use Rattle.json_measure.proofs.inner.frames.Given as goal
 
 abbrev pub invariant-loop-k : goal.invariant-loop-k
-invariant-loop-k l = (l.k ≤ l.n) × (l.sum ≡ sum_of entry_frame l.rec l.k) × (l.sum ≤ 6 * l.k)
-
-abbrev pub decreases-loop-k : goal.decreases-loop-k
-decreases-loop-k l = l.n - l.k
+invariant-loop-k l = (l.sum ≡ sum_of entry_frame l.rec l.k) × (l.sum ≤ 6 * l.k)

@@ -1,3 +1,4 @@
+use Rattle.std.proofs.Common.{◌≡◌, length, arith}
 use Rattle.json_values.proofs.Numbers.{counted_first, counted_under, counted_over, counted_more, counted_whole}
 use borrow.Author.Rules.{rules}
 use Rattle.json_values.proofs.inner.number.Goals as goal
@@ -15,4 +16,4 @@ pub loop-i-preserved : goal.loop-i-preserved
 loop-i-preserved c = (search counted_more, search rules)
 
 pub returns : goal.returns
-returns c = search counted_whole
+returns c = let e : length c.args.list.now ≡ c.loop-i.i = omega arith in search counted_whole

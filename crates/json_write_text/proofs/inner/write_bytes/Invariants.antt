@@ -1,9 +1,5 @@
-use Prim.Native.Nat.{◌-◌}
 use Rattle.json_write_text.proofs.Texts.{TextLeft}
 use Rattle.json_write_text.proofs.inner.write_bytes.Given as goal
 
 abbrev pub invariant-loop-i : goal.invariant-loop-i
 invariant-loop-i l = TextLeft l.initial.out l.at l.rec l.from l.to l.out l.i l.end
-
-abbrev pub decreases-loop-i : goal.decreases-loop-i
-decreases-loop-i l = l.to - l.i

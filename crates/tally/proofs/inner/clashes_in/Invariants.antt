@@ -3,7 +3,4 @@ use Rattle.entries.specs.InnerTally.{sum_from, clash_at}
 use Rattle.tally.proofs.inner.clashes_in.Given as goal
 
 abbrev pub invariant-loop-k : goal.invariant-loop-k
-invariant-loop-k l = (l.from ≤ l.k) × (l.k - l.from ≤ l.to - l.from) × (l.clashes ≤ l.k - l.from) × (l.clashes ≡ sum_from (clash_at l.rec) (l.from - 1) (l.k - l.from))
-
-abbrev pub decreases-loop-k : goal.decreases-loop-k
-decreases-loop-k l = l.to - l.k
+invariant-loop-k l = (l.k - l.from ≤ l.to - l.from) × (l.clashes ≤ l.k - l.from) × (l.clashes ≡ sum_from (clash_at l.rec) (l.from - 1) (l.k - l.from))
