@@ -8,17 +8,17 @@ use Rattle.record.specs.declared.inner.Kind.TheVariants as kind
 use Rattle.record.specs.declared.inner.Ahead.{Ahead}
 use Rattle.record.specs.declared.inner.Ahead.TheVariants.{End, Retain, Insert, Delete}
 
-pub ends : (k : Ahead) → (k ≡ End) ⊎ (k ≢ End)
-ends End = inl refl
-ends Retain = inr (λ e. cc)
-ends Insert = inr (λ e. cc)
-ends Delete = inr (λ e. cc)
+pub is_end : (k : Ahead) → (k ≡ End) ⊎ (k ≢ End)
+is_end End = inl refl
+is_end Retain = inr (λ e. cc)
+is_end Insert = inr (λ e. cc)
+is_end Delete = inr (λ e. cc)
 
-pub inserts : (k : Ahead) → (k ≡ Insert) ⊎ (k ≢ Insert)
-inserts End = inr (λ e. cc)
-inserts Retain = inr (λ e. cc)
-inserts Insert = inl refl
-inserts Delete = inr (λ e. cc)
+pub is_insert : (k : Ahead) → (k ≡ Insert) ⊎ (k ≢ Insert)
+is_insert End = inr (λ e. cc)
+is_insert Retain = inr (λ e. cc)
+is_insert Insert = inl refl
+is_insert Delete = inr (λ e. cc)
 
 -- the number of a kind
 pub number_retain : (k : Kind) → k ≡ kind.Retain → number_of k ≡ 1
