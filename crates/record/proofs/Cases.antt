@@ -14,6 +14,12 @@ is_end Retain = inr (λ e. cc)
 is_end Insert = inr (λ e. cc)
 is_end Delete = inr (λ e. cc)
 
+pub is_retain : (k : Ahead) → (k ≡ Retain) ⊎ (k ≢ Retain)
+is_retain End = inr (λ e. cc)
+is_retain Retain = inl refl
+is_retain Insert = inr (λ e. cc)
+is_retain Delete = inr (λ e. cc)
+
 pub is_insert : (k : Ahead) → (k ≡ Insert) ⊎ (k ≢ Insert)
 is_insert End = inr (λ e. cc)
 is_insert Retain = inr (λ e. cc)
