@@ -61,7 +61,7 @@ pub fn step(x: Found) -> u64
     ensures { result ≡ step_number (found_of x) }
 {
     match x {
-        Found::Op { kind, count } => kind as u64 + 256 * (count as u64),
+        Found::Op { kind, count } => u8::from(kind) as u64 + 256 * (count as u64),
         Found::End => 0,
     }
 }

@@ -45,3 +45,16 @@ pub no_insert : (k : Kind) → k ≢ kind.Insert → number_of k ≢ 2
 no_insert kind.Retain n e = cc
 no_insert kind.Insert n e = n refl
 no_insert kind.Delete n e = cc
+
+pub same_kind : (a b : Kind) → number_of a ≡ number_of b → a ≡ b
+same_kind kind.Retain kind.Retain e = refl
+same_kind kind.Retain kind.Insert e = cc
+same_kind kind.Retain kind.Delete e = cc
+same_kind kind.Insert kind.Retain e = cc
+same_kind kind.Insert kind.Insert e = refl
+same_kind kind.Insert kind.Delete e = cc
+same_kind kind.Delete kind.Retain e = cc
+same_kind kind.Delete kind.Insert e = cc
+same_kind kind.Delete kind.Delete e = refl
+
+pub ruleset Numbers = (number_retain, number_insert, number_delete, no_retain, no_insert)

@@ -2,6 +2,7 @@
 -- refused, it gives the end."
 use Rattle.std.specs.Prelude.{ℕ, zero, suc, ◌+◌, cond, List, [], ◌∷◌, nat_lt}
 use Rattle.answers.specs.Answer.{Answer, success, refused, unless_refused}
+use Rattle.record.specs.Kinds.{number_of}
 use Rattle.record.specs.Layout.{op_count_of, kind_at, count_at}
 use Rattle.record.specs.Record.{record_fault}
 use Rattle.walker.specs.declared.Found.{Found}
@@ -13,7 +14,7 @@ end = success []
 
 -- what the code finds, in the paper's numbers
 abbrev pub found_of : Found → Answer
-found_of (Op kind count) = success (kind ∷ count ∷ [])
+found_of (Op kind count) = success (number_of kind ∷ count ∷ [])
 found_of End = end
 
 -- what a step at a position gives

@@ -5,6 +5,7 @@ ghost use Rattle.std.specs.Prelude.{◌≡◌};
 ghost use Rattle.walker.specs.Walk.{found_of, step_call, next_at};
 
 use answers::Fact;
+pub use record::inner::Kind;
 
 pub mod inner;
 
@@ -14,10 +15,10 @@ pub struct Walker<'a> {
     pub at: usize,
 }
 
-// What a step finds: a kind (1 retain, 2 insert, 3 delete) and its count, an insert's in bytes; or the end.
+// What a step finds: a kind and its count, an insert's in bytes; or the end.
 #[derive(Clone, Copy)]
 pub enum Found {
-    Op { kind: u8, count: u16 },
+    Op { kind: Kind, count: u16 },
     End,
 }
 
