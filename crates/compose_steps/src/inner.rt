@@ -2,15 +2,14 @@
 ghost use Rattle.std.specs.Prelude.{◌≡◌, ◌^◌, ◌<◌, ◌≤◌, true, [], ◌∷◌};
 ghost use Rattle.edits.specs.Compose.{compose_turn, made};
 ghost use Rattle.edits.specs.Op.{cut};
-ghost use Rattle.record.specs.Layout.{op_count_of};
-ghost use Rattle.record.specs.declared.inner.Ahead.TheVariants.{Retain, Insert, Delete};
+ghost use Rattle.record.specs.Layout.{op_count_of, delete_kind, insert_kind, retain_kind};
 ghost use Rattle.record.specs.InnerFront.{Stands, front_op, Cut};
 ghost use Rattle.emitter.specs.InnerEmit.{Under, Adds};
 ghost use Rattle.steps.specs.declared.inner.Turn.TheVariants.{First, Second, Together};
 ghost use Rattle.steps.specs.InnerSteps.{Operands, Ready, Chooses, Went, live_is};
 
 use emitter::inner::Emitter;
-use record::inner::{Ahead, Front};
+use record::inner::{AT_DELETE, AT_END, AT_INSERT, AT_RETAIN, Front};
 use steps::inner::State;
 
 // A delete of the first goes before all else.
@@ -38,7 +37,7 @@ fn text_of_second(
     k: usize,
     mid: usize,
 ) -> Emitter
-    requires { (n ≤ 2 ^ 40) × Stands b.now f × (f.kind ≡ Insert) × (0 < k) × (k ≤ f.left) × Cut b.now f k mid
+    requires { (n ≤ 2 ^ 40) × Stands b.now f × (f.kind ≡ insert_kind) × (0 < k) × (k ≤ f.left) × Cut b.now f k mid
         × Under (2 ^ 40) e }
     ensures { Adds n (cut k (front_op b.now f) ∷ []) e out.old result out.new }
 {
@@ -57,7 +56,7 @@ fn text_of_first(
     k: usize,
     mid: usize,
 ) -> Emitter
-    requires { (n ≤ 2 ^ 40) × Stands a.now f × (f.kind ≡ Insert) × (0 < k) × (k ≤ f.left) × Cut a.now f k mid
+    requires { (n ≤ 2 ^ 40) × Stands a.now f × (f.kind ≡ insert_kind) × (0 < k) × (k ≤ f.left) × Cut a.now f k mid
         × Under (2 ^ 40) e }
     ensures { Adds n (cut k (front_op a.now f) ∷ []) e out.old result out.new }
 {
@@ -70,7 +69,7 @@ fn text_of_first(
 // An insert of the second.
 fn insert_second(a: &[u8], b: &[u8], nb: usize, out: &mut [u8], n: usize, s: State) -> State
     requires { (nb ≡ op_count_of b.now) × Ready n a.now b.now s × Chooses compose_turn a.now b.now s.x s.y Second
-        × (s.y.kind ≡ Insert) }
+        × (s.y.kind ≡ insert_kind) }
     ensures { Went compose_turn made n a.now b.now s out.old result out.new }
 {
     let x = s.x;
@@ -116,7 +115,7 @@ fn only_first(a: &[u8], na: usize, b: &[u8], out: &mut [u8], n: usize, s: State)
 // As many characters of both: what the first retains, the second retains or deletes.
 fn retained(a: &[u8], na: usize, b: &[u8], nb: usize, out: &mut [u8], n: usize, s: State) -> State
     requires { Operands na nb a.now b.now × Ready n a.now b.now s
-        × Chooses compose_turn a.now b.now s.x s.y Together × (s.x.kind ≡ Retain) }
+        × Chooses compose_turn a.now b.now s.x s.y Together × (s.x.kind ≡ retain_kind) }
     ensures { Went compose_turn made n a.now b.now s out.old result out.new }
 {
     let x = s.x;
@@ -142,7 +141,7 @@ fn insert_retain(
     s: State,
 ) -> State
     requires { Operands na nb a.now b.now × Ready n a.now b.now s
-        × Chooses compose_turn a.now b.now s.x s.y Together × (s.x.kind ≡ Insert) × (s.y.kind ≡ Retain) }
+        × Chooses compose_turn a.now b.now s.x s.y Together × (s.x.kind ≡ insert_kind) × (s.y.kind ≡ retain_kind) }
     ensures { Went compose_turn made n a.now b.now s out.old result out.new }
 {
     let x = s.x;
@@ -167,7 +166,7 @@ fn insert_delete(
     s: State,
 ) -> State
     requires { Operands na nb a.now b.now × Ready n a.now b.now s
-        × Chooses compose_turn a.now b.now s.x s.y Together × (s.x.kind ≡ Insert) × (s.y.kind ≡ Delete) }
+        × Chooses compose_turn a.now b.now s.x s.y Together × (s.x.kind ≡ insert_kind) × (s.y.kind ≡ delete_kind) }
     ensures { Went compose_turn made n a.now b.now s out.old result out.new }
 {
     let x = s.x;
@@ -185,11 +184,15 @@ fn step_both(a: &[u8], na: usize, b: &[u8], nb: usize, out: &mut [u8], n: usize,
     requires { Operands na nb a.now b.now × Ready n a.now b.now s × Chooses compose_turn a.now b.now s.x s.y Together }
     ensures { Went compose_turn made n a.now b.now s out.old result out.new }
 {
-    match (s.x.kind, s.y.kind) {
-        (Ahead::Insert, Ahead::Retain) => insert_retain(a, na, b, nb, out, n, s),
-        (Ahead::Insert, _) => insert_delete(a, na, b, nb, out, n, s),
-        _ => retained(a, na, b, nb, out, n, s),
+    let x = s.x;
+    let y = s.y;
+    if x.kind == AT_INSERT {
+        if y.kind == AT_RETAIN {
+            return insert_retain(a, na, b, nb, out, n, s);
+        }
+        return insert_delete(a, na, b, nb, out, n, s);
     }
+    retained(a, na, b, nb, out, n, s)
 }
 
 // One step. A delete of the first goes before an insert of the second.
@@ -197,11 +200,19 @@ pub fn step(a: &[u8], na: usize, b: &[u8], nb: usize, out: &mut [u8], n: usize, 
     requires { Operands na nb a.now b.now × Ready n a.now b.now s × (live_is s.x s.y ≡ true) }
     ensures { Went compose_turn made n a.now b.now s out.old result out.new }
 {
-    match (s.x.kind, s.y.kind) {
-        (Ahead::Delete, _) => delete_first(a, na, b, out, n, s),
-        (_, Ahead::Insert) => insert_second(a, b, nb, out, n, s),
-        (Ahead::End, _) => only_second(a, b, nb, out, n, s),
-        (_, Ahead::End) => only_first(a, na, b, out, n, s),
-        _ => step_both(a, na, b, nb, out, n, s),
+    let x = s.x;
+    let y = s.y;
+    if x.kind == AT_DELETE {
+        return delete_first(a, na, b, out, n, s);
     }
+    if y.kind == AT_INSERT {
+        return insert_second(a, b, nb, out, n, s);
+    }
+    if x.kind == AT_END {
+        return only_second(a, b, nb, out, n, s);
+    }
+    if y.kind == AT_END {
+        return only_first(a, na, b, out, n, s);
+    }
+    step_both(a, na, b, nb, out, n, s)
 }

@@ -1,5 +1,5 @@
 -- The emitter takes operations as the builders do.
-use Rattle.std.specs.Prelude.{◌≡◌, ℕ, zero, suc, ◌+◌, ◌-◌, ◌^◌, ◌<◌, ◌≤◌, ◌≢◌, Bool, true, false, T, leb, List, [], ◌∷◌, ◌++◌, length, take, drop}
+use Rattle.std.specs.Prelude.{◌≡◌, ℕ, zero, suc, ◌+◌, ◌-◌, ◌^◌, ◌<◌, ◌≤◌, Bool, true, false, T, leb, List, [], ◌∷◌, ◌++◌, length, take, drop}
 use mathlib.Core.Path.{refl, sym, ◌∙◌, ap, ap₂}
 use mathlib.Core.List.{append-nil, append_assoc}
 use native.Mathlib.Omega.{arith}
@@ -21,7 +21,6 @@ use Rattle.edits.proofs.Building.{add_all_append}
 use Rattle.record.specs.Layout.{start_of_text}
 use Rattle.record.specs.Record.{in_bytes, inserted}
 use Rattle.record.specs.declared.inner.Front.{Front}
-use Rattle.record.specs.declared.inner.Ahead.TheVariants.{Retain, Insert}
 use Rattle.record.specs.InnerFront.{front_text, front_op, Stands, Cut}
 use Rattle.reader.proofs.Fronts.{op_retain, op_insert, op_delete, Kinds, retains, inserts, deletes, kinds}
 use Rattle.emitter.specs.InnerEmit.{nothing, texts_of, laid, first, Rep, Under, Adds, group, Fresh, later_insert, later_delete, flushed_ops, flushed, opens, flushed_if_closed, deleted_by, inserted_by, Retains}
@@ -354,51 +353,51 @@ module _ (src : List ℕ) (from to num : ℕ) (room : to ≤ length src) (well :
 
 -- the first k characters of a front's operation
 module _ (r : List ℕ) (f : Front) (k mid : ℕ) (s : Stands r f) (h : k ≤ f.left) (c : Cut r f k mid) where
-  part_text : f.kind ≡ Insert → take (mid - f.from) (drop f.from r) ≡ bytes (take k (chars (front_text r f)))
+  part_text : f.kind ≡ 2 → take (mid - f.from) (drop f.from r) ≡ bytes (take k (chars (front_text r f)))
   unfolding in_bytes
   part_text e = c.first ∙ ap (λ o. inserted (in_bytes (cut k o))) (op_insert r f e)
 
-  part_length : f.kind ≡ Insert → length (take k (chars (front_text r f))) ≡ k
+  part_length : f.kind ≡ 2 → length (take k (chars (front_text r f))) ≡ k
   part_length e = let (w, l) = s.text e in length-take-le k (chars (front_text r f)) (omega (arith, chars_length (front_text r f) w))
 
   pub part_room : mid ≤ length r
   part_room = omega (arith, c.below, s.place.room)
 
-  pub part_well : f.kind ≡ Insert → T (is_well_formed (take (mid - f.from) (drop f.from r)))
+  pub part_well : f.kind ≡ 2 → T (is_well_formed (take (mid - f.from) (drop f.from r)))
   part_well e = rw (part_text e) (bytes_well (take k (chars (front_text r f))))
 
-  pub part_count : f.kind ≡ Insert → k ≡ number_of_chars (take (mid - f.from) (drop f.from r))
+  pub part_count : f.kind ≡ 2 → k ≡ number_of_chars (take (mid - f.from) (drop f.from r))
   part_count e = sym (ap number_of_chars (part_text e) ∙ sym (chars_length _ (bytes_well _)) ∙ ap length (chars_bytes _) ∙ part_length e)
 
   part_wide : length (take (mid - f.from) (drop f.from r)) ≡ mid - f.from
   part_wide = length-take-le (mid - f.from) (drop f.from r) (omega (arith, part_room, length-drop f.from r))
 
-  pub part_small : f.kind ≡ Insert → mid - f.from ≤ 2 ^ 18
+  pub part_small : f.kind ≡ 2 → mid - f.from ≤ 2 ^ 18
   part_small e = let x = take k (chars (front_text r f)) in omega (arith, part_wide, ap length (part_text e), bytes_most x, part_length e, s.small)
 
-  pub part_few : f.kind ≡ Insert → k ≤ 2 ^ 18
+  pub part_few : f.kind ≡ 2 → k ≤ 2 ^ 18
   part_few e = omega (arith, s.small)
 
-  part_some : 0 < k → f.kind ≡ Insert → mid - f.from ≡ 0 → ⊥
+  part_some : 0 < k → f.kind ≡ 2 → mid - f.from ≡ 0 → ⊥
   part_some l e z =
       let x = take k (chars (front_text r f)) in
       absurd (omega (arith, part_wide, ap length (part_text e), bytes_length x, part_length e))
 
   module _ (n : ℕ) (e e' : Emitter) (o o' : List ℕ) where
-    pub part_retain : f.kind ≡ Retain → Retains k e e' → Adds n (cut k (front_op r f) ∷ []) e o e' o
+    pub part_retain : f.kind ≡ 1 → Retains k e e' → Adds n (cut k (front_op r f) ∷ []) e o e' o
     part_retain z a = rw (op_retain r f z) (a.adds n o)
 
-    pub part_inserts : 0 < k → f.kind ≡ Insert → {at : ℕ} {o₁ : List ℕ} → e' ≡ inserted_by (mid - f.from) k e → at ≡ start_of_text n → o₁ ≡ flushed_if_closed n e o
+    pub part_inserts : 0 < k → f.kind ≡ 2 → {at : ℕ} {o₁ : List ℕ} → e' ≡ inserted_by (mid - f.from) k e → at ≡ start_of_text n → o₁ ≡ flushed_if_closed n e o
         → o' ≡ over (at + e.text) (take (mid - f.from) (drop f.from r)) o₁ → Adds n (cut k (front_op r f) ∷ []) e o e' o'
     part_inserts l z w a p q =
         rw (op_insert r f z)
         (rw (part_text z, chars_bytes) at (adds_inserts r f.from mid k part_room (part_well z) (part_count z) n e o (part_small z) (part_some l z) w a p q))
 
-    pub part_deletes : 0 < k → f.kind ≢ Retain → f.kind ≢ Insert → e' ≡ deleted_by k e → o' ≡ flushed_if_closed n e o → Adds n (cut k (front_op r f) ∷ []) e o e' o'
+    pub part_deletes : 0 < k → (f.kind ≡ 1 → ⊥) → (f.kind ≡ 2 → ⊥) → e' ≡ deleted_by k e → o' ≡ flushed_if_closed n e o → Adds n (cut k (front_op r f) ∷ []) e o e' o'
     part_deletes l y z w p = rw (op_delete r f y z) (adds_deletes n k e o (omega (arith, s.small)) (λ v. absurd (omega arith)) w p)
 
     -- where there is no place for text
-    pub mark_inserts : 0 < k → f.kind ≡ Insert → length o ≤ start_of_text n → e' ≡ inserted_by (mid - f.from) k e → o' ≡ flushed_if_closed n e o → length o' ≡ length o → Adds n (cut k (front_op r f) ∷ []) e o e' o'
+    pub mark_inserts : 0 < k → f.kind ≡ 2 → length o ≤ start_of_text n → e' ≡ inserted_by (mid - f.from) k e → o' ≡ flushed_if_closed n e o → length o' ≡ length o → Adds n (cut k (front_op r f) ∷ []) e o e' o'
     mark_inserts l z m w p q = part_inserts l z w refl p (over_behind (start_of_text n + e.text) (take (mid - f.from) (drop f.from r)) o' (omega arith))
 
 -- cut behind its last character, it is whole

@@ -15,7 +15,7 @@ ghost use Rattle.emitter.specs.InnerEmit.{nothing, flushed_if_closed, Under, ope
 ghost use Rattle.emitter.specs.InnerEmit.{inserted_by, deleted_by, Retains, Adds, Finishes, within_limits, size_in, limits_before_room};
 
 use answers::{Refusal, Written};
-use record::inner::{Ahead, Front, MAX_OPS, MAX_SIZE};
+use record::inner::{AT_INSERT, AT_RETAIN, Front, MAX_OPS, MAX_SIZE};
 
 #[derive(Clone, Copy)]
 pub struct Emitter {
@@ -185,11 +185,12 @@ pub fn push(
     requires { (n ≤ 2 ^ 40) × Stands src.now f × (0 < k) × (k ≤ f.left) × Cut src.now f k mid × Under (2 ^ 40) e }
     ensures { Adds n (cut k (front_op src.now f) ∷ []) e out.old result out.new }
 {
-    if let Ahead::Retain = f.kind {
+    let kind = f.kind;
+    if kind == AT_RETAIN {
         return retain(e, k);
     }
     flush_if_closed(out, n, e);
-    if let Ahead::Insert = f.kind {
+    if kind == AT_INSERT {
         let from = f.from;
         buffers::inner::copy(out, layout::inner::text_start(n) + e.text, src, from, mid);
         return inserted(e, mid - from, k);
@@ -211,11 +212,12 @@ pub fn push_without_text(
         × Under (2 ^ 40) e }
     ensures { Adds n (cut k (front_op src.now f) ∷ []) e out.old result out.new }
 {
-    if let Ahead::Retain = f.kind {
+    let kind = f.kind;
+    if kind == AT_RETAIN {
         return retain(e, k);
     }
     write_if_closed(out, n, e);
-    if let Ahead::Insert = f.kind {
+    if kind == AT_INSERT {
         return inserted(e, mid - f.from, k);
     }
     deleted(e, k)

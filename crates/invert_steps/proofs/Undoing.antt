@@ -1,11 +1,12 @@
 -- Places in the text, what undoes an operation there, and the loop over the record's operations.
-use Rattle.std.specs.Prelude.{◌≡◌, ℕ, ◌+◌, ◌-◌, ◌*◌, ◌^◌, ◌<◌, ◌≤◌, ◌≢◌, T, List, [], ◌∷◌, ◌++◌, length, take, drop}
+use Rattle.std.specs.Prelude.{◌≡◌, ℕ, ◌+◌, ◌-◌, ◌*◌, ◌^◌, ◌<◌, ◌≤◌, T, List, [], ◌∷◌, ◌++◌, length, take, drop}
 use Prim.Native.Nat.{zero-le}
 use native.Mathlib.Omega.{arith}
 use mathlib.Core.Path.{refl, ap, sym, ap₂, ◌∙◌}
 use mathlib.Core.List.{append_assoc, append-nil}
 use lib.ListN.{length-append, length-drop, length-take}
 use lib.Seq.{length-take-le}
+use borrow.Author.Tests.{eq-eqb, ne_eqb}
 use Rattle.characters.specs.Form.{is_well_formed}
 use Rattle.characters.specs.Chars.{number_of_chars, take_chars}
 use Rattle.characters.specs.InnerPlaces.{Passes}
@@ -17,46 +18,26 @@ use Rattle.edits.specs.Op.{insert, delete, size, takes, base}
 use Rattle.edits.specs.Sequence.{Seq}
 use Rattle.edits.specs.Invert.{undo, undo_all, invert}
 use Rattle.record.specs.declared.inner.Front.{Front}
-use Rattle.record.specs.declared.inner.Ahead.{Ahead}
-use Rattle.record.specs.declared.inner.Ahead.TheVariants.{End, Retain, Insert, Delete}
 use Rattle.record.specs.Record.{ops, record_fault}
 use Rattle.record.specs.InnerFront.{ahead, Stands, front_op, Loads}
 use Rattle.record.specs.Layout.{op_count_of, max_ops, base_of, start_of_text}
 use Rattle.record.proofs.Records.{ops_base, ops_length}
-use Rattle.reader.proofs.Fronts.{op_insert, front_size, fault_few, some_ahead, ended_ahead}
+use Rattle.reader.proofs.Fronts.{Kinds, retains, inserts, deletes, kinds, front_size, fault_few, some_ahead, ended_ahead}
 use Rattle.emitter.specs.declared.inner.Emitter.{Emitter}
 use Rattle.emitter.specs.InnerEmit.{nothing, Adds, Under, Retains, Finishes, Done, Writes, headed}
 use Rattle.emitter.proofs.Adding.{adds_nil, adds_append, under_start, under_more}
 use Rattle.emitter.proofs.Delivering.{builds}
 use Rattle.invert_in_place.specs.InnerInverting.{inserted_back}
-use Rattle.invert_steps.specs.InnerEmitting.{taken_by, taken, undone_of, undone}
+use Rattle.invert_steps.specs.InnerEmitting.{taken, undone}
 
 -- ---- `after_taken`
 
-takes_left : (f : Front) → f.kind ≢ Insert → taken f ≡ f.left
-takes_left f z = go f.kind z
-  where
-    go : (k : Ahead) → k ≢ Insert → taken_by k f.left ≡ f.left
-    go End z = refl
-    go Retain z = refl
-    go Insert z = absurd (z refl)
-    go Delete z = refl
-
-undone_text : (f : Front) (t : List Char) → f.kind ≢ Retain → f.kind ≢ Insert → undone f t ≡ insert (take f.left t)
-undone_text f t y z = go f.kind y z
-  where
-    go : (k : Ahead) → k ≢ Retain → k ≢ Insert → undone_of k f.left t ≡ insert (take f.left t)
-    go End y z = refl
-    go Retain y z = absurd (y refl)
-    go Insert y z = absurd (z refl)
-    go Delete y z = refl
-
 module _ (t : List ℕ) (at : ℕ) (h : at ≤ length t) (w : T (is_well_formed (drop at t))) (f : Front) where
-  pub stays : f.kind ≡ Insert → Passes t at (taken f) at
-  stays e = rw e (stays_there t at h w)
+  pub stays : f.kind ≡ 2 → Passes t at (taken f) at
+  stays e = rw (eq-eqb f.kind 2 e) (stays_there t at h w)
 
-  pub moves : (to : ℕ) → f.kind ≢ Insert → to ≡ at + length (take_chars f.left (drop at t)) → Passes t at (taken f) to
-  moves to e p = rw (takes_left f e) (skips t at f.left h w to p)
+  pub moves : (to : ℕ) → (f.kind ≡ 2 → ⊥) → to ≡ at + length (take_chars f.left (drop at t)) → Passes t at (taken f) to
+  moves to e p = rw (ne_eqb f.kind 2 e) (skips t at f.left h w to p)
 
 -- ---- `emit_inverse`
 
@@ -68,13 +49,16 @@ module _ (t : List ℕ) (f : Front) (at to : ℕ) (p : Passes t at (taken f) to)
   part_well = rw p.part (bytes_well part)
 
   -- of an operation that takes its characters from the text
-  module _ (z : f.kind ≢ Insert) where
+  module _ (z : f.kind ≡ 2 → ⊥) where
+    takes_left : taken f ≡ f.left
+    takes_left = rw (ne_eqb f.kind 2 z)
+
     -- at most four bytes for each character
     pub part_few : f.left < 65536 → to - at ≤ 2 ^ 18
     part_few s =
         omega (
           arith,
-          takes_left f z,
+          takes_left,
           length-take-le (to - at) (drop at t) (omega (arith, p.below, length-drop at t)),
           ap length p.part,
           bytes_most part,
@@ -85,7 +69,7 @@ module _ (t : List ℕ) (f : Front) (at to : ℕ) (p : Passes t at (taken f) to)
     part_count l =
         omega (
           arith,
-          takes_left f z,
+          takes_left,
           ap number_of_chars p.part,
           chars_length (bytes part) (bytes_well part),
           ap length (chars_bytes part),
@@ -93,39 +77,37 @@ module _ (t : List ℕ) (f : Front) (at to : ℕ) (p : Passes t at (taken f) to)
         )
 
   module _ (n : ℕ) (e : Emitter) (o : List ℕ) (r : Emitter) where
-    pub gives_retain : f.kind ≡ Retain → Retains f.left e r → Adds n (undone f (chars (drop at t)) ∷ []) e o r o
-    gives_retain z a = rw z (a.adds n o)
+    pub gives_retain : f.kind ≡ 1 → Retains f.left e r → Adds n (undone f (chars (drop at t)) ∷ []) e o r o
+    gives_retain z a = rw (eq-eqb f.kind 1 z) (a.adds n o)
 
-    module _ (o' : List ℕ) where
-      pub gives_delete : f.kind ≡ Insert → Adds n (delete f.left ∷ []) e o r o' → Adds n (undone f (chars (drop at t)) ∷ []) e o r o'
-      gives_delete z a = rw z a
+    module _ (y : f.kind ≡ 1 → ⊥) (o' : List ℕ) where
+      pub gives_delete : f.kind ≡ 2 → Adds n (delete f.left ∷ []) e o r o' → Adds n (undone f (chars (drop at t)) ∷ []) e o r o'
+      gives_delete z a = rw (ne_eqb f.kind 1 y, eq-eqb f.kind 2 z) a
 
-      pub gives_insert : f.kind ≢ Retain → f.kind ≢ Insert → Adds n (insert (chars (take (to - at) (drop at t))) ∷ []) e o r o' → Adds n (undone f (chars (drop at t)) ∷ []) e o r o'
-      gives_insert y z a =
+      pub gives_insert : (f.kind ≡ 2 → ⊥) → Adds n (insert (chars (take (to - at) (drop at t))) ∷ []) e o r o' → Adds n (undone f (chars (drop at t)) ∷ []) e o r o'
+      gives_insert z a =
           let x : chars (take (to - at) (drop at t)) ≡ take f.left (chars (drop at t)) =
-          ap chars p.part ∙ chars_bytes part ∙ ap (λ j. take j (chars (drop at t))) (takes_left f z) in
-          rw (undone_text f (chars (drop at t)) y z) (rw x at a)
+          ap chars p.part ∙ chars_bytes part ∙ ap (λ j. take j (chars (drop at t))) (takes_left z) in
+          rw (ne_eqb f.kind 1 y, ne_eqb f.kind 2 z) (rw x at a)
 
 -- ---- a front's operation
 
 module _ (r : List ℕ) (f : Front) (s : Stands r f) where
   taken_is : taken f ≡ takes (front_op r f)
-  taken_is = go f.kind refl
+  taken_is = go (kinds r f)
     where
-      go : (k : Ahead) → f.kind ≡ k → taken f ≡ takes (front_op r f)
-      go End e = rw e
-      go Retain e = rw e
-      go Insert e = rw e
-      go Delete e = rw e
+      go : Kinds r f → taken f ≡ takes (front_op r f)
+      go (retains e p) = rw (eq-eqb f.kind 1 e, ne_eqb f.kind 2 (λ z. absurd (omega arith)))
+      go (inserts e p) = rw (ne_eqb f.kind 1 (λ z. absurd (omega arith)), eq-eqb f.kind 2 e)
+      go (deletes d e p) = rw (ne_eqb f.kind 1 d, ne_eqb f.kind 2 e)
 
   undone_is : (t : List Char) → undone f t ≡ undo (front_op r f) t
-  undone_is t = go f.kind refl
+  undone_is t = go (kinds r f)
     where
-      go : (k : Ahead) → f.kind ≡ k → undone f t ≡ undo (front_op r f) t
-      go End e = rw e
-      go Retain e = rw e
-      go Insert e = rw e (ap delete (sym (front_size r f s) ∙ ap size (op_insert r f e)))
-      go Delete e = rw e
+      go : Kinds r f → undone f t ≡ undo (front_op r f) t
+      go (retains e p) = rw (eq-eqb f.kind 1 e)
+      go (inserts e p) = rw (ne_eqb f.kind 1 (λ z. absurd (omega arith)), eq-eqb f.kind 2 e) (ap delete (sym (front_size r f s) ∙ ap size p))
+      go (deletes d e p) = rw (ne_eqb f.kind 1 d, ne_eqb f.kind 2 e)
 
 -- ---- `write_emitted`
 
@@ -163,13 +145,13 @@ module _ (n : ℕ) (r t out : List ℕ) (f : Front) (at : ℕ) (e : Emitter) (o 
   going_room = under_more (2 ^ 39) (2 ^ 40) e (omega arith) going_under
 
   -- an operation stands in front
-  module _ (k : f.kind ≢ End) where
+  module _ (k : f.kind ≡ 0 → ⊥) where
     pub going_takes : taken f ≤ length (chars (drop at t))
-    going_takes = omega (arith, g.takes_all, ap base (some_ahead r f (g.stands.some k)), taken_is r f g.stands)
+    going_takes = omega (arith, g.takes_all, ap base (some_ahead r f (g.stands.some (omega arith))), taken_is r f g.stands)
 
     module _ (h : Front) (l : Loads r f.next f.to h) where
       next : ahead r f ≡ front_op r f ∷ ahead r h
-      next = some_ahead r f (g.stands.some k) ∙ ap (λ s. front_op r f ∷ s) (sym l.has)
+      next = some_ahead r f (g.stands.some (omega arith)) ∙ ap (λ s. front_op r f ∷ s) (sym l.has)
 
       pub going_less : length (ahead r h) < length (ahead r f)
       going_less = omega (arith, ap length next)
@@ -193,7 +175,7 @@ module _ (n : ℕ) (r t out : List ℕ) (f : Front) (at : ℕ) (e : Emitter) (o 
           }
 
   -- nothing lies ahead any more
-  module _ (k : f.kind ≡ End) (e' : Emitter) (o' : List ℕ) (h : Finishes n e o e' o') where
+  module _ (k : f.kind ≡ 0) (e' : Emitter) (o' : List ℕ) (h : Finishes n e o e' o') where
     all_done : Done n (invert (ops r) (chars t)) out e' o'
     unfolding invert
     all_done =

@@ -16,17 +16,17 @@ ghost use Rattle.invert_in_place.specs.InnerInverting.{inserted_back};
 ghost use Rattle.invert_steps.specs.InnerEmitting.{taken, undone};
 
 use emitter::inner::Emitter;
-use record::inner::{Ahead, Front};
+use record::inner::{AT_END, AT_INSERT, AT_RETAIN, Front};
 
 // The place in the text behind what the operation takes from it.
 fn after_taken(text: &[u8], at: usize, f: Front) -> usize
     requires { (at ≤ length text.now) × T (is_well_formed (drop at text.now)) }
     ensures { Passes text.now at (taken f) result }
 {
-    match f.kind {
-        Ahead::Insert => at,
-        _ => utf8::inner::skip(text, at, f.left),
+    if f.kind == AT_INSERT {
+        return at;
     }
+    utf8::inner::skip(text, at, f.left)
 }
 
 // What undoes the operation, which takes text[at..to], is emitted.
@@ -43,11 +43,13 @@ fn emit_inverse(
         × (taken f ≤ length (chars_of (drop at text.now))) }
     ensures { Adds n (undone f (chars_of (drop at text.now)) ∷ []) e out.old result out.new }
 {
-    match f.kind {
-        Ahead::Retain => emitter::inner::retain(e, f.left),
-        Ahead::Insert => emitter::inner::delete(out, n, e, f.left),
-        _ => emitter::inner::insert(out, n, e, text, at, to, f.left),
+    if f.kind == AT_RETAIN {
+        return emitter::inner::retain(e, f.left);
     }
+    if f.kind == AT_INSERT {
+        return emitter::inner::delete(out, n, e, f.left);
+    }
+    emitter::inner::insert(out, n, e, text, at, to, f.left)
 }
 
 // The inverse's record is written with places for `count` operations, all of it that has a place in the output, and the size of such a
@@ -61,7 +63,7 @@ pub fn write_emitted(rec: &[u8], count: usize, text: &[u8], out: &mut [u8]) -> u
     let mut e = emitter::inner::new_emitter();
     let mut f = reader::inner::first_front(rec, count);
     let mut at = 0;
-    while f.kind != Ahead::End {
+    while f.kind != AT_END {
         let to = after_taken(text, at, f);
         e = emit_inverse(text, out, count, e, f, at, to);
         f = reader::inner::load(rec, count, f.next, f.to);

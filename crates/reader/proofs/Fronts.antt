@@ -1,11 +1,11 @@
 -- Fronts: loaded, cut, and what stays of them.
-use Rattle.std.specs.Prelude.{◌≡◌, ℕ, zero, suc, ◌+◌, ◌-◌, ◌<◌, ◌≤◌, ◌≢◌, ◌⊎◌, T, List, [], ◌∷◌, ◌++◌, map, length, take, drop}
+use Rattle.std.specs.Prelude.{◌≡◌, ℕ, zero, suc, ◌+◌, ◌-◌, ◌<◌, ◌≤◌, Bool, true, false, T, eqb, List, [], ◌∷◌, ◌++◌, map, length, take, drop}
 use Prim.Native.Nat.{zero-le}
 use native.Mathlib.Nat.{sub-zero, zero-add}
 use native.Mathlib.Omega.{arith}
 use mathlib.Core.Path.{ap, ◌∙◌, refl, sym, ap₂, subst}
 use lib.ListN.{length-take, length-drop, length-append}
-use mathlib.Core.Logic.{inl, inr}
+use borrow.Author.Tests.{eq-eqb, ne_eqb, eqb-true, eqb-false}
 use lib.Seq.{length-take-le, take_all, take-take, drop-drop, take_at, drop_at}
 use Rattle.buffers.specs.Lists.{all_of, concat}
 use Rattle.buffers.proofs.Tests.{both, holds}
@@ -13,20 +13,14 @@ use Rattle.characters.specs.Text.{chars, Char, bytes}
 use Rattle.characters.specs.Form.{within, is_well_formed}
 use Rattle.characters.specs.Chars.{number_of_chars, chars_of, take_chars}
 use Rattle.characters.proofs.Texts.{chars_length, bytes_chars, bytes_take, bytes_split, chars_bytes, bytes_well}
-use Rattle.characters.proofs.Leads.{within_bounds}
+use Rattle.characters.proofs.Leads.{inside, within_bounds}
 use Rattle.characters.proofs.Chars.{num_le, well_all}
 use Rattle.characters.proofs.Places.{skips_plain}
 use Rattle.edits.specs.Op.{retain, insert, delete, size, if_zero, Op, cut, rest}
 use Rattle.record.specs.Layout.{op_count_of, start_of_text, text_bytes_of, size_of, kind_at, count_at, max_ops, max_record}
 use Rattle.record.specs.Record.{entry_at, entries_from, entries, sound_entry, record_fault, in_chars, ops, insert_bytes, well_inserted, in_bytes, inserted}
-use Rattle.record.specs.InnerFront.{Place, byte_ops_left, ops_left, ahead, Loads, front_text, op_of, front_op, Stands, entries_left, Cut, Leaves}
-use Rattle.record.specs.Kinds.{number_of, ahead_of}
+use Rattle.record.specs.InnerFront.{Place, byte_ops_left, ops_left, ahead, Loads, front_text, front_op, Stands, entries_left, Cut, Leaves}
 use Rattle.record.specs.declared.inner.Front.{Front}
-use Rattle.record.specs.declared.inner.Kind.{Kind}
-use Rattle.record.specs.declared.inner.Kind.TheVariants as op
-use Rattle.record.specs.declared.inner.Ahead.{Ahead}
-use Rattle.record.specs.declared.inner.Ahead.TheVariants.{End, Retain, Insert, Delete}
-use Rattle.record.proofs.Cases.{is_insert}
 use Rattle.record.proofs.Faults.{limits, faultless}
 use Rattle.record.proofs.Walks.{left_all, left_done, left_retain, left_insert, left_delete, inserts_more, inserts_same, SoundNext, sound_next, drop_take}
 use Rattle.record.proofs.Sequences.{in_chars_size}
@@ -94,41 +88,31 @@ first_ahead r n at f z e p l = l.has ∙ ops_start r n at z e p
 -- ---- the operation of a front
 
 module _ (r : List ℕ) (f : Front) where
-  pub op_retain : f.kind ≡ Retain → front_op r f ≡ retain f.left
-  op_retain e = rw e
+  pub op_retain : f.kind ≡ 1 → front_op r f ≡ retain f.left
+  op_retain e = rw (eq-eqb f.kind 1 e)
 
-  pub op_insert : f.kind ≡ Insert → front_op r f ≡ insert (chars (front_text r f))
-  op_insert e = rw e
+  pub op_insert : f.kind ≡ 2 → front_op r f ≡ insert (chars (front_text r f))
+  op_insert e = rw (ne_eqb f.kind 1 (λ z. absurd (omega arith)), eq-eqb f.kind 2 e)
 
-  pub op_delete : f.kind ≢ Retain → f.kind ≢ Insert → front_op r f ≡ delete f.left
-  op_delete p q = go f.kind p q
-    where
-      go : (k : Ahead) → k ≢ Retain → k ≢ Insert → op_of k f.left (front_text r f) ≡ delete f.left
-      go End p q = refl
-      go Retain p q = absurd (p refl)
-      go Insert p q = absurd (q refl)
-      go Delete p q = refl
+  pub op_delete : (f.kind ≡ 1 → ⊥) → (f.kind ≡ 2 → ⊥) → front_op r f ≡ delete f.left
+  op_delete p q = rw (ne_eqb f.kind 1 p, ne_eqb f.kind 2 q)
 
   -- a front has one of three kinds of operation
   pub data Kinds : Type 0 where
-    retains : f.kind ≡ Retain → front_op r f ≡ retain f.left → Kinds
-    inserts : f.kind ≡ Insert → front_op r f ≡ insert (chars (front_text r f)) → Kinds
-    deletes : f.kind ≢ Retain → f.kind ≢ Insert → front_op r f ≡ delete f.left → Kinds
+    retains : f.kind ≡ 1 → front_op r f ≡ retain f.left → Kinds
+    inserts : f.kind ≡ 2 → front_op r f ≡ insert (chars (front_text r f)) → Kinds
+    deletes : (f.kind ≡ 1 → ⊥) → (f.kind ≡ 2 → ⊥) → front_op r f ≡ delete f.left → Kinds
 
   pub kinds : Kinds
-  kinds = go f.kind refl
+  kinds = go (eqb f.kind 1) (eqb f.kind 2) refl refl
     where
-      other : f.kind ≢ Retain → f.kind ≢ Insert → Kinds
-      other d e = deletes d e (op_delete d e)
-
-      go : (k : Ahead) → f.kind ≡ k → Kinds
-      go End e = other (λ z. cc) (λ z. cc)
-      go Retain e = retains e (op_retain e)
-      go Insert e = inserts e (op_insert e)
-      go Delete e = other (λ z. cc) (λ z. cc)
+      go : (a b : Bool) → eqb f.kind 1 ≡ a → eqb f.kind 2 ≡ b → Kinds
+      go true b p q = let e = eqb-true f.kind 1 p in retains e (op_retain e)
+      go false true p q = let e = eqb-true f.kind 2 q in inserts e (op_insert e)
+      go false false p q = let d = eqb-false f.kind 1 p in let e = eqb-false f.kind 2 q in deletes d e (op_delete d e)
 
 module _ (r : List ℕ) (f : Front) (s : Stands r f) where
-  text_length : f.kind ≡ Insert → length (chars (front_text r f)) ≡ f.left
+  text_length : f.kind ≡ 2 → length (chars (front_text r f)) ≡ f.left
   text_length e = let (w, l) = s.text e in chars_length (front_text r f) w ∙ sym l
 
   pub front_size : size (front_op r f) ≡ f.left
@@ -149,7 +133,7 @@ some_ahead r f h = go f.left h
     go zero h = absurd (omega arith)
     go (suc n) h = refl
 
-pub ended_ahead : (r : List ℕ) (f : Front) → Stands r f → f.kind ≡ End → ahead r f ≡ []
+pub ended_ahead : (r : List ℕ) (f : Front) → Stands r f → f.kind ≡ 0 → ahead r f ≡ []
 unfolding ahead
 ended_ahead r f s e = rw (s.ended e)
 
@@ -162,24 +146,22 @@ pub begins_none : (r : List ℕ) (n k at : ℕ) → n ≡ op_count_of r → n �
 unfolding ops_left
 begins_none r n k at e h = ap (map in_chars) (left_done r k at (omega arith))
 
-pub load_end : (r : List ℕ) (n k at : ℕ) → n ≡ op_count_of r → Place r k at → n ≤ k → Loads r k at (record { kind = End; left = 0; from = at; to = at; next = k })
-unfolding ahead
+pub load_end : (r : List ℕ) (n k at : ℕ) → n ≡ op_count_of r → Place r k at → n ≤ k → Loads r k at (record { kind = 0; left = 0; from = at; to = at; next = k })
+unfolding ahead within
 load_end r n k at e p h =
     record {
       stands = record {
         place = p;
+        known = tt;
         ended = λ z. refl;
-        some = λ z. absurd (z refl);
+        some = λ z. absurd (omega arith);
         small = omega arith;
         part = omega arith;
-        text = λ z. cc;
+        text = λ z. absurd (omega arith);
         none = λ z. refl;
       };
       has = sym (begins_none r n k at e h);
     }
-
-pub place_kind : (r : List ℕ) (k at : ℕ) → Place r k at → k < op_count_of r → (1 ≤ kind_at r k) × (kind_at r k ≤ 3)
-place_kind r k at p h = let s = sound_next r k h p.sound in (s.least, s.most)
 
 -- the operation at k, as the code finds it
 module _ (r : List ℕ) (n k at kind count : ℕ) (e : n ≡ op_count_of r) (p : Place r k at) (h : k < n) (q : kind ≡ kind_at r k) (c : count ≡ count_at r k) (small : count < 65536) where
@@ -200,6 +182,9 @@ module _ (r : List ℕ) (n k at kind count : ℕ) (e : n ≡ op_count_of r) (p :
         texts = ((both (well_inserted o) _).0 (rw i at p.texts)).1;
       }
 
+  known : T (within 0 3 kind)
+  known = rw (inside 0 3 kind (omega arith) (omega (arith, next))) tt
+
   begins : (o : Op ℕ) (to : ℕ) → byte_ops_left r k at ≡ o ∷ byte_ops_left r (k + 1) to → to + insert_bytes (entries_left r (k + 1)) ≤ length r → Begins r k at (in_chars o) to
   unfolding ops_left
   begins o to i room = record { place = place_next o to i room; has = ap (map in_chars) i }
@@ -217,28 +202,31 @@ module _ (r : List ℕ) (n k at kind count : ℕ) (e : n ≡ op_count_of r) (p :
     unfolding in_chars
     delete_begins d = begins (delete count) at (left_delete r k in_range at (λ x. d (q ∙ x)) (λ x. z (q ∙ x)) ∙ ap (λ j. delete j ∷ byte_ops_left r (k + 1) at) (sym c)) same_room
 
-    other : (o : Op Char) → Begins r k at o at → (f : Front) → f.left ≡ count → f.from ≡ at → f.to ≡ at → f.next ≡ k + 1 → f.kind ≢ End → f.kind ≢ Insert → front_op r f ≡ o → Loads r k at f
-    other o b f l a t j e i w =
-        record {
+    other : (o : Op Char) → Begins r k at o at → (f : Front) → f ≡ record { kind = kind; left = count; from = at; to = at; next = k + 1 } → front_op r f ≡ o → Loads r k at f
+    other o b f g w =
+        rw g (record {
           stands = record {
-            place = rw (j, t) b.place;
-            ended = λ y. absurd (e y);
+            place = b.place;
+            known = known;
+            ended = λ y. absurd (omega (arith, next));
             some = λ y. omega (arith, next);
-            small = omega arith;
+            small = small;
             part = omega arith;
-            text = λ y. absurd (i y);
-            none = λ y. omega arith;
+            text = λ y. absurd (z y);
+            none = λ y. refl;
           };
-          has = some_ahead r f (omega (arith, next)) ∙ ap₂ (λ m i. front_op r f ∷ ops_left r m i) j t ∙ ap (λ x. x ∷ ops_left r (k + 1) at) w ∙ sym b.has;
-        }
+          has = some_ahead r _ (omega (arith, next)) ∙ ap (λ x. x ∷ ops_left r (k + 1) at) (rw g at w) ∙ sym b.has;
+        })
 
-    pub load_other : (w : Kind) (f : Ahead) → number_of w ≡ kind → f ≡ ahead_of w → Loads r k at (record { kind = f; left = count; from = at; to = at; next = k + 1 })
-    load_other w f y g = rw g (go w y)
+    pub load_other : Loads r k at (record { kind = kind; left = count; from = at; to = at; next = k + 1 })
+    load_other = go (eqb kind 1) refl
       where
-        go : (w : Kind) → number_of w ≡ kind → Loads r k at (record { kind = ahead_of w; left = count; from = at; to = at; next = k + 1 })
-        go op.Retain y = other (retain count) (retain_begins (sym y)) _ refl refl refl refl (λ x. cc) (λ x. cc) refl
-        go op.Insert y = absurd (z (sym y))
-        go op.Delete y = other (delete count) (delete_begins (λ x. absurd (omega arith))) _ refl refl refl refl (λ x. cc) (λ x. cc) refl
+        f : Front
+        f = record { kind = kind; left = count; from = at; to = at; next = k + 1 }
+
+        go : (b : Bool) → eqb kind 1 ≡ b → Loads r k at f
+        go true y = let d = eqb-true kind 1 y in other (retain count) (retain_begins d) f refl (op_retain r f d)
+        go false y = let d = eqb-false kind 1 y in other (delete count) (delete_begins d) f refl (op_delete r f d z)
 
   pub begins_retain : kind ≡ 1 → Begins r k at (retain count) at
   begins_retain d = retain_begins (λ z. absurd (omega arith)) d
@@ -273,37 +261,38 @@ module _ (r : List ℕ) (n k at kind count : ℕ) (e : n ≡ op_count_of r) (p :
         let l : length text ≡ count = length-take-le (at + count - at) (drop at r) (simp length-drop (omega (arith, load_room))) ∙ omega arith in
         omega (arith, chars_length text begins_well, in_chars_size (insert text) begins_well (omega (arith, l, next)))
 
-    pub load_insert : (n : ℕ) → n ≡ number_of_chars (take (at + count - at) (drop at r)) → Loads r k at (record { kind = Insert; left = n; from = at; to = at + count; next = k + 1 })
+    pub load_insert : (n : ℕ) → n ≡ number_of_chars (take (at + count - at) (drop at r)) → Loads r k at (record { kind = kind; left = n; from = at; to = at + count; next = k + 1 })
     unfolding text
     load_insert n m =
-        let f : Front = record { kind = Insert; left = n; from = at; to = at + count; next = k + 1 } in
+        let f : Front = record { kind = kind; left = n; from = at; to = at + count; next = k + 1 } in
         record {
           stands = record {
             place = begins_insert.place;
-            ended = λ y. cc;
+            known = known;
+            ended = λ y. absurd (omega arith);
             some = λ y. omega (arith, some);
             small = omega (arith, num_le text, length-take (at + count - at) (drop at r));
             part = omega arith;
             text = λ y. (begins_well, m);
-            none = λ y. absurd (y refl);
+            none = λ y. absurd (y z);
           };
-          has = some_ahead r f (omega (arith, some)) ∙ ap (λ x. x ∷ ops_left r (k + 1) (at + count)) (op_insert r f refl) ∙ sym begins_insert.has;
+          has = some_ahead r f (omega (arith, some)) ∙ ap (λ x. x ∷ ops_left r (k + 1) (at + count)) (op_insert r f z) ∙ sym begins_insert.has;
         }
 
 -- ---- cutting
 
 module _ (r : List ℕ) (f : Front) (s : Stands r f) (k : ℕ) where
   -- the text, cut after k characters
-  first_part : f.kind ≡ Insert → inserted (in_bytes (cut k (front_op r f))) ≡ bytes (take k (chars (front_text r f)))
+  first_part : f.kind ≡ 2 → inserted (in_bytes (cut k (front_op r f))) ≡ bytes (take k (chars (front_text r f)))
   unfolding in_bytes
   first_part e = ap (λ o. inserted (in_bytes (cut k o))) (op_insert r f e)
 
-  second_part : f.kind ≡ Insert → inserted (in_bytes (rest k (front_op r f))) ≡ bytes (drop k (chars (front_text r f)))
+  second_part : f.kind ≡ 2 → inserted (in_bytes (rest k (front_op r f))) ≡ bytes (drop k (chars (front_text r f)))
   unfolding in_bytes
   second_part e = ap (λ o. inserted (in_bytes (rest k o))) (op_insert r f e)
 
   -- other operations have no text
-  no_text : f.kind ≢ Insert → ([] ≡ inserted (in_bytes (cut k (front_op r f)))) × ([] ≡ inserted (in_bytes (rest k (front_op r f))))
+  no_text : (f.kind ≡ 2 → ⊥) → ([] ≡ inserted (in_bytes (cut k (front_op r f)))) × ([] ≡ inserted (in_bytes (rest k (front_op r f))))
   unfolding in_bytes
   no_text z = go (kinds r f)
     where
@@ -313,11 +302,12 @@ module _ (r : List ℕ) (f : Front) (s : Stands r f) (k : ℕ) where
       go (deletes d e p) = (ap (λ o. inserted (in_bytes (cut k o))) (sym p), ap (λ o. inserted (in_bytes (rest k o))) (sym p))
 
   -- a cut at a place of the text that parts it in two
-  parts : (mid : ℕ) → f.from ≤ mid → mid ≤ f.to → (f.kind ≡ Insert → mid - f.from ≡ length (bytes (take k (chars (front_text r f))))) → Cut r f k mid
-  parts mid a b h = go (is_insert f.kind)
+  parts : (mid : ℕ) → f.from ≤ mid → mid ≤ f.to → (f.kind ≡ 2 → mid - f.from ≡ length (bytes (take k (chars (front_text r f))))) → Cut r f k mid
+  parts mid a b h = go (eqb f.kind 2) refl
     where
-      go : (f.kind ≡ Insert) ⊎ (f.kind ≢ Insert) → Cut r f k mid
-      go (inl e) =
+      go : (t : Bool) → eqb f.kind 2 ≡ t → Cut r f k mid
+      go true t =
+          let e = eqb-true f.kind 2 t in
           let x = front_text r f in
           let w = (s.text e).0 in
           let p = bytes (take k (chars x)) in
@@ -343,7 +333,8 @@ module _ (r : List ℕ) (f : Front) (s : Stands r f) (k : ℕ) where
                 ∙ drop_at p q (mid - f.from) (sym l)
                 ∙ sym (second_part e);
           }
-      go (inr z) =
+      go false t =
+          let z = eqb-false f.kind 2 t in
           let n = s.none z in
           let i : mid - f.from ≡ 0 = omega arith in
           let j : f.to - mid ≡ 0 = omega arith in
@@ -371,12 +362,12 @@ module _ (r : List ℕ) (f : Front) (s : Stands r f) (k : ℕ) where
 
   -- `skip` finds the place
   module _ (ne : f.from ≡ f.to → ⊥) where
-    has_text : f.kind ≡ Insert
-    has_text = go (is_insert f.kind)
+    has_text : f.kind ≡ 2
+    has_text = go (eqb f.kind 2) refl
       where
-        go : (f.kind ≡ Insert) ⊎ (f.kind ≢ Insert) → f.kind ≡ Insert
-        go (inl e) = e
-        go (inr z) = absurd (ne (s.none z))
+        go : (t : Bool) → eqb f.kind 2 ≡ t → f.kind ≡ 2
+        go true t = eqb-true f.kind 2 t
+        go false t = absurd (ne (s.none (eqb-false f.kind 2 t)))
 
     pub skip_well : T (is_well_formed (drop 0 (front_text r f)))
     skip_well = (s.text has_text).0
@@ -418,7 +409,7 @@ module _ (r : List ℕ) (f : Front) (k : ℕ) (s : Stands r f) where
     abbrev left_over : Front
     left_over = record { kind = f.kind; left = f.left - k; from = mid; to = f.to; next = f.next }
 
-    rest_text : f.kind ≡ Insert → front_text r left_over ≡ bytes (drop k (chars (front_text r f)))
+    rest_text : f.kind ≡ 2 → front_text r left_over ≡ bytes (drop k (chars (front_text r f)))
     rest_text e = c.second ∙ second_part r f s k e
 
     same_op : front_op r left_over ≡ rest k (front_op r f)
@@ -434,6 +425,7 @@ module _ (r : List ℕ) (f : Front) (k : ℕ) (s : Stands r f) where
         record {
           stands = record {
             place = s.place;
+            known = s.known;
             ended = λ z. omega (arith, s.ended z);
             some = λ z. omega arith;
             small = omega (arith, s.small);

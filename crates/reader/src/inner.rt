@@ -1,11 +1,11 @@
 // What the crates above use to go through a record that was checked: its sizes, its operations, and the front of what lies ahead.
 ghost use Rattle.std.specs.Prelude.{◌≡◌, ◌<◌, ◌≤◌, length};
-ghost use Rattle.record.specs.Layout.{op_count_of, max_ops, base_of, target_of, text_bytes_of, size_of, max_record, kind_at, count_at, delete_kind, retain_kind};
 ghost use Rattle.record.specs.Kinds.{number_of};
+ghost use Rattle.record.specs.Layout.{retain_kind, delete_kind, op_count_of, max_ops, base_of, target_of, text_bytes_of, size_of, max_record, kind_at, count_at};
 ghost use Rattle.record.specs.Record.{record_fault, ops};
 ghost use Rattle.record.specs.InnerFront.{Stands, ahead, Place, Loads, Cut, Leaves};
 
-use record::inner::{Ahead, Front, INSERT, Kind, RETAIN};
+use record::inner::{AT_END, AT_INSERT, Front, INSERT, Kind, RETAIN};
 
 // The sizes that a checked record states.
 pub fn op_count(rec: &[u8]) -> usize
@@ -46,7 +46,7 @@ pub fn size(rec: &[u8]) -> usize
     layout::inner::text_start(n) + layout::inner::text_bytes(rec)
 }
 
-// The kind that a number of a checked record stands for.
+// The kind that has this number.
 fn kind_of(number: u8) -> Kind
     requires { (retain_kind ≤ number) × (number ≤ delete_kind) }
     ensures { number_of result ≡ number }
@@ -88,20 +88,20 @@ pub fn load(rec: &[u8], n: usize, k: usize, at: usize) -> Front
 {
     if n <= k {
         return Front {
-            kind: Ahead::End,
+            kind: AT_END,
             left: 0,
             from: at,
             to: at,
             next: k,
         };
     }
-    let kind = kind_of(layout::inner::kind(rec, k));
+    let kind = layout::inner::kind(rec, k) as usize;
     let count = layout::inner::count(rec, n, k);
-    if let Kind::Insert = kind {
+    if kind == AT_INSERT {
         let to = at + count;
         let chars = counting::inner::count_in(rec, at, to);
         return Front {
-            kind: Ahead::Insert,
+            kind,
             left: chars,
             from: at,
             to,
@@ -109,7 +109,7 @@ pub fn load(rec: &[u8], n: usize, k: usize, at: usize) -> Front
         };
     }
     Front {
-        kind: Ahead::from(kind),
+        kind,
         left: count,
         from: at,
         to: at,

@@ -7,7 +7,7 @@ ghost use Rattle.emitter.specs.InnerEmit.{Under};
 ghost use Rattle.steps.specs.InnerBoth.{Fed, ReadyBoth, BegunBoth, FirstBoth, SecondBoth, Meets, TogetherBoth, WentBoth, Ends};
 ghost use Rattle.steps.specs.InnerSteps.{Operands, live_is, Chooses};
 
-use record::inner::Ahead;
+use record::inner::{AT_INSERT, AT_RETAIN};
 use steps::inner::{Both, Counts, Pair, Turn};
 
 // Before the first step past a revision: of the edit's side and of the counterpart nothing was emitted.
@@ -87,22 +87,22 @@ fn emit_both(
     let f = b.f;
     let i = x.to;
     let j = y.to;
-    if let Ahead::Insert = y.kind {
+    if y.kind == AT_INSERT {
         let d = emitter::inner::push_without_text(next, slots, e, rec, y, k, j);
         let h = emitter::inner::push_without_text(side, slots, f, cur, x, k, i);
         let d = emitter::inner::retain(d, k);
         let h = emitter::inner::retain(h, k);
         return Pair { e: d, f: h };
     }
-    if let Ahead::Retain = y.kind {
+    if y.kind == AT_RETAIN {
         let d = emitter::inner::push_without_text(next, slots, e, cur, x, k, i);
-        if let Ahead::Retain = x.kind {
+        if x.kind == AT_RETAIN {
             let h = emitter::inner::push_without_text(side, slots, f, rec, y, k, j);
             return Pair { e: d, f: h };
         }
         return Pair { e: d, f };
     }
-    if let Ahead::Retain = x.kind {
+    if x.kind == AT_RETAIN {
         let h = emitter::inner::push_without_text(side, slots, f, rec, y, k, j);
         return Pair { e, f: h };
     }

@@ -1,15 +1,13 @@
 -- Going through a record that was checked: what still lies ahead. Only contracts of `inner` cite this.
-use Rattle.std.specs.Prelude.{ℕ, ◌-◌, ◌+◌, ◌≤◌, ◌<◌, List, map, [], ◌∷◌, drop, length, take, T, ◌≡◌, ◌≢◌}
+use Rattle.std.specs.Prelude.{ℕ, ◌-◌, ◌+◌, ◌≤◌, ◌<◌, List, map, [], ◌∷◌, drop, length, take, T, eqb, cond, ◌≡◌}
 use Rattle.buffers.specs.Lists.{all_of}
 use Rattle.characters.specs.Text.{Char, chars}
-use Rattle.characters.specs.Form.{is_well_formed}
+use Rattle.characters.specs.Form.{within, is_well_formed}
 use Rattle.characters.specs.Chars.{number_of_chars}
 use Rattle.edits.specs.Sequence.{Seq}
 use Rattle.edits.specs.Op.{Op, retain, insert, delete, if_zero, cut, rest, front}
-use Rattle.record.specs.Layout.{op_count_of, start_of_text, max_ops}
+use Rattle.record.specs.Layout.{op_count_of, start_of_text, max_ops, insert_kind, retain_kind, delete_kind}
 use Rattle.record.specs.Record.{Entry, entries_from, ByteSeq, operations, in_chars, sound_entry, insert_bytes, well_inserted, in_bytes, inserted}
-use Rattle.record.specs.declared.inner.Ahead.{Ahead}
-use Rattle.record.specs.declared.inner.Ahead.TheVariants.{End, Retain, Insert, Delete}
 use Rattle.record.specs.declared.inner.Front.{Front}
 
 -- the operations from k on: as entries, and as operations where their text begins at `at`
@@ -36,30 +34,24 @@ pub record Place (r : List ℕ) (k at : ℕ) : Type 0 where
 abbrev pub front_text : List ℕ → Front → List ℕ
 front_text r f = take (f.to - f.from) (drop f.from r)
 
--- an operation of a kind, of n characters or of this text
-abbrev pub op_of : Ahead → ℕ → List ℕ → Op Char
-op_of Retain n t = retain n
-op_of Insert n t = insert (chars t)
-op_of Delete n t = delete n
-op_of End n t = delete n
-
 -- the front's operation, and with it all that lies ahead: nothing where no character is left of it
 abbrev pub front_op : List ℕ → Front → Op Char
-front_op r f = op_of f.kind f.left (front_text r f)
+front_op r f = cond (eqb f.kind retain_kind) (retain f.left) (cond (eqb f.kind insert_kind) (insert (chars (front_text r f))) (delete f.left))
 
 unfoldable pub ahead : List ℕ → Front → Seq
 unfolding chars ops_left
 ahead r f = if_zero f.left [] (front_op r f ∷ ops_left r f.next f.to)
 
--- a front at its place: at the end no character is left, and else some are
+-- a front at its place: kind 0 is the end, and else some characters are left
 pub record Stands (r : List ℕ) (f : Front) : Type 0 where
   pub place : Place r f.next f.to
-  pub ended : f.kind ≡ End → f.left ≡ 0
-  pub some : f.kind ≢ End → 0 < f.left
+  pub known : T (within 0 delete_kind f.kind)
+  pub ended : f.kind ≡ 0 → f.left ≡ 0
+  pub some : 0 < f.kind → 0 < f.left
   pub small : f.left < 65536
   pub part : f.from ≤ f.to
-  pub text : f.kind ≡ Insert → T (is_well_formed (front_text r f)) × (f.left ≡ number_of_chars (front_text r f))
-  pub none : f.kind ≢ Insert → f.from ≡ f.to
+  pub text : f.kind ≡ insert_kind → T (is_well_formed (front_text r f)) × (f.left ≡ number_of_chars (front_text r f))
+  pub none : (f.kind ≡ insert_kind → ⊥) → f.from ≡ f.to
 
 -- `mid` cuts the front's text behind k characters
 pub record Cut (r : List ℕ) (f : Front) (k mid : ℕ) : Type 0 where

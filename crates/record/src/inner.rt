@@ -1,6 +1,6 @@
 // The numbers of the layout, and the types of a kind and of a front, of which the definitions speak.
 ghost use Rattle.std.specs.Prelude.{◌≡◌};
-ghost use Rattle.record.specs.Kinds.{number_of, ahead_of};
+ghost use Rattle.record.specs.Kinds.{number_of};
 
 // The limits of document 01's refusal 1: at most so many operations, and at most so much of any other size.
 pub const MAX_OPS: usize = 1024;
@@ -42,33 +42,21 @@ impl From<Kind> for u8 {
     }
 }
 
-// What lies ahead at a front: the end of the record, or an operation of a kind. It is an enum of its own and no `Option<Kind>`, which would
-// keep two values in registers on the way through the records.
-#[derive(Clone, Copy, Debug, PartialEq, Eq)]
-pub enum Ahead {
-    End,
-    Retain,
-    Insert,
-    Delete,
-}
+// The kinds of a front: an operation's kind, or the end of the record. They are words and no enum: the bytes behind the tag of an enum are
+// copied with each copy of the struct, by loads that overlap two stores, and a step over fronts in memory took 27 ns in place of 4.
+pub const AT_END: usize = 0;
 
-impl From<Kind> for Ahead {
-    ghost from_gives = { λ kind ahead. ahead ≡ ahead_of kind };
+pub const AT_RETAIN: usize = 1;
 
-    fn from(kind: Kind) -> Ahead {
-        match kind {
-            Kind::Retain => Ahead::Retain,
-            Kind::Insert => Ahead::Insert,
-            Kind::Delete => Ahead::Delete,
-        }
-    }
-}
+pub const AT_INSERT: usize = 2;
 
-// The front of what lies ahead in a record: what it is, how many characters are left of it, the bytes of its text, and the operation
-// behind it. The text of the operations behind it begins at `to`.
+pub const AT_DELETE: usize = 3;
+
+// The front of what lies ahead in a record: a kind (0 at the end), how many characters are left of it, the bytes of
+// its text, and the operation behind it. The text of the operations behind it begins at `to`.
 #[derive(Clone, Copy)]
 pub struct Front {
-    pub kind: Ahead,
+    pub kind: usize,
     pub left: usize,
     pub from: usize,
     pub to: usize,

@@ -1,5 +1,5 @@
 -- The loop over both sides.
-use Rattle.std.specs.Prelude.{◌≡◌, ℕ, ◌+◌, ◌^◌, ◌<◌, Bool, false, not, List, reverse, length}
+use Rattle.std.specs.Prelude.{◌≡◌, ℕ, ◌+◌, ◌^◌, ◌<◌, Bool, false, not, eqb, List, reverse, length}
 use mathlib.Core.Path.{sym, ap, ◌∙◌, subst}
 use mathlib.Core.Bool.{and_comm}
 use Rattle.characters.specs.Order.{order}
@@ -12,7 +12,7 @@ use Rattle.emitter.specs.declared.inner.Emitter.{Emitter}
 use Rattle.emitter.specs.InnerEmit.{Done, Finishes, Under}
 use Rattle.emitter.proofs.Loops.{transform_runs}
 use Rattle.steps.specs.declared.inner.State.{State}
-use Rattle.steps.specs.InnerSteps.{ended, live_is}
+use Rattle.steps.specs.InnerSteps.{live_is}
 use Rattle.steps.specs.declared.inner.Both.{Both}
 use Rattle.steps.specs.InnerBoth.{mine, theirs, BegunBoth, WentBoth, DoneBoth}
 use Rattle.steps.specs.declared.inner.Pair.{Pair}
@@ -61,7 +61,7 @@ module _ (m n : ℕ) (a b o₀ w₀ : List ℕ) (s : Both) (o w : List ℕ) (g :
 
   pub both_done : (v : Bool) → v ≡ live_is s.x s.y → v ≡ false → (p : Pair) (o' w' : List ℕ) → Finishes m s.e o p.e o' → Finishes n s.f w p.f w' → DoneBoth m n (transform order (ops a) (ops b)) o₀ w₀ p o' w'
   both_done v e z p o' w' f k =
-      let u : v ≡ live_is s.y s.x = e ∙ ap not (and_comm (ended s.x.kind) (ended s.y.kind)) in
+      let u : v ≡ live_is s.y s.x = e ∙ ap not (and_comm (eqb s.x.kind 0) (eqb s.y.kind 0)) in
       record {
         left = going_done m a b o₀ (mine s) o v p.e o' g.left e z f;
         right = subst (λ t. Done n t w₀ p.f w') (right_is (ops a) (ops b)) (going_done n b a w₀ (theirs s) w v p.f w' g.right u z k);

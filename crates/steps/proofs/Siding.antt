@@ -1,23 +1,23 @@
 -- The steps of transform on fronts: whose turn it is, and what the first becomes.
-use Rattle.std.specs.Prelude.{◌≡◌, ℕ, ◌^◌, ◌<◌, ◌≤◌, ◌≢◌, ◌⊎◌, min, Bool, true, false, List, [], ◌∷◌, length, take}
+use Rattle.std.specs.Prelude.{◌≡◌, ℕ, ◌^◌, ◌<◌, ◌≤◌, min, Bool, true, false, cond, not, eqb, List, [], ◌∷◌, length, take}
 use mathlib.Core.Path.{refl, sym, ap, ap₂, ◌∙◌}
 use native.Mathlib.Omega.{arith}
 use mathlib.Core.Logic.{inl, inr}
+use mathlib.Core.Bool.{false≢true}
+use borrow.Author.Tests.{eq-eqb, eqb-false, ne_eqb, eqb-true}
 use lib.Seq.{length-take-le}
 use Rattle.characters.specs.Text.{Char, chars}
 use Rattle.characters.specs.Order.{order, byte_order}
 use Rattle.characters.specs.declared.Ordering.{Ordering}
 use Rattle.characters.specs.declared.Ordering.TheVariants.{Less, Equal, Greater}
 use Rattle.characters.proofs.Texts.{order_chars, chars_length, order_equal}
+use Rattle.characters.proofs.Leads.{within_bounds}
 use Rattle.edits.specs.Op.{Op, retain, delete, gives, insert, cut}
 use Rattle.edits.specs.Align as align
 use Rattle.edits.specs.Transform.{transform_turn, lesser, keep_both, past, lefts}
 use Rattle.edits.specs.Sequence.{Seq}
 use Rattle.edits.specs.Build.{add_all}
 use Rattle.record.specs.declared.inner.Front.{Front}
-use Rattle.record.specs.declared.inner.Ahead.{Ahead}
-use Rattle.record.specs.declared.inner.Ahead.TheVariants.{End, Retain, Insert, Delete}
-use Rattle.record.proofs.Cases.{is_insert}
 use Rattle.record.specs.InnerFront.{front_op, front_text, Stands, Cut, Leaves, ahead}
 use Rattle.reader.proofs.Fronts.{Kinds, retains, inserts, deletes, kinds, op_insert, op_retain, op_delete, cut_all, cut_none}
 use Rattle.emitter.specs.declared.inner.Emitter.{Emitter}
@@ -25,7 +25,7 @@ use Rattle.emitter.specs.InnerEmit.{Adds, Retains, Under}
 use Rattle.emitter.proofs.Adding.{adds_nil, adds_append, under_more, whole_op}
 use Rattle.steps.specs.declared.inner.Turn.TheVariants.{First, Second, Together}
 use Rattle.steps.specs.InnerSteps.{live_is, Chooses, step_of, remaining, Went}
-use Rattle.steps.specs.InnerSides.{given, gives_of, FirstWent, SecondWent, BothWent}
+use Rattle.steps.specs.InnerSides.{gives_of, FirstWent, SecondWent, BothWent}
 use Rattle.steps.specs.declared.inner.State.{State}
 use Rattle.steps.specs.declared.inner.Turn.{Turn}
 use Rattle.steps.proofs.Turning.{Moves, moves_first, moves_second, moves_together}
@@ -40,7 +40,7 @@ data NoInsert (r : List ℕ) (f : Front) : Type 0 where
   keeps : front_op r f ≡ retain f.left → NoInsert r f
   drops : front_op r f ≡ delete f.left → NoInsert r f
 
-no_insert : (r : List ℕ) (f : Front) → f.kind ≢ Insert → NoInsert r f
+no_insert : (r : List ℕ) (f : Front) → (f.kind ≡ 2 → ⊥) → NoInsert r f
 no_insert r f z = go (kinds r f)
   where
     go : Kinds r f → NoInsert r f
@@ -49,15 +49,19 @@ no_insert r f z = go (kinds r f)
     go (deletes d e p) = drops p
 
 module _ (a b : List ℕ) (x y : Front) where
-  pub chosen_ended : live_is x y ≡ true → x.kind ≡ End → Chooses (transform_turn order) a b x y Second
-  chosen_ended l e = record { chosen = (λ z. (let h : false ≡ true = rw (e, z) at l in cc), inl e) }
+  pub chosen_ended : live_is x y ≡ true → x.kind ≡ 0 → Chooses (transform_turn order) a b x y Second
+  chosen_ended l e = record { chosen = (go (eqb y.kind 0) refl (rw (eq-eqb x.kind 0 e) at l), inl e) }
+    where
+      go : (t : Bool) → eqb y.kind 0 ≡ t → not t ≡ true → 0 < y.kind
+      go true p h = absurd (false≢true h)
+      go false p h = let n = eqb-false y.kind 0 p in omega arith
 
-  module _ (p : x.kind ≢ End) where
-    pub chosen_other : y.kind ≡ End → Chooses (transform_turn order) a b x y First
-    chosen_other e = record { chosen = (p, inl e) }
+  module _ (p : x.kind ≡ 0 → ⊥) where
+    pub chosen_other : y.kind ≡ 0 → Chooses (transform_turn order) a b x y First
+    chosen_other e = record { chosen = (omega arith, inl e) }
 
-    pub chosen_both : y.kind ≢ End → x.kind ≢ Insert → y.kind ≢ Insert → Chooses (transform_turn order) a b x y Together
-    chosen_both q z w = record { chosen = (p, (q, go (no_insert a x z) (no_insert b y w))) }
+    pub chosen_both : (y.kind ≡ 0 → ⊥) → (x.kind ≡ 2 → ⊥) → (y.kind ≡ 2 → ⊥) → Chooses (transform_turn order) a b x y Together
+    chosen_both q z w = record { chosen = (omega arith, (omega arith, go (no_insert a x z) (no_insert b y w))) }
       where
         go : NoInsert a x → NoInsert b y → turn_rule (front_op a x) (front_op b y) ≡ align.together
         go (keeps u) (keeps v) = ap₂ turn_rule u v
@@ -65,64 +69,64 @@ module _ (a b : List ℕ) (x y : Front) where
         go (drops u) (keeps v) = ap₂ turn_rule u v
         go (drops u) (drops v) = ap₂ turn_rule u v
 
-  pub chosen_first : x.kind ≡ Insert → y.kind ≢ Insert → Chooses (transform_turn order) a b x y First
-  chosen_first e z = record { chosen = ((λ n. cc), inr (go (no_insert b y z))) }
+  pub chosen_first : x.kind ≡ 2 → (y.kind ≡ 2 → ⊥) → Chooses (transform_turn order) a b x y First
+  chosen_first e z = record { chosen = (omega arith, inr (go (no_insert b y z))) }
     where
       go : NoInsert b y → turn_rule (front_op a x) (front_op b y) ≡ align.first
       go (keeps w) = ap₂ turn_rule (op_insert a x e) w
       go (drops w) = ap₂ turn_rule (op_insert a x e) w
 
-  pub chosen_second : x.kind ≢ Insert → y.kind ≡ Insert → Chooses (transform_turn order) a b x y Second
-  chosen_second z e = record { chosen = ((λ n. cc), inr (go (no_insert a x z))) }
+  pub chosen_second : (x.kind ≡ 2 → ⊥) → y.kind ≡ 2 → Chooses (transform_turn order) a b x y Second
+  chosen_second z e = record { chosen = (omega arith, inr (go (no_insert a x z))) }
     where
       go : NoInsert a x → turn_rule (front_op a x) (front_op b y) ≡ align.second
       go (keeps w) = ap₂ turn_rule w (op_insert b y e)
       go (drops w) = ap₂ turn_rule w (op_insert b y e)
 
   -- two inserts
-  module _ (sx : Stands a x) (sy : Stands b y) (e : x.kind ≡ Insert) (f : y.kind ≡ Insert) (w : Ordering) (h : w ≡ byte_order (front_text a x) (front_text b y)) where
+  module _ (sx : Stands a x) (sy : Stands b y) (e : x.kind ≡ 2) (f : y.kind ≡ 2) (w : Ordering) (h : w ≡ byte_order (front_text a x) (front_text b y)) where
     ranked : (u : Ordering) → w ≡ u → turn_rule (front_op a x) (front_op b y) ≡ lesser u
     ranked u z = ap₂ turn_rule (op_insert a x e) (op_insert b y f) ∙ ap lesser (order_chars (front_text a x) (front_text b y) (sx.text e).0 (sy.text f).0 ∙ sym h ∙ z)
 
     pub chosen_less : w ≡ Less → Chooses (transform_turn order) a b x y First
-    chosen_less z = record { chosen = ((λ n. cc), inr (ranked Less z)) }
+    chosen_less z = record { chosen = (omega arith, inr (ranked Less z)) }
 
     pub chosen_equal : w ≡ Equal → Chooses (transform_turn order) a b x y Together
-    chosen_equal z = record { chosen = ((λ n. cc), ((λ n. cc), ranked Equal z)) }
+    chosen_equal z = record { chosen = (omega arith, (omega arith, ranked Equal z)) }
 
     pub chosen_greater : w ≡ Greater → Chooses (transform_turn order) a b x y Second
-    chosen_greater z = record { chosen = ((λ n. cc), inr (ranked Greater z)) }
+    chosen_greater z = record { chosen = (omega arith, inr (ranked Greater z)) }
 
 -- ---- what a front's operation gives
 
-pub gives_none : (f : Front) → f.kind ≡ Delete → 0 ≡ gives_of f
-gives_none f e = rw e
+pub gives_none : (f : Front) → f.kind ≡ 3 → 0 ≡ gives_of f
+gives_none f e = rw (eq-eqb f.kind 3 e)
 
-pub gives_all : (f : Front) → f.kind ≢ Delete → f.left ≡ gives_of f
-gives_all f e = go f.kind e
-  where
-    go : (k : Ahead) → k ≢ Delete → f.left ≡ given k f.left
-    go End e = refl
-    go Retain e = refl
-    go Insert e = refl
-    go Delete e = absurd (e refl)
+pub gives_all : (f : Front) → (f.kind ≡ 3 → ⊥) → f.left ≡ gives_of f
+gives_all f e = rw (ne_eqb f.kind 3 e)
 
 gives_is : (r : List ℕ) (f : Front) → Stands r f → gives_of f ≡ gives (front_op r f)
-gives_is r f s = go f.kind refl
+gives_is r f s = go (kinds r f)
   where
-    go : (k : Ahead) → f.kind ≡ k → gives_of f ≡ gives (front_op r f)
-    go End e = rw e (s.ended e)
-    go Retain e = rw e
-    go Insert e = rw e (sym (chars_length (front_text r f) (s.text e).0 ∙ sym (s.text e).1))
-    go Delete e = rw e
+    not_three : {k : ℕ} → k ≡ f.kind → (k ≡ 3 → ⊥) → gives_of f ≡ f.left
+    not_three p z = sym (gives_all f (λ e. z (p ∙ e)))
+
+    go : Kinds r f → gives_of f ≡ gives (front_op r f)
+    go (retains e p) = not_three refl (λ z. absurd (omega arith)) ∙ sym (ap gives p)
+    go (inserts e p) = not_three refl (λ z. absurd (omega arith)) ∙ sym (ap gives p ∙ chars_length (front_text r f) (s.text e).0 ∙ sym (s.text e).1)
+    go (deletes d e p) = three (eqb f.kind 3) refl ∙ sym (ap gives p)
+      where
+        three : (t : Bool) → eqb f.kind 3 ≡ t → cond t 0 f.left ≡ 0
+        three true u = refl
+        three false u = s.ended (let n = eqb-false f.kind 3 u in omega (arith, within_bounds 0 3 f.kind s.known))
 
 -- ---- as many characters of both
 
 module _ (n : ℕ) (mine theirs : List ℕ) (f g : Front) (k : ℕ) (e : Emitter) (o : List ℕ) where
-  pub past_retain : (r : Emitter) (o' : List ℕ) → g.kind ≡ Retain → Adds n (cut k (front_op mine f) ∷ []) e o r o' → Adds n (past keep_both (cut k (front_op theirs g)) (cut k (front_op mine f))) e o r o'
+  pub past_retain : (r : Emitter) (o' : List ℕ) → g.kind ≡ 1 → Adds n (cut k (front_op mine f) ∷ []) e o r o' → Adds n (past keep_both (cut k (front_op theirs g)) (cut k (front_op mine f))) e o r o'
   past_retain r o' z h = rw (op_retain theirs g z) h
 
-  pub past_insert : (d r : Emitter) (o' : List ℕ) → g.kind ≡ Insert → Stands theirs g → k ≤ g.left → Adds n (cut k (front_op theirs g) ∷ []) e o d o' → Retains k d r
+  pub past_insert : (d r : Emitter) (o' : List ℕ) → g.kind ≡ 2 → Stands theirs g → k ≤ g.left → Adds n (cut k (front_op theirs g) ∷ []) e o d o' → Retains k d r
       → Adds n (past keep_both (cut k (front_op theirs g)) (cut k (front_op mine f))) e o r o'
   past_insert d r o' z s l h q =
       let x = chars (front_text theirs g) in
@@ -131,7 +135,7 @@ module _ (n : ℕ) (mine theirs : List ℕ) (f g : Front) (k : ℕ) (e : Emitter
       let w : Adds n (insert (take k x) ∷ retain (length (take k x)) ∷ []) e o r o' = rw c (adds_append n h' (q.adds n o')) in
       rw (op_insert theirs g z) w
 
-  pub past_delete : g.kind ≢ Retain → g.kind ≢ Insert → Adds n (past keep_both (cut k (front_op theirs g)) (cut k (front_op mine f))) e o e o
+  pub past_delete : (g.kind ≡ 1 → ⊥) → (g.kind ≡ 2 → ⊥) → Adds n (past keep_both (cut k (front_op theirs g)) (cut k (front_op mine f))) e o e o
   past_delete z w = rw (op_delete theirs g z w) (adds_nil n e o)
 
 pub under_part : (n : ℕ) (p : Op Char) (e : Emitter) (o : List ℕ) (d : Emitter) (o' : List ℕ) → Under (2 ^ 38) e → Adds n (p ∷ []) e o d o' → Under (2 ^ 40) d
@@ -145,7 +149,7 @@ module _ (a b : List ℕ) (x y : Front) (sx : Stands a x) (sy : Stands b y) (c :
   goes = c.chosen.1.1
 
   -- two inserts that go together have as many characters
-  equal_left : x.kind ≡ Insert → y.kind ≡ Insert → x.left ≡ y.left
+  equal_left : x.kind ≡ 2 → y.kind ≡ 2 → x.left ≡ y.left
   equal_left e f =
       let s = chars (front_text a x) in
       let t = chars (front_text b y) in
@@ -157,53 +161,53 @@ module _ (a b : List ℕ) (x y : Front) (sx : Stands a x) (sy : Stands b y) (c :
       equal Equal p = refl
       equal Greater p = absurd (let z : ◌≡◌ {A = ℕ} 0 1 = cc p in omega arith)
 
-  pub insert_both : x.kind ≡ Insert → y.kind ≡ Insert
-  insert_both e = go (is_insert y.kind)
+  pub insert_both : x.kind ≡ 2 → y.kind ≡ 2
+  insert_both e = go (eqb y.kind 2) refl
     where
       first_not : {w : Op Char} → front_op b y ≡ w → transform_turn order (insert (chars (front_text a x))) w ≡ align.first → align.first ≡ align.together
       first_not p q = sym q ∙ sym (ap₂ turn_rule (op_insert a x e) p) ∙ goes
 
-      go : (y.kind ≡ Insert) ⊎ (y.kind ≢ Insert) → y.kind ≡ Insert
-      go (inl t) = t
-      go (inr t) = no (no_insert b y t)
+      go : (t : Bool) → eqb y.kind 2 ≡ t → y.kind ≡ 2
+      go true t = eqb-true y.kind 2 t
+      go false t = no (no_insert b y (eqb-false y.kind 2 t))
         where
-          no : NoInsert b y → y.kind ≡ Insert
+          no : NoInsert b y → y.kind ≡ 2
           no (keeps w) = absurd (let z : ◌≡◌ {A = ℕ} 0 1 = cc (first_not w refl) in omega arith)
           no (drops w) = absurd (let z : ◌≡◌ {A = ℕ} 0 1 = cc (first_not w refl) in omega arith)
 
-  pub both_insert : y.kind ≡ Insert → x.kind ≡ Insert
-  both_insert e = go (is_insert x.kind)
+  pub both_insert : y.kind ≡ 2 → x.kind ≡ 2
+  both_insert e = go (eqb x.kind 2) refl
     where
       second_not : {w : Op Char} → front_op a x ≡ w → transform_turn order w (insert (chars (front_text b y))) ≡ align.second → align.second ≡ align.together
       second_not p q = sym q ∙ sym (ap₂ turn_rule p (op_insert b y e)) ∙ goes
 
-      go : (x.kind ≡ Insert) ⊎ (x.kind ≢ Insert) → x.kind ≡ Insert
-      go (inl t) = t
-      go (inr t) = no (no_insert a x t)
+      go : (t : Bool) → eqb x.kind 2 ≡ t → x.kind ≡ 2
+      go true t = eqb-true x.kind 2 t
+      go false t = no (no_insert a x (eqb-false x.kind 2 t))
         where
-          no : NoInsert a x → x.kind ≡ Insert
+          no : NoInsert a x → x.kind ≡ 2
           no (keeps w) = absurd (let z : ◌≡◌ {A = ℕ} 0 1 = cc (second_not w refl) in omega arith)
           no (drops w) = absurd (let z : ◌≡◌ {A = ℕ} 0 1 = cc (second_not w refl) in omega arith)
 
   pub uncut_x : Cut a x k x.to
-  uncut_x = go (is_insert x.kind)
+  uncut_x = go (eqb x.kind 2) refl
     where
-      go : (x.kind ≡ Insert) ⊎ (x.kind ≢ Insert) → Cut a x k x.to
-      go (inl e) = cut_all a x sx k (omega (arith, equal_left e (insert_both e)))
-      go (inr z) = cut_none a x sx k (sx.none z)
+      go : (t : Bool) → eqb x.kind 2 ≡ t → Cut a x k x.to
+      go true t = let e = eqb-true x.kind 2 t in cut_all a x sx k (omega (arith, equal_left e (insert_both e)))
+      go false t = cut_none a x sx k (sx.none (eqb-false x.kind 2 t))
 
   pub uncut_y : Cut b y k y.to
-  uncut_y = go (is_insert y.kind)
+  uncut_y = go (eqb y.kind 2) refl
     where
-      go : (y.kind ≡ Insert) ⊎ (y.kind ≢ Insert) → Cut b y k y.to
-      go (inl e) = cut_all b y sy k (omega (arith, equal_left (both_insert e) e))
-      go (inr z) = cut_none b y sy k (sy.none z)
+      go : (t : Bool) → eqb y.kind 2 ≡ t → Cut b y k y.to
+      go true t = let e = eqb-true y.kind 2 t in cut_all b y sy k (omega (arith, equal_left (both_insert e) e))
+      go false t = cut_none b y sy k (sy.none (eqb-false y.kind 2 t))
 
   pub both_some : 0 < k
   both_some = omega (arith, sx.some c.chosen.0, sy.some c.chosen.1.0)
 
 -- equal inserts are used up whole
-pub equal_least : (a b : List ℕ) (x y : Front) → Stands a x → Stands b y → Chooses (transform_turn order) a b x y Together → x.kind ≡ Insert → y.kind ≡ Insert → x.left ≡ min x.left y.left
+pub equal_least : (a b : List ℕ) (x y : Front) → Stands a x → Stands b y → Chooses (transform_turn order) a b x y Together → x.kind ≡ 2 → y.kind ≡ 2 → x.left ≡ min x.left y.left
 equal_least a b x y sx sy c e f = omega (arith, equal_left a b x y sx sy c (min x.left y.left) refl e f)
 
 pub whole_cut : (r : List ℕ) (f : Front) → Stands r f → Cut r f f.left f.to
@@ -259,8 +263,8 @@ module _ (n : ℕ) (a b : List ℕ) (s : State) (o : List ℕ) (t : Turn) (c : C
 pub together_as : (a b : List ℕ) (x y : Front) (t : Turn) → t ≡ Together → Chooses (transform_turn order) a b x y t → Chooses (transform_turn order) a b x y Together
 together_as a b x y t e c = rw e at c
 
-pub first_live : (a b : List ℕ) (x y : Front) (t : Turn) → t ≡ First → Chooses (transform_turn order) a b x y t → x.kind ≢ End
+pub first_live : (a b : List ℕ) (x y : Front) (t : Turn) → t ≡ First → Chooses (transform_turn order) a b x y t → 0 < x.kind
 first_live a b x y t e c = (rw e at c).chosen.0
 
-pub left_live : (r : List ℕ) (f : Front) → Stands r f → f.kind ≢ End → 0 < f.left
+pub left_live : (r : List ℕ) (f : Front) → Stands r f → 0 < f.kind → 0 < f.left
 left_live r f s h = s.some h

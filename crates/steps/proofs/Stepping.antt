@@ -1,5 +1,5 @@
 -- A step over the two fronts for both sides at once: the second's side is the first's with the two exchanged.
-use Rattle.std.specs.Prelude.{◌≡◌, ◌≢◌, ℕ, ◌≤◌, min, true, ◌⊎◌, List, [], ◌∷◌}
+use Rattle.std.specs.Prelude.{◌≡◌, ℕ, ◌<◌, ◌≤◌, min, true, ◌⊎◌, List, [], ◌∷◌}
 use mathlib.Core.Path.{refl, ap, ◌∙◌}
 use mathlib.Core.Logic.{inl, inr}
 use native.Mathlib.Nat.{min_comm}
@@ -10,7 +10,6 @@ use Rattle.edits.specs.Transform.{transform_turn}
 use Rattle.edits.specs.Op.{cut}
 use Rattle.edits.proofs.Symmetry.{other, turns_flip, order_flips}
 use Rattle.record.specs.declared.inner.Front.{Front}
-use Rattle.record.specs.declared.inner.Ahead.TheVariants.{End, Retain, Insert}
 use Rattle.record.specs.InnerFront.{front_op, Stands, Leaves}
 use Rattle.emitter.specs.declared.inner.Emitter.{Emitter}
 use Rattle.emitter.specs.InnerEmit.{Adds, Retains}
@@ -31,14 +30,14 @@ module _ (a b : List ℕ) (x y : Front) where
   first_flips : Chooses (transform_turn order) a b x y First → Chooses (transform_turn order) b a y x Second
   first_flips c = record { chosen = (c.chosen.0, go c.chosen.1) }
     where
-      go : (y.kind ≡ End) ⊎ (transform_turn order (front_op a x) (front_op b y) ≡ align.first) → (y.kind ≡ End) ⊎ (transform_turn order (front_op b y) (front_op a x) ≡ align.second)
+      go : (y.kind ≡ 0) ⊎ (transform_turn order (front_op a x) (front_op b y) ≡ align.first) → (y.kind ≡ 0) ⊎ (transform_turn order (front_op b y) (front_op a x) ≡ align.second)
       go (inl e) = inl e
       go (inr p) = inr (flips align.first align.second p refl)
 
   second_flips : Chooses (transform_turn order) a b x y Second → Chooses (transform_turn order) b a y x First
   second_flips c = record { chosen = (c.chosen.0, go c.chosen.1) }
     where
-      go : (x.kind ≡ End) ⊎ (transform_turn order (front_op a x) (front_op b y) ≡ align.second) → (x.kind ≡ End) ⊎ (transform_turn order (front_op b y) (front_op a x) ≡ align.first)
+      go : (x.kind ≡ 0) ⊎ (transform_turn order (front_op a x) (front_op b y) ≡ align.second) → (x.kind ≡ 0) ⊎ (transform_turn order (front_op b y) (front_op a x) ≡ align.first)
       go (inl e) = inl e
       go (inr p) = inr (flips align.second align.first p refl)
 
@@ -47,10 +46,10 @@ module _ (a b : List ℕ) (x y : Front) where
 
   -- of two that go together both insert, or neither
   module _ (sx : Stands a x) (sy : Stands b y) (c : Chooses (transform_turn order) a b x y Together) where
-    insert_too : y.kind ≡ Insert → x.kind ≡ Insert
+    insert_too : y.kind ≡ 2 → x.kind ≡ 2
     insert_too = both_insert a b x y sx sy c (min x.left y.left) refl
 
-    neither_inserts : y.kind ≢ Insert → x.kind ≡ Insert → ⊥
+    neither_inserts : (y.kind ≡ 2 → ⊥) → x.kind ≡ 2 → ⊥
     neither_inserts n e = n (insert_both a b x y sx sy c (min x.left y.left) refl e)
 
 -- ---- the step of both
@@ -67,23 +66,23 @@ module _ (n : ℕ) (r : List ℕ) (s : Both) (o : List ℕ) (g : Front) (e f : E
 -- as many characters of both
 module _ (m n : ℕ) (a b : List ℕ) (s : Both) (k : ℕ) (o w : List ℕ) where
   module _ (sx : Stands a s.x) (sy : Stands b s.y) (c : Chooses (transform_turn order) a b s.x s.y Together) where
-    pub meets_insert : s.y.kind ≡ Insert → k ≤ s.x.left → k ≤ s.y.left → (d e : Emitter) (o' : List ℕ) → Adds m (cut k (front_op b s.y) ∷ []) s.e o d o' → Retains k d e
+    pub meets_insert : s.y.kind ≡ 2 → k ≤ s.x.left → k ≤ s.y.left → (d e : Emitter) (o' : List ℕ) → Adds m (cut k (front_op b s.y) ∷ []) s.e o d o' → Retains k d e
         → (h f : Emitter) (w' : List ℕ) → Adds n (cut k (front_op a s.x) ∷ []) s.f w h w' → Retains k h f → Meets m n a b s k o w (record { e = e; f = f }) o' w'
     meets_insert z kx ky d e o' p q h f w' u v =
         record { left = past_insert m a b s.x s.y k s.e o d e o' z sy ky p q; right = past_insert n b a s.y s.x k s.f w h f w' (insert_too a b s.x s.y sx sy c z) sx kx u v }
 
-    pub meets_retain : s.y.kind ≡ Retain → s.x.kind ≡ Retain → (e : Emitter) (o' : List ℕ) → Adds m (cut k (front_op a s.x) ∷ []) s.e o e o' → (f : Emitter) (w' : List ℕ) → Adds n (cut k (front_op b s.y) ∷ []) s.f w f w'
+    pub meets_retain : s.y.kind ≡ 1 → s.x.kind ≡ 1 → (e : Emitter) (o' : List ℕ) → Adds m (cut k (front_op a s.x) ∷ []) s.e o e o' → (f : Emitter) (w' : List ℕ) → Adds n (cut k (front_op b s.y) ∷ []) s.f w f w'
         → Meets m n a b s k o w (record { e = e; f = f }) o' w'
     meets_retain z u e o' p f w' q = record { left = past_retain m a b s.x s.y k s.e o e o' z p; right = past_retain n b a s.y s.x k s.f w f w' u q }
 
-    pub meets_first : s.y.kind ≢ Insert → s.y.kind ≡ Retain → s.x.kind ≢ Retain → (e : Emitter) (o' : List ℕ) → Adds m (cut k (front_op a s.x) ∷ []) s.e o e o' → Meets m n a b s k o w (record { e = e; f = s.f }) o' w
+    pub meets_first : (s.y.kind ≡ 2 → ⊥) → s.y.kind ≡ 1 → (s.x.kind ≡ 1 → ⊥) → (e : Emitter) (o' : List ℕ) → Adds m (cut k (front_op a s.x) ∷ []) s.e o e o' → Meets m n a b s k o w (record { e = e; f = s.f }) o' w
     meets_first y2 z u e o' p =
         record { left = past_retain m a b s.x s.y k s.e o e o' z p; right = past_delete n b a s.y s.x k s.f w u (neither_inserts a b s.x s.y sx sy c y2) }
 
-    pub meets_second : s.y.kind ≢ Insert → s.y.kind ≢ Retain → s.x.kind ≡ Retain → (f : Emitter) (w' : List ℕ) → Adds n (cut k (front_op b s.y) ∷ []) s.f w f w' → Meets m n a b s k o w (record { e = s.e; f = f }) o w'
+    pub meets_second : (s.y.kind ≡ 2 → ⊥) → (s.y.kind ≡ 1 → ⊥) → s.x.kind ≡ 1 → (f : Emitter) (w' : List ℕ) → Adds n (cut k (front_op b s.y) ∷ []) s.f w f w' → Meets m n a b s k o w (record { e = s.e; f = f }) o w'
     meets_second y2 z u f w' q = record { left = past_delete m a b s.x s.y k s.e o z y2; right = past_retain n b a s.y s.x k s.f w f w' u q }
 
-    pub meets_delete : s.y.kind ≢ Insert → s.y.kind ≢ Retain → s.x.kind ≢ Retain → Meets m n a b s k o w (record { e = s.e; f = s.f }) o w
+    pub meets_delete : (s.y.kind ≡ 2 → ⊥) → (s.y.kind ≡ 1 → ⊥) → (s.x.kind ≡ 1 → ⊥) → Meets m n a b s k o w (record { e = s.e; f = s.f }) o w
     meets_delete y2 z u =
         record { left = past_delete m a b s.x s.y k s.e o z y2; right = past_delete n b a s.y s.x k s.f w u (neither_inserts a b s.x s.y sx sy c y2) }
 
@@ -117,7 +116,7 @@ module _ (m n : ℕ) (a b : List ℕ) (s : Both) (o w : List ℕ) (t : Turn) (c 
         right = went_together n b a (theirs s) w Together (together_flips a b s.x s.y (chose Together e)) sy sx (theirs r) refl w' f.right;
       }
 
-pub second_live : (a b : List ℕ) (x y : Front) (t : Turn) → t ≡ Second → Chooses (transform_turn order) a b x y t → y.kind ≢ End
+pub second_live : (a b : List ℕ) (x y : Front) (t : Turn) → t ≡ Second → Chooses (transform_turn order) a b x y t → 0 < y.kind
 second_live a b x y t e c = (rw e at c).chosen.0
 
 -- as the kinds choose it
@@ -131,8 +130,8 @@ module _ (m n : ℕ) (a b : List ℕ) (s : Both) (o w : List ℕ) (sx : Stands a
   pub both_together : (o' w' : List ℕ) → Chooses (transform_turn order) a b s.x s.y Together → TogetherBoth m n a b s o w r o' w' → WentBoth m n a b s o w r o' w'
   both_together o' w' c f = turned_together m n a b s o w Together c sx sy r refl o' w' f
 
-pub ended_live : (a b : List ℕ) (x y : Front) → live_is x y ≡ true → x.kind ≡ End → y.kind ≢ End
+pub ended_live : (a b : List ℕ) (x y : Front) → live_is x y ≡ true → x.kind ≡ 0 → 0 < y.kind
 ended_live a b x y l e = (chosen_ended a b x y l e).chosen.0
 
-pub other_live : (x : Front) → x.kind ≢ End → x.kind ≢ End
-other_live x p = p
+pub other_live : (x : Front) → (x.kind ≡ 0 → ⊥) → 0 < x.kind
+other_live x p = omega arith

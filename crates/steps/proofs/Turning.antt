@@ -1,7 +1,8 @@
 -- A step over the two fronts is a step of the definition.
-use Rattle.std.specs.Prelude.{◌≡◌, ℕ, zero, suc, ◌+◌, ◌-◌, ◌<◌, ◌≤◌, ◌≢◌, min, Bool, true, false, not, ◌&&◌, leb, ◌⊎◌, List, ◌∷◌, length}
+use Rattle.std.specs.Prelude.{◌≡◌, ℕ, zero, suc, ◌+◌, ◌-◌, ◌<◌, ◌≤◌, min, Bool, true, false, not, ◌&&◌, eqb, leb, ◌⊎◌, List, ◌∷◌, length}
 use mathlib.Core.Path.{refl, sym, ◌∙◌, ap, ap₂}
-use borrow.Author.Tests.{leb-true, leb-false}
+use mathlib.Core.Bool.{false≢true}
+use borrow.Author.Tests.{eq-eqb, ne_eqb, eqb-true, eqb-false, leb-true, leb-false}
 use native.Mathlib.Omega.{arith}
 use mathlib.Core.Logic.{inl, inr}
 use Rattle.characters.specs.Text.{Char}
@@ -11,33 +12,32 @@ use Rattle.edits.specs.Build.{add_all}
 use Rattle.edits.specs.Align.{Step, one, two, both, step}
 use Rattle.edits.specs.Align as align
 use Rattle.record.specs.declared.inner.Front.{Front}
-use Rattle.record.specs.declared.inner.Ahead.{Ahead}
-use Rattle.record.specs.declared.inner.Ahead.TheVariants.{End, Retain, Insert, Delete}
-use Rattle.record.proofs.Cases.{is_end}
 use Rattle.record.specs.InnerFront.{ops_left, front_op, ahead, Stands, Leaves}
 use Rattle.reader.proofs.Fronts.{some_ahead, front_size, size_rest, ended_ahead}
 use Rattle.emitter.proofs.Loops.{running, run_both, run_one, run_two}
-use Rattle.steps.specs.InnerSteps.{ended, live_is, step_of, Chosen}
+use Rattle.steps.specs.InnerSteps.{live_is, step_of, Chosen}
 use Rattle.steps.specs.declared.inner.Turn.{Turn}
 use Rattle.steps.specs.declared.inner.Turn.TheVariants.{First, Second, Together}
 
 -- ---- as the code finds it
 
 module _ (x y : Front) where
+  pub live_other : x.kind ≡ 0 → not (eqb y.kind 0) ≡ live_is x y
+  live_other e = rw (eq-eqb x.kind 0 e)
+
+  pub live_first : (x.kind ≡ 0 → ⊥) → true ≡ live_is x y
+  live_first e = rw (ne_eqb x.kind 0 e)
+
   pub live_is_same : (r v : Bool) → r ≡ live_is x y → r ≡ v → live_is x y ≡ v
   live_is_same r v p q = sym p ∙ q
 
-  pub both_ended : live_is x y ≡ false → (x.kind ≡ End) × (y.kind ≡ End)
-  both_ended h = go x.kind y.kind refl refl h
+  pub both_ended : live_is x y ≡ false → (x.kind ≡ 0) × (y.kind ≡ 0)
+  both_ended h = go (eqb x.kind 0) (eqb y.kind 0) refl refl h
     where
-      go : (p q : Ahead) → x.kind ≡ p → y.kind ≡ q → not (ended p && ended q) ≡ false → (x.kind ≡ End) × (y.kind ≡ End)
-      go End End e f h = (e, f)
-      go End Retain e f h = cc
-      go End Insert e f h = cc
-      go End Delete e f h = cc
-      go Retain q e f h = cc
-      go Insert q e f h = cc
-      go Delete q e f h = cc
+      go : (p q : Bool) → eqb x.kind 0 ≡ p → eqb y.kind 0 ≡ q → not (p && q) ≡ false → (x.kind ≡ 0) × (y.kind ≡ 0)
+      go true true e f h = (eqb-true x.kind 0 e, eqb-true y.kind 0 f)
+      go true false e f h = absurd (false≢true (sym h))
+      go false q e f h = absurd (false≢true (sym h))
 
 -- ---- fronts and what lies ahead
 
@@ -46,7 +46,7 @@ abbrev behind : List ℕ → Front → Seq
 behind r f = ops_left r f.next f.to
 
 module _ (r : List ℕ) (f : Front) (s : Stands r f) where
-  pub live_ahead : f.kind ≢ End → ahead r f ≡ front_op r f ∷ behind r f
+  pub live_ahead : 0 < f.kind → ahead r f ≡ front_op r f ∷ behind r f
   live_ahead h = some_ahead r f (s.some h)
 
   -- a front that is used up whole leaves what lies behind it
@@ -86,14 +86,15 @@ module _ (turn : Op Char → Op Char → align.Turn) (a b : List ℕ) (x y : Fro
       }
     where
       goes : (g : Step Char → Seq) (acc : Seq) → running turn g acc (front_op a x ∷ behind a x) (ahead b y) ≡ running turn g (add_all acc (g (one (front_op a x)))) (behind a x) (ahead b y)
-      goes g acc = go (is_end y.kind) c
+      goes g acc = go (eqb y.kind 0) refl c
         where
-          go : (y.kind ≡ End) ⊎ (y.kind ≢ End) → ((y.kind ≡ End) ⊎ (turn (front_op a x) (front_op b y) ≡ align.first))
+          go : (z : Bool) → eqb y.kind 0 ≡ z → ((y.kind ≡ 0) ⊎ (turn (front_op a x) (front_op b y) ≡ align.first))
               → running turn g acc (front_op a x ∷ behind a x) (ahead b y) ≡ running turn g (add_all acc (g (one (front_op a x)))) (behind a x) (ahead b y)
-          go (inl z) d = rw (ended_ahead b y sy z) (run_one turn g acc (front_op a x) (behind a x))
-          go (inr z) (inl d) = absurd (z d)
-          go (inr z) (inr d) =
-              rw (live_ahead b y sy z)
+          go true z d = rw (ended_ahead b y sy (eqb-true y.kind 0 z)) (run_one turn g acc (front_op a x) (behind a x))
+          go false z (inl d) = absurd (eqb-false y.kind 0 z d)
+          go false z (inr d) =
+              let ne = eqb-false y.kind 0 z in
+              rw (live_ahead b y sy (omega arith))
               (run_both turn g acc (front_op a x) (front_op b y) (behind a x) (behind b y) ∙ ap (λ w. let s = step w (front_op a x) (front_op b y) (behind a x) (behind b y) in running turn g (add_all acc (g s.0)) s.1 s.2) d)
 
   pub moves_second : Chosen turn a b x y Second → x' ≡ x → Leaves b y y.left y' → Moves turn a b x y Second y.left x' y'
@@ -109,14 +110,15 @@ module _ (turn : Op Char → Op Char → align.Turn) (a b : List ℕ) (x y : Fro
       }
     where
       goes : (g : Step Char → Seq) (acc : Seq) → running turn g acc (ahead a x) (front_op b y ∷ behind b y) ≡ running turn g (add_all acc (g (two (front_op b y)))) (ahead a x) (behind b y)
-      goes g acc = go (is_end x.kind) c
+      goes g acc = go (eqb x.kind 0) refl c
         where
-          go : (x.kind ≡ End) ⊎ (x.kind ≢ End) → ((x.kind ≡ End) ⊎ (turn (front_op a x) (front_op b y) ≡ align.second))
+          go : (z : Bool) → eqb x.kind 0 ≡ z → ((x.kind ≡ 0) ⊎ (turn (front_op a x) (front_op b y) ≡ align.second))
               → running turn g acc (ahead a x) (front_op b y ∷ behind b y) ≡ running turn g (add_all acc (g (two (front_op b y)))) (ahead a x) (behind b y)
-          go (inl z) d = rw (ended_ahead a x sx z) (run_two turn g acc (front_op b y) (behind b y))
-          go (inr z) (inl d) = absurd (z d)
-          go (inr z) (inr d) =
-              rw (live_ahead a x sx z)
+          go true z d = rw (ended_ahead a x sx (eqb-true x.kind 0 z)) (run_two turn g acc (front_op b y) (behind b y))
+          go false z (inl d) = absurd (eqb-false x.kind 0 z d)
+          go false z (inr d) =
+              let ne = eqb-false x.kind 0 z in
+              rw (live_ahead a x sx (omega arith))
               (run_both turn g acc (front_op a x) (front_op b y) (behind a x) (behind b y) ∙ ap (λ w. let s = step w (front_op a x) (front_op b y) (behind a x) (behind b y) in running turn g (add_all acc (g s.0)) s.1 s.2) d)
 
   pub moves_together : (k : ℕ) → Chosen turn a b x y Together → k ≡ min x.left y.left → Leaves a x k x' → Leaves b y k y' → Moves turn a b x y Together k x' y'

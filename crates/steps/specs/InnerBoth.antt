@@ -1,12 +1,11 @@
 -- What the functions below `transform` and `rebase` promise each other of both sides, which one run writes: one with places for m
 -- operations, the other for n. No entry's contract cites this.
-use Rattle.std.specs.Prelude.{◌≡◌, ◌≢◌, ℕ, ◌^◌, ◌≤◌, List, length}
+use Rattle.std.specs.Prelude.{◌≡◌, ℕ, ◌^◌, ◌<◌, ◌≤◌, List, length}
 use Rattle.characters.specs.Order.{order}
 use Rattle.characters.specs.Text.{Char}
 use Rattle.edits.specs.Op.{target, cut}
 use Rattle.edits.specs.Transform.{past, keep_both, transform_turn, lefts, Sides}
 use Rattle.record.specs.declared.inner.Front.{Front}
-use Rattle.record.specs.declared.inner.Ahead.TheVariants.{End}
 use Rattle.record.specs.Layout.{op_count_of, start_of_text}
 use Rattle.record.specs.InnerFront.{front_op, Stands}
 use Rattle.emitter.specs.declared.inner.Emitter.{Emitter}
@@ -28,7 +27,7 @@ pub record Fed (na m : ℕ) (a : List ℕ) (x : Front) (s : Both) (o : List ℕ)
   pub under_e : Under (2 ^ 38) s.e
   pub under_f : Under (2 ^ 38) s.f
   pub stands : Stands a x
-  pub live : x.kind ≢ End
+  pub live : 0 < x.kind
   pub room : length o ≤ start_of_text m
 
 -- of both records

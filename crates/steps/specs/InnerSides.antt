@@ -1,22 +1,15 @@
 -- What the functions below `transform` promise each other. No entry's contract cites this.
-use Rattle.std.specs.Prelude.{◌≡◌, ℕ, min, List, [], ◌∷◌}
+use Rattle.std.specs.Prelude.{◌≡◌, ℕ, min, cond, List, [], ◌∷◌, ◌==◌}
 use Rattle.edits.specs.Op.{gives, cut}
 use Rattle.edits.specs.Transform.{past, keep_both}
 use Rattle.record.specs.declared.inner.Front.{Front}
-use Rattle.record.specs.declared.inner.Ahead.{Ahead}
-use Rattle.record.specs.declared.inner.Ahead.TheVariants.{End, Retain, Insert, Delete}
+use Rattle.record.specs.Layout.{delete_kind}
 use Rattle.record.specs.InnerFront.{front_op, Leaves}
 use Rattle.emitter.specs.InnerEmit.{Adds, Retains}
 use Rattle.steps.specs.declared.inner.State.{State}
 
-abbrev pub given : Ahead → ℕ → ℕ
-given End n = n
-given Retain n = n
-given Insert n = n
-given Delete n = 0
-
 abbrev pub gives_of : Front → ℕ
-gives_of f = given f.kind f.left
+gives_of f = cond (f.kind == delete_kind) 0 f.left
 
 -- the first's operation went by itself
 pub record FirstWent (n : ℕ) (a : List ℕ) (s : State) (o : List ℕ) (r : State) (o' : List ℕ) : Type 0 where

@@ -1,5 +1,5 @@
 -- Steps over the fronts of two records. Only contracts of `inner` and of the crates above cite this.
-use Rattle.std.specs.Prelude.{◌≡◌, ℕ, ◌+◌, ◌^◌, ◌<◌, ◌≤◌, ◌≢◌, Bool, true, false, not, ◌&&◌, ◌⊎◌, List, length}
+use Rattle.std.specs.Prelude.{◌≡◌, ℕ, ◌+◌, ◌^◌, ◌<◌, ◌≤◌, Bool, not, ◌&&◌, ◌⊎◌, List, length, ◌==◌}
 use Rattle.characters.specs.Text.{Char}
 use Rattle.edits.specs.Op.{cut, Op}
 use Rattle.edits.specs.Align.{Step, one, two, both, steps, each}
@@ -7,8 +7,6 @@ use Rattle.edits.specs.Align as align
 use Rattle.edits.specs.Sequence.{Seq}
 use Rattle.edits.specs.Build.{add_all}
 use Rattle.record.specs.declared.inner.Front.{Front}
-use Rattle.record.specs.declared.inner.Ahead.{Ahead}
-use Rattle.record.specs.declared.inner.Ahead.TheVariants.{End, Retain, Insert, Delete}
 use Rattle.record.specs.InnerFront.{front_op, ahead, Stands}
 use Rattle.record.specs.Layout.{op_count_of, max_ops}
 use Rattle.record.specs.Record.{ops, record_fault}
@@ -17,15 +15,8 @@ use Rattle.steps.specs.declared.inner.Turn.{Turn}
 use Rattle.steps.specs.declared.inner.Turn.TheVariants.{First, Second, Together}
 use Rattle.steps.specs.declared.inner.State.{State}
 
--- whether nothing lies ahead, and whether anything does of either front
-abbrev pub ended : Ahead → Bool
-ended End = true
-ended Retain = false
-ended Insert = false
-ended Delete = false
-
 abbrev pub live_is : Front → Front → Bool
-live_is x y = not (ended x.kind && ended y.kind)
+live_is x y = not (x.kind == 0 && y.kind == 0)
 
 -- the step that is taken
 abbrev pub step_of : List ℕ → List ℕ → Front → Front → Turn → ℕ → Step Char
@@ -35,9 +26,9 @@ step_of a b x y Together k = both (cut k (front_op a x)) (cut k (front_op b y))
 
 -- what a rule `turn` chooses: where one record has ended, the other goes by itself
 abbrev pub Chosen : (Op Char → Op Char → align.Turn) → List ℕ → List ℕ → Front → Front → Turn → Type 0
-Chosen turn a b x y First = (x.kind ≢ End) × ((y.kind ≡ End) ⊎ (turn (front_op a x) (front_op b y) ≡ align.first))
-Chosen turn a b x y Second = (y.kind ≢ End) × ((x.kind ≡ End) ⊎ (turn (front_op a x) (front_op b y) ≡ align.second))
-Chosen turn a b x y Together = (x.kind ≢ End) × ((y.kind ≢ End) × (turn (front_op a x) (front_op b y) ≡ align.together))
+Chosen turn a b x y First = (0 < x.kind) × ((y.kind ≡ 0) ⊎ (turn (front_op a x) (front_op b y) ≡ align.first))
+Chosen turn a b x y Second = (0 < y.kind) × ((x.kind ≡ 0) ⊎ (turn (front_op a x) (front_op b y) ≡ align.second))
+Chosen turn a b x y Together = (0 < x.kind) × ((0 < y.kind) × (turn (front_op a x) (front_op b y) ≡ align.together))
 
 pub record Chooses (turn : Op Char → Op Char → align.Turn) (a b : List ℕ) (x y : Front) (t : Turn) : Type 0 where
   pub chosen : Chosen turn a b x y t

@@ -14,7 +14,7 @@ ghost use Rattle.steps.specs.InnerBoth.{Counted, SizedBoth};
 
 use characters::Ordering;
 use emitter::inner::Emitter;
-use record::inner::{Ahead, Front};
+use record::inner::{AT_DELETE, AT_END, AT_INSERT, Front};
 
 // Of two inserts that meet, the lesser by byte order goes first.
 pub fn rank(a: &[u8], b: &[u8], x: Front, y: Front) -> Ordering
@@ -33,18 +33,26 @@ pub fn whose(a: &[u8], b: &[u8], x: Front, y: Front) -> Turn
     requires { Stands a.now x × Stands b.now y × (live_is x y ≡ true) }
     ensures { Chooses (transform_turn order) a.now b.now x y result }
 {
-    match (x.kind, y.kind) {
-        (Ahead::End, _) => Turn::Second,
-        (_, Ahead::End) => Turn::First,
-        (Ahead::Insert, Ahead::Insert) => match rank(a, b, x, y) {
-            Ordering::Less => Turn::First,
-            Ordering::Equal => Turn::Together,
-            Ordering::Greater => Turn::Second,
-        },
-        (Ahead::Insert, _) => Turn::First,
-        (_, Ahead::Insert) => Turn::Second,
-        _ => Turn::Together,
+    if x.kind == AT_END {
+        return Turn::Second;
     }
+    if y.kind == AT_END {
+        return Turn::First;
+    }
+    if x.kind == AT_INSERT {
+        if y.kind == AT_INSERT {
+            return match rank(a, b, x, y) {
+                Ordering::Less => Turn::First,
+                Ordering::Equal => Turn::Together,
+                Ordering::Greater => Turn::Second,
+            };
+        }
+        return Turn::First;
+    }
+    if y.kind == AT_INSERT {
+        return Turn::Second;
+    }
+    Turn::Together
 }
 
 // How many characters a front's operation gives.
@@ -52,10 +60,10 @@ pub fn gives(f: Front) -> usize
     requires { f.left < 65536 }
     ensures { (result ≡ gives_of f) × (result < 65536) }
 {
-    match f.kind {
-        Ahead::Delete => 0,
-        _ => f.left,
+    if f.kind == AT_DELETE {
+        return 0;
     }
+    f.left
 }
 
 // What was emitted of both sides.
@@ -160,7 +168,10 @@ pub fn begin(a: &[u8], na: usize, b: &[u8], nb: usize) -> State
 pub fn live(x: Front, y: Front) -> bool
     ensures { result ≡ live_is x y }
 {
-    !matches!((x.kind, y.kind), (Ahead::End, Ahead::End))
+    if x.kind == AT_END {
+        return y.kind != AT_END;
+    }
+    true
 }
 
 pub fn goes_on(s: State) -> bool

@@ -2,7 +2,7 @@
 ghost use Rattle.std.specs.Prelude.{◌≡◌, ◌<◌, ◌≤◌};
 ghost use Rattle.characters.specs.Order.{order};
 ghost use Rattle.edits.specs.Transform.{transform_turn};
-ghost use Rattle.record.specs.declared.inner.Ahead.TheVariants.{Insert};
+ghost use Rattle.record.specs.Layout.{insert_kind};
 ghost use Rattle.record.specs.InnerFront.{Cut};
 ghost use Rattle.steps.specs.InnerBoth.{Fed, ReadyBoth, FirstBoth, SecondBoth, Meets, TogetherBoth, WentBoth};
 ghost use Rattle.steps.specs.InnerSteps.{Operands, Chooses};
@@ -56,7 +56,7 @@ fn emit_equal(
 ) -> Pair
     requires { ReadyBoth m n a.now b.now s out_a.old out_b.old × (0 < k) × (k ≤ s.x.left) × (k ≤ s.y.left)
         × Cut a.now s.x k s.x.to × Cut b.now s.y k s.y.to
-        × Chooses (transform_turn order) a.now b.now s.x s.y Turn.Together × (s.y.kind ≡ Insert) }
+        × Chooses (transform_turn order) a.now b.now s.x s.y Turn.Together × (s.y.kind ≡ insert_kind) }
     ensures { Meets m n a.now b.now s k out_a.old out_b.old result out_a.new
         out_b.new }
 {
@@ -85,8 +85,8 @@ fn equal_inserts(
     s: Both,
 ) -> Both
     requires { Operands na nb a.now b.now × ReadyBoth m n a.now b.now s out_a.old out_b.old
-        × Chooses (transform_turn order) a.now b.now s.x s.y Turn.Together × (s.x.kind ≡ Insert)
-        × (s.y.kind ≡ Insert) }
+        × Chooses (transform_turn order) a.now b.now s.x s.y Turn.Together × (s.x.kind ≡ insert_kind)
+        × (s.y.kind ≡ insert_kind) }
     ensures { TogetherBoth m n a.now b.now s out_a.old out_b.old result
         out_a.new out_b.new }
 {
@@ -114,7 +114,7 @@ pub fn inserts(
     s: Both,
 ) -> Both
     requires { Operands na nb a.now b.now × ReadyBoth m n a.now b.now s out_a.old out_b.old
-        × (s.x.kind ≡ Insert) × (s.y.kind ≡ Insert) }
+        × (s.x.kind ≡ insert_kind) × (s.y.kind ≡ insert_kind) }
     ensures { WentBoth m n a.now b.now s out_a.old out_b.old result out_a.new
         out_b.new }
 {

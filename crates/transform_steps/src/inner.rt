@@ -1,13 +1,13 @@
 // One step of transform over the front operations of two records that were checked: what either becomes past the other.
-ghost use Rattle.std.specs.Prelude.{◌≡◌, ◌≢◌, ◌<◌, ◌≤◌, true};
+ghost use Rattle.std.specs.Prelude.{◌≡◌, ◌<◌, ◌≤◌, true, false, ◌==◌};
 ghost use Rattle.characters.specs.Order.{order};
 ghost use Rattle.edits.specs.Transform.{transform_turn};
-ghost use Rattle.record.specs.declared.inner.Ahead.TheVariants.{Insert};
+ghost use Rattle.record.specs.Layout.{insert_kind};
 ghost use Rattle.record.specs.InnerFront.{Cut};
 ghost use Rattle.steps.specs.InnerBoth.{Fed, ReadyBoth, FirstBoth, SecondBoth, Meets, TogetherBoth, WentBoth};
 ghost use Rattle.steps.specs.InnerSteps.{Operands, Chooses, live_is};
 
-use record::inner::Ahead;
+use record::inner::{AT_END, AT_INSERT, AT_RETAIN};
 use steps::inner::{Both, Pair, Turn};
 
 // The first's operation goes by itself: the other side retains what it gives.
@@ -91,7 +91,7 @@ fn emit_both(
 ) -> Pair
     requires { ReadyBoth m n a.now b.now s out_a.old out_b.old × (0 < k) × (k ≤ s.x.left) × (k ≤ s.y.left)
         × Cut a.now s.x k s.x.to × Cut b.now s.y k s.y.to
-        × Chooses (transform_turn order) a.now b.now s.x s.y Turn.Together × (s.y.kind ≢ Insert) }
+        × Chooses (transform_turn order) a.now b.now s.x s.y Turn.Together × ((s.y.kind == insert_kind) ≡ false) }
     ensures { Meets m n a.now b.now s k out_a.old out_b.old result out_a.new
         out_b.new }
 {
@@ -101,15 +101,15 @@ fn emit_both(
     let f = s.f;
     let i = x.to;
     let j = y.to;
-    if let Ahead::Retain = y.kind {
+    if y.kind == AT_RETAIN {
         let d = emitter::inner::push_without_text(out_a, m, e, a, x, k, i);
-        if let Ahead::Retain = x.kind {
+        if x.kind == AT_RETAIN {
             let h = emitter::inner::push_without_text(out_b, n, f, b, y, k, j);
             return Pair { e: d, f: h };
         }
         return Pair { e: d, f };
     }
-    if let Ahead::Retain = x.kind {
+    if x.kind == AT_RETAIN {
         let h = emitter::inner::push_without_text(out_b, n, f, b, y, k, j);
         return Pair { e, f: h };
     }
@@ -129,7 +129,7 @@ fn step_both(
     s: Both,
 ) -> Both
     requires { Operands na nb a.now b.now × ReadyBoth m n a.now b.now s out_a.old out_b.old
-        × Chooses (transform_turn order) a.now b.now s.x s.y Turn.Together × (s.y.kind ≢ Insert) }
+        × Chooses (transform_turn order) a.now b.now s.x s.y Turn.Together × ((s.y.kind == insert_kind) ≡ false) }
     ensures { TogetherBoth m n a.now b.now s out_a.old out_b.old result
         out_a.new out_b.new }
 {
@@ -161,14 +161,22 @@ pub fn step(
     ensures { WentBoth m n a.now b.now s out_a.old out_b.old result out_a.new
         out_b.new }
 {
-    match (s.x.kind, s.y.kind) {
-        (Ahead::Insert, Ahead::Insert) => {
-            ties::inner::inserts(a, na, b, nb, out_a, m, out_b, n, s)
+    let x = s.x;
+    let y = s.y;
+    if x.kind == AT_INSERT {
+        if y.kind == AT_INSERT {
+            return ties::inner::inserts(a, na, b, nb, out_a, m, out_b, n, s);
         }
-        (Ahead::Insert, _) => insert_first(a, na, out_a, m, s),
-        (_, Ahead::Insert) => insert_second(b, nb, out_b, n, s),
-        (Ahead::End, _) => step_second(b, nb, out_b, n, s),
-        (_, Ahead::End) => step_first(a, na, out_a, m, s),
-        _ => step_both(a, na, b, nb, out_a, m, out_b, n, s),
+        return insert_first(a, na, out_a, m, s);
     }
+    if y.kind == AT_INSERT {
+        return insert_second(b, nb, out_b, n, s);
+    }
+    if x.kind == AT_END {
+        return step_second(b, nb, out_b, n, s);
+    }
+    if y.kind == AT_END {
+        return step_first(a, na, out_a, m, s);
+    }
+    step_both(a, na, b, nb, out_a, m, out_b, n, s)
 }

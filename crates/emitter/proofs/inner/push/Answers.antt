@@ -2,8 +2,8 @@ use Rattle.emitter.proofs.Adding.{part_room, part_small, part_few, part_retain, 
 use borrow.Author.Rules.{rules}
 use Rattle.emitter.proofs.inner.push.Goals as goal
 
-pub returns-in-Retain : goal.returns-in-Retain
-returns-in-Retain c = search part_retain
+pub returns-then-kind-eq-AT_RETAIN : goal.returns-then-kind-eq-AT_RETAIN
+returns-then-kind-eq-AT_RETAIN c = search part_retain
 
 pub copy-requires : goal.copy-requires
 copy-requires c = (search rules, search rules, search part_room)
@@ -11,8 +11,8 @@ copy-requires c = (search rules, search rules, search part_room)
 pub inserted-requires : goal.inserted-requires
 inserted-requires c = (search part_small, search part_few, search rules)
 
-pub returns-in-Insert : goal.returns-in-Insert
-returns-in-Insert c = search part_inserts
+pub returns-then-kind-eq-AT_INSERT : goal.returns-then-kind-eq-AT_INSERT
+returns-then-kind-eq-AT_INSERT c = search part_inserts
 
 pub returns : goal.returns
 returns c = search part_deletes

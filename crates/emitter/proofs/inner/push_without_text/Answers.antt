@@ -2,14 +2,14 @@ use Rattle.emitter.proofs.Adding.{part_small, part_retain, mark_inserts, part_de
 use borrow.Author.Rules.{rules}
 use Rattle.emitter.proofs.inner.push_without_text.Goals as goal
 
-pub returns-in-Retain : goal.returns-in-Retain
-returns-in-Retain c = search part_retain
+pub returns-then-kind-eq-AT_RETAIN : goal.returns-then-kind-eq-AT_RETAIN
+returns-then-kind-eq-AT_RETAIN c = search part_retain
 
 pub inserted-requires : goal.inserted-requires
 inserted-requires c = (search part_small, search rules, search rules)
 
-pub returns-in-Insert : goal.returns-in-Insert
-returns-in-Insert c = search mark_inserts
+pub returns-then-kind-eq-AT_INSERT : goal.returns-then-kind-eq-AT_INSERT
+returns-then-kind-eq-AT_INSERT c = search mark_inserts
 
 pub returns : goal.returns
 returns c = search part_deletes

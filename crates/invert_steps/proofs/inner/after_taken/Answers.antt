@@ -1,8 +1,8 @@
 use Rattle.invert_steps.proofs.Undoing.{stays, moves}
 use Rattle.invert_steps.proofs.inner.after_taken.Goals as goal
 
-pub returns-in-Insert : goal.returns-in-Insert
-returns-in-Insert c = search stays
+pub returns-then-f-eq-AT_INSERT : goal.returns-then-f-eq-AT_INSERT
+returns-then-f-eq-AT_INSERT c = search stays
 
-pub returns-in_default : goal.returns-in_default
-returns-in_default c = search moves
+pub returns : goal.returns
+returns c = search moves

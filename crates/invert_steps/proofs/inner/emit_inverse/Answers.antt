@@ -2,14 +2,14 @@ use Rattle.invert_steps.proofs.Undoing.{part_well, part_few, part_count, gives_r
 use borrow.Author.Rules.{rules}
 use Rattle.invert_steps.proofs.inner.emit_inverse.Goals as goal
 
-pub returns-in-Retain : goal.returns-in-Retain
-returns-in-Retain c = search gives_retain
+pub returns-then-f-eq-AT_RETAIN : goal.returns-then-f-eq-AT_RETAIN
+returns-then-f-eq-AT_RETAIN c = search gives_retain
 
-pub returns-in-Insert : goal.returns-in-Insert
-returns-in-Insert c = search gives_delete
+pub returns-then-f-eq-AT_INSERT : goal.returns-then-f-eq-AT_INSERT
+returns-then-f-eq-AT_INSERT c = search gives_delete
 
 pub insert-requires : goal.insert-requires
 insert-requires c = search (part_well, part_few, part_count, rules)
 
-pub returns-in_default : goal.returns-in_default
-returns-in_default c = search gives_insert
+pub returns : goal.returns
+returns c = search gives_insert
