@@ -9,7 +9,7 @@ ghost use Rattle.record.specs.Layout.{op_count_of, base_of};
 ghost use Rattle.record.specs.Record.{record_fault};
 ghost use Rattle.apply_steps.specs.InnerSteps.{TakesRest, Stage, Steps, played};
 
-use record::inner::{INSERT, RETAIN};
+use record::inner::Kind;
 
 // How far the record and the text were gone through: the next operation, the places of the next insert's text and of the next
 // character, and how many bytes were given.
@@ -64,7 +64,7 @@ fn apply_op(
     let len = s.len;
     let kind = reader::inner::kind(rec, k);
     let count = reader::inner::count(rec, n, k);
-    if kind == INSERT {
+    if let Kind::Insert = kind {
         let to = from + count;
         buffers::inner::copy_short(out, len, rec, from, to);
         return Progress {
@@ -75,7 +75,7 @@ fn apply_op(
         };
     }
     let end = end_of(text, chars, at, count, n - k);
-    if kind == RETAIN {
+    if let Kind::Retain = kind {
         buffers::inner::copy_short(out, len, text, at, end);
         return Progress {
             k: k + 1,

@@ -8,6 +8,7 @@ ghost use Rattle.characters.specs.Form.{is_well_formed};
 ghost use Rattle.characters.specs.Chars.{number_of_chars};
 ghost use Rattle.characters.specs.Text.{chars};
 ghost use Rattle.edits.specs.Op.{retain, delete, insert};
+ghost use Rattle.record.specs.Kinds.{number_of};
 ghost use Rattle.record.specs.Layout.{op_count_of, max_ops, max_size, start_of_text};
 ghost use Rattle.record.specs.Record.{record_fault};
 ghost use Rattle.places.specs.InnerOps.{one, relocated};
@@ -15,12 +16,12 @@ ghost use Rattle.emitter.specs.InnerEmit.{Under, flushed, headed};
 ghost use Rattle.extend.specs.InnerExtending.{last_count, closed_of, Grown};
 
 use emitter::inner::Emitter;
-use record::inner::{DELETE, INSERT, RETAIN};
+use record::inner::Kind;
 
 // The count of the operation before operation k, where it is of this kind; else 0.
-fn ending(rec: &[u8], ops: usize, k: usize, kind: u8) -> usize
+fn ending(rec: &[u8], ops: usize, k: usize, kind: Kind) -> usize
     requires { (record_fault rec.now ≡ 0) × (ops ≡ op_count_of rec.now) × (k ≤ ops) }
-    ensures { (result ≡ last_count rec.now k kind) × (result < 65536) }
+    ensures { (result ≡ last_count rec.now k (number_of kind)) × (result < 65536) }
 {
     if k == 0 {
         return 0;
@@ -63,7 +64,7 @@ pub fn retain_more(rec: &[u8], ops: usize, k: usize) -> Emitter
     requires { (record_fault rec.now ≡ 0) × (ops ≡ op_count_of rec.now) × (ops ≤ max_ops) × (k ≤ max_size) }
     ensures { Grown rec.now (retain k) [] result × (result.ins ≡ 0) × (result.del ≡ 0) }
 {
-    let ret = ending(rec, ops, ops, RETAIN);
+    let ret = ending(rec, ops, ops, Kind::Retain);
     Emitter {
         ins: 0,
         del: 0,
@@ -80,7 +81,7 @@ pub fn delete_more(rec: &[u8], ops: usize, k: usize) -> Emitter
     requires { (record_fault rec.now ≡ 0) × (ops ≡ op_count_of rec.now) × (ops ≤ max_ops) × (k ≤ max_size) }
     ensures { Grown rec.now (delete k) [] result × (result.ins ≡ 0) × (result.ret ≡ 0) }
 {
-    let del = ending(rec, ops, ops, DELETE);
+    let del = ending(rec, ops, ops, Kind::Delete);
     Emitter {
         ins: 0,
         del: del + k,
@@ -98,9 +99,9 @@ pub fn insert_more(rec: &[u8], ops: usize, text: &[u8], num: usize) -> Emitter
         × (num ≡ number_of_chars text.now) × (length text.now ≤ max_size) }
     ensures { Grown rec.now (insert (chars text.now)) text.now result × (result.ret ≡ 0) }
 {
-    let del = ending(rec, ops, ops, DELETE);
+    let del = ending(rec, ops, ops, Kind::Delete);
     let y = before(ops, del);
-    let ins = ending(rec, ops, y, INSERT);
+    let ins = ending(rec, ops, y, Kind::Insert);
     Emitter {
         ins: ins + text.len(),
         del,

@@ -24,6 +24,11 @@ use Rattle.edits.specs.Invert.{undo, undo_all, invert}
 use Rattle.edits.specs.Built.{Built, next}
 use Rattle.edits.proofs.Meaning.{if_zero_elim}
 use Rattle.edits.proofs.Links.{Links, built_links, links_built}
+use denote.Enum.Bare.{sameb}
+use Rattle.record.specs.contracts.inner.Kind.{the_type}
+use Rattle.record.specs.declared.inner.Kind.{Kind}
+use Rattle.record.specs.declared.inner.Kind.TheVariants.{Retain, Insert, Delete}
+use Rattle.record.specs.Kinds.{number_of}
 use Rattle.record.specs.Layout.{kind_at, start_of_text, kinds_start, counts_start, op_count_of, count_at, base_of, target_of, max_size}
 use Rattle.record.specs.Record.{in_bytes, code, inserted, in_chars, record_fault, text, ops}
 use Rattle.record.specs.InnerFront.{ops_left, Place}
@@ -53,8 +58,13 @@ module _ (r : List ℕ) (n k : ℕ) where
   pub follows_told : (v : Bool) → v ≡ delete_behind r n k → v ≡ true → T (delete_behind r n k)
   follows_told v p y = known (sym p ∙ y)
 
-  pub follows_other : (kind : ℕ) → k + 1 < n → kind ≡ kind_at r (k + 1) → eqb kind 3 ≡ delete_behind r n k
-  follows_other kind h q = rw (lt-leb n (k + 1) h, q)
+  pub follows_other : (kind : Kind) (v : Bool) → k + 1 < n → number_of kind ≡ kind_at r (k + 1) → v ≡ sameb the_type kind Delete → v ≡ delete_behind r n k
+  follows_other kind v h q p = p ∙ rw (lt-leb n (k + 1) h, ← q) (deletes kind)
+    where
+      deletes : (a : Kind) → sameb the_type a Delete ≡ eqb (number_of a) 3
+      deletes Retain = refl
+      deletes Insert = refl
+      deletes Delete = refl
 
 -- ---- what undoes an operation, behind what is held
 

@@ -11,7 +11,7 @@ ghost use Rattle.record.specs.Record.{record_fault, ops};
 ghost use Rattle.emitter.specs.InnerEmit.{Writes};
 ghost use Rattle.invert_in_place.specs.InnerInverting.{inserts_apart, inserted_back, restored, delete_behind, Ready, InsertAt, Undoes};
 
-use record::inner::{DELETE, INSERT, RETAIN};
+use record::inner::Kind;
 
 // How far the record and the text were gone through: the next operation, the places of the next insert's text and of the next
 // character, and the place of the next byte of text in the output.
@@ -28,7 +28,7 @@ fn restore(text: &[u8], out: &mut [u8], n: usize, k: usize, at: usize, to: usize
     requires { (at ≤ to) × (to ≤ length text.now) × (n ≤ max_ops) × (k < n) × (start_of_text n ≤ length out.old) × (put ≤ 2 ^ 50) }
     ensures { out.new ≡ restored n k at to put text.now out.old }
 {
-    places::inner::write_op(out, n, k, INSERT, to - at);
+    places::inner::write_op(out, n, k, Kind::Insert, to - at);
     buffers::inner::copy_short(out, put, text, at, to);
 }
 
@@ -38,7 +38,7 @@ fn delete_follows(rec: &[u8], n: usize, k: usize) -> bool
     ensures { result ≡ delete_behind rec.now n k }
 {
     if k + 1 < n {
-        return reader::inner::kind(rec, k + 1) == DELETE;
+        return reader::inner::kind(rec, k + 1) == Kind::Delete;
     }
     false
 }
@@ -61,7 +61,7 @@ fn undo_pair(
     let next = s.k + 1;
     let more = reader::inner::count(rec, n, next);
     let to = apply_steps::inner::end_of(text, chars, s.at, more, n - next);
-    places::inner::write_op(out, n, next, DELETE, num);
+    places::inner::write_op(out, n, next, Kind::Delete, num);
     restore(text, out, n, s.k, s.at, to, s.put);
     Inversion {
         k: s.k + 2,
@@ -89,7 +89,7 @@ fn undo_insert(
     if delete_follows(rec, n, s.k) {
         return undo_pair(rec, n, text, chars, out, s, count, num);
     }
-    places::inner::write_op(out, n, s.k, DELETE, num);
+    places::inner::write_op(out, n, s.k, Kind::Delete, num);
     Inversion {
         k: s.k + 1,
         from: s.from + count,
@@ -105,12 +105,12 @@ fn undo(rec: &[u8], n: usize, text: &[u8], chars: usize, out: &mut [u8], s: Inve
 {
     let kind = reader::inner::kind(rec, s.k);
     let count = reader::inner::count(rec, n, s.k);
-    if kind == INSERT {
+    if let Kind::Insert = kind {
         return undo_insert(rec, n, text, chars, out, s, count);
     }
     let to = apply_steps::inner::end_of(text, chars, s.at, count, n - s.k);
-    if kind == RETAIN {
-        places::inner::write_op(out, n, s.k, RETAIN, count);
+    if let Kind::Retain = kind {
+        places::inner::write_op(out, n, s.k, Kind::Retain, count);
         return Inversion {
             k: s.k + 1,
             from: s.from,

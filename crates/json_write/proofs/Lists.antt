@@ -1,16 +1,20 @@
 -- The whole list, value by value.
-use Rattle.std.specs.Prelude.{◌≡◌, ℕ, ◌+◌, ◌-◌, ◌<◌, ◌≤◌, Bool, true, false, eqb, leb, List, [], ◌∷◌, ◌++◌, length, take, drop, set}
+use Rattle.std.specs.Prelude.{◌≡◌, ℕ, ◌+◌, ◌-◌, ◌<◌, ◌≤◌, Bool, true, false, leb, List, [], ◌∷◌, ◌++◌, length, take, drop, set}
 use native.Mathlib.Nat.{add-zero}
 use native.Mathlib.Omega.{arith}
 use mathlib.Core.Path.{refl, sym, ap, ap₂, ◌∙◌}
 use mathlib.Core.List.{append_assoc}
 use lib.ListN.{length-append, length-set}
-use borrow.Author.Tests.{eq-eqb, ne_eqb, eqb-true, eqb-false, leb-true, leb-false}
+use borrow.Author.Tests.{leb-true, leb-false}
 use Rattle.buffers.specs.InnerOver.{over}
 use Rattle.characters.specs.Text.{Char, chars}
 use Rattle.characters.proofs.Texts.{bytes_chars}
 use Rattle.edits.specs.Op.{Op, retain, insert, delete}
 use Rattle.edits.specs.Sequence.{Seq}
+use Rattle.record.specs.declared.inner.Kind.{Kind}
+use Rattle.record.specs.declared.inner.Kind.TheVariants.{Retain, Insert, Delete}
+use Rattle.record.specs.Kinds.{number_of}
+use Rattle.record.proofs.Cases.{number_retain, number_insert, number_delete}
 use Rattle.record.specs.Layout.{op_count_of, kind_at, count_at, start_of_text}
 use Rattle.record.specs.Record.{record_fault, ops}
 use Rattle.record.specs.InnerFront.{Place, byte_ops_left, ops_left}
@@ -25,60 +29,59 @@ use Rattle.json_write_text.proofs.Putting.{puts_one, puts_join, puts_long, goes_
 -- ---- the operation at k, as the code finds it
 
 -- the operations from k on begin with one of this value
-record Front (r : List ℕ) (k from kind count : ℕ) : Type 0 where
+record Front (r : List ℕ) (k from : ℕ) (kind : Kind) (count : ℕ) : Type 0 where
   pub op : Op Char
   pub begins : Begins r k from op (from + bytes_of_text kind count)
   pub value_is : value op ≡ value_of kind count (drop from r)
   pub inside : from + bytes_of_text kind count ≤ length r
 
-module _ (r : List ℕ) (n k from kind count : ℕ) (e : n ≡ op_count_of r) (p : Place r k from) (h : k < n) (q : kind ≡ kind_at r k) (c : count ≡ count_at r k) (small : count < 65536) where
-  without_text : (kind ≡ 2 → ⊥) → from ≡ from + bytes_of_text kind count
-  without_text z = rw (ne_eqb kind 2 z) (sym (add-zero from))
-
-  front_retain : kind ≡ 1 → Front r k from kind count
+module _ (r : List ℕ) (n k from : ℕ) (kind : Kind) (count : ℕ) (e : n ≡ op_count_of r) (p : Place r k from) (h : k < n) (q : number_of kind ≡ kind_at r k) (c : count ≡ count_at r k) (small : count < 65536) where
+  front_retain : kind ≡ Retain → Front r k from kind count
   unfolding value value_of
   front_retain y =
-      let t = without_text (λ z. absurd (omega arith)) in
+      let t : from ≡ from + bytes_of_text kind count = rw y (sym (add-zero from)) in
       record {
         op = retain count;
-        begins = rw (← t) (begins_retain r n k from kind count e p h q c small y);
-        value_is = rw (eq-eqb kind 1 y);
+        begins = rw (← t) (begins_retain r n k from (number_of kind) count e p h q c small (number_retain kind y));
+        value_is = rw y;
         inside = omega (arith, t, p.room);
       }
 
-  front_insert : kind ≡ 2 → Front r k from kind count
+  front_insert : kind ≡ Insert → Front r k from kind count
   unfolding value value_of quoted
   front_insert z =
-      let t : from + count ≡ from + bytes_of_text kind count = rw (eq-eqb kind 2 z) in
+      let t : from + count ≡ from + bytes_of_text kind count = rw z in
       let u = take (from + count - from) (drop from r) in
       let l : from + count - from ≡ count = omega arith in
+      let i = number_insert kind z in
       record {
         op = insert (chars u);
-        begins = rw (← t) (begins_insert r n k from kind count e p h q c small z);
+        begins = rw (← t) (begins_insert r n k from (number_of kind) count e p h q c small i);
         value_is =
-            ap (λ v. 0x22 ∷ (escaped_all v ++ (0x22 ∷ []))) (bytes_chars u (begins_well r n k from kind count e p h q c small z) ∙ ap (λ m. take m (drop from r)) l)
-            ∙ rw (ne_eqb kind 1 (λ y. absurd (omega arith)), eq-eqb kind 2 z);
-        inside = omega (arith, t, load_room r n k from kind count e p h q c small z);
+            ap (λ v. 0x22 ∷ (escaped_all v ++ (0x22 ∷ []))) (bytes_chars u (begins_well r n k from (number_of kind) count e p h q c small i) ∙ ap (λ m. take m (drop from r)) l)
+            ∙ rw z;
+        inside = omega (arith, t, load_room r n k from (number_of kind) count e p h q c small i);
       }
 
-  front_delete : (kind ≡ 1 → ⊥) → (kind ≡ 2 → ⊥) → Front r k from kind count
+  front_delete : kind ≡ Delete → Front r k from kind count
   unfolding value value_of negative
-  front_delete y z =
-      let t = without_text z in
+  front_delete y =
+      let t : from ≡ from + bytes_of_text kind count = rw y (sym (add-zero from)) in
+      let d = number_delete kind y in
       record {
         op = delete count;
-        begins = rw (← t) (begins_delete r n k from kind count e p h q c small y z);
-        value_is = rw (ne_eqb kind 1 y, ne_eqb kind 2 z);
+        begins = rw (← t) (begins_delete r n k from (number_of kind) count e p h q c small (λ x. absurd (omega arith)) (λ x. absurd (omega arith)));
+        value_is = rw y;
         inside = omega (arith, t, p.room);
       }
 
   front : Front r k from kind count
-  front = go (eqb kind 1) (eqb kind 2) refl refl
+  front = go kind refl
     where
-      go : (a b : Bool) → eqb kind 1 ≡ a → eqb kind 2 ≡ b → Front r k from kind count
-      go true b y z = front_retain (eqb-true kind 1 y)
-      go false true y z = front_insert (eqb-true kind 2 z)
-      go false false y z = front_delete (eqb-false kind 1 y) (eqb-false kind 2 z)
+      go : (a : Kind) → kind ≡ a → Front r k from kind count
+      go Retain y = front_retain y
+      go Insert y = front_insert y
+      go Delete y = front_delete y
 
   pub value_inside : from + bytes_of_text kind count ≤ length r
   value_inside = front.inside
@@ -121,7 +124,7 @@ module _ (r : List ℕ) (n k from kind count : ℕ) (e : n ≡ op_count_of r) (p
             goes = goes_on at _ o at (xs ++ (m ∷ [])) ys o (end + 1) (set o₁ end m) (rw (ahead ∙ ap (λ b. xs ++ (b ∷ ys)) (sym pm) ∙ sym (append_assoc xs (m ∷ []) ys)) (goes_start at _ o)) (puts_join at end (end + 1) xs (m ∷ []) o o₁ (set o₁ end m) w (puts_one end m o₁));
           })
 
-pub next_steps : (r : List ℕ) (n : ℕ) (s : Progress) (kind count : ℕ) → n ≡ op_count_of r → Place r s.k s.from → s.k < n → kind ≡ kind_at r s.k → count ≡ count_at r s.k → count < 65536
+pub next_steps : (r : List ℕ) (n : ℕ) (s : Progress) (kind : Kind) (count : ℕ) → n ≡ op_count_of r → Place r s.k s.from → s.k < n → number_of kind ≡ kind_at r s.k → count ≡ count_at r s.k → count < 65536
     → (o : List ℕ) → s.at + length (left (ops_left r s.k s.from)) ≤ length o
     → (end : ℕ) (o₁ : List ℕ) → Puts s.at (value_of kind count (drop s.from r)) o end o₁
     → (m t : ℕ) → m ≡ marks_behind (leb n (s.k + 1)) → t ≡ bytes_of_text kind count

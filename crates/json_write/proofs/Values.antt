@@ -3,7 +3,8 @@ use Rattle.std.specs.Prelude.{◌≡◌, ℕ, ◌+◌, ◌-◌, ◌<◌, ◌≤�
 use native.Mathlib.Omega.{arith}
 use mathlib.Core.Path.{ap, ◌∙◌}
 use lib.ListN.{length-set}
-use borrow.Author.Tests.{eq-eqb, ne_eqb}
+use Rattle.record.specs.declared.inner.Kind.{Kind}
+use Rattle.record.specs.declared.inner.Kind.TheVariants.{Retain, Insert, Delete}
 use Rattle.json_lists.specs.Written.{decimal}
 use Rattle.json_write_text.specs.InnerPutting.{Puts, quoted}
 use Rattle.json_write.specs.InnerWriting.{negative, value_of, bytes_of_text}
@@ -27,21 +28,13 @@ module _ (o : List ℕ) (at n : ℕ) where
   unfolding negative
   minus_puts to o₁ p = puts_join at (at + 1) to (0x2D ∷ []) (decimal n) o (set o at 0x2D) o₁ (puts_one at 0x2D o) p
 
--- ---- the text of an operation
-
-pub text_some : (kind count : ℕ) → kind ≡ 2 → count ≡ bytes_of_text kind count
-text_some kind count h = rw (eq-eqb kind 2 h)
-
-pub text_none : (kind count : ℕ) → (kind ≡ 2 → ⊥) → 0 ≡ bytes_of_text kind count
-text_none kind count h = rw (ne_eqb kind 2 h)
-
 -- ---- a value by its kind
 
-module _ (o : List ℕ) (at : ℕ) (r : List ℕ) (from kind count : ℕ) where
-  module _ (h : kind ≡ 1) where
+module _ (o : List ℕ) (at : ℕ) (r : List ℕ) (from : ℕ) (kind : Kind) (count : ℕ) where
+  module _ (h : kind ≡ Retain) where
     retain_is : value_of kind count (drop from r) ≡ decimal count
     unfolding value_of
-    retain_is = rw (eq-eqb kind 1 h)
+    retain_is = rw h
 
     pub retain_room : at + length (value_of kind count (drop from r)) ≤ length o → at + length (decimal count) ≤ length o
     retain_room l = rw retain_is at l
@@ -49,13 +42,13 @@ module _ (o : List ℕ) (at : ℕ) (r : List ℕ) (from kind count : ℕ) where
     pub retain_puts : (to : ℕ) (o₁ : List ℕ) → Puts at (decimal count) o to o₁ → Puts at (value_of kind count (drop from r)) o to o₁
     retain_puts to o₁ p = rw retain_is p
 
-  module _ (y : kind ≡ 1 → ⊥) (h : kind ≡ 2) where
+  module _ (h : kind ≡ Insert) where
     insert_is : value_of kind count (drop from r) ≡ quoted (take (from + count - from) (drop from r))
     unfolding value_of
-    insert_is = let z : count ≡ from + count - from = omega arith in rw (ne_eqb kind 1 y, eq-eqb kind 2 h) (ap (λ n. quoted (take n (drop from r))) z)
+    insert_is = let z : count ≡ from + count - from = omega arith in rw h (ap (λ n. quoted (take n (drop from r))) z)
 
     pub insert_inside : from + bytes_of_text kind count ≤ length r → from + count ≤ length r
-    insert_inside l = rw (eq-eqb kind 2 h) at l
+    insert_inside l = rw h at l
 
     pub insert_room : at + length (value_of kind count (drop from r)) ≤ length o → at + length (quoted (take (from + count - from) (drop from r))) ≤ length o
     insert_room l = rw insert_is at l
@@ -63,10 +56,10 @@ module _ (o : List ℕ) (at : ℕ) (r : List ℕ) (from kind count : ℕ) where
     pub insert_puts : (to : ℕ) (o₁ : List ℕ) → Puts at (quoted (take (from + count - from) (drop from r))) o to o₁ → Puts at (value_of kind count (drop from r)) o to o₁
     insert_puts to o₁ p = rw insert_is p
 
-  module _ (y : kind ≡ 1 → ⊥) (z : kind ≡ 2 → ⊥) where
+  module _ (h : kind ≡ Delete) where
     delete_is : value_of kind count (drop from r) ≡ negative count
     unfolding value_of
-    delete_is = rw (ne_eqb kind 1 y, ne_eqb kind 2 z)
+    delete_is = rw h
 
     pub delete_room : at + length (value_of kind count (drop from r)) ≤ length o → at + length (negative count) ≤ length o
     delete_room l = rw delete_is at l

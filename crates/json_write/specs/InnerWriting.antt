@@ -1,7 +1,8 @@
 -- What the functions that write a list promise each other. Only inner contracts cite this.
-use Rattle.std.specs.Prelude.{◌≡◌, ℕ, ◌+◌, Bool, cond, List, [], ◌∷◌, ◌++◌, take, ◌==◌}
+use Rattle.std.specs.Prelude.{◌≡◌, ℕ, ◌+◌, Bool, cond, List, [], ◌∷◌, ◌++◌, take}
 use Rattle.edits.specs.Sequence.{Seq}
-use Rattle.record.specs.Layout.{retain_kind, insert_kind}
+use Rattle.record.specs.declared.inner.Kind.{Kind}
+use Rattle.record.specs.declared.inner.Kind.TheVariants.{Retain, Insert, Delete}
 use Rattle.record.specs.InnerFront.{ops_left, Place}
 use Rattle.json_lists.specs.Written.{decimal, value, others}
 use Rattle.json_write_text.specs.InnerPutting.{Goes, quoted}
@@ -13,13 +14,17 @@ unfolding decimal
 negative n = 0x2D ∷ decimal n
 
 -- the value of an operation, t being its text and what stands behind it
-unfoldable pub value_of : ℕ → ℕ → List ℕ → List ℕ
+unfoldable pub value_of : Kind → ℕ → List ℕ → List ℕ
 unfolding decimal quoted negative
-value_of kind count t = cond (kind == retain_kind) (decimal count) (cond (kind == insert_kind) (quoted (take count t)) (negative count))
+value_of Retain count t = decimal count
+value_of Insert count t = quoted (take count t)
+value_of Delete count t = negative count
 
 -- how many bytes of text it has
-abbrev pub bytes_of_text : ℕ → ℕ → ℕ
-bytes_of_text kind count = cond (kind == insert_kind) count 0
+abbrev pub bytes_of_text : Kind → ℕ → ℕ
+bytes_of_text Retain count = 0
+bytes_of_text Insert count = count
+bytes_of_text Delete count = 0
 
 abbrev pub marks_behind : Bool → ℕ
 marks_behind last = cond last 0x5D 0x2C

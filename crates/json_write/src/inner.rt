@@ -9,7 +9,7 @@ ghost use Rattle.json_write_text.specs.InnerPutting.{Puts};
 ghost use Rattle.json_write.specs.InnerWriting.{negative, value_of, bytes_of_text, marks_behind, left, Steps};
 
 use json_lists::inner::{BEGIN_ARRAY, COMMA, END_ARRAY, MINUS};
-use record::inner::{INSERT, RETAIN};
+use record::inner::Kind;
 
 // A number in decimal: the place behind it.
 fn write_decimal(out: &mut [u8], at: usize, n: usize) -> usize
@@ -35,25 +35,26 @@ fn write_negative(out: &mut [u8], at: usize, n: usize) -> usize
 }
 
 // The value of an operation, the text of which begins at `from`: the place behind it.
-fn write_value(out: &mut [u8], at: usize, rec: &[u8], from: usize, kind: u8, count: usize) -> usize
+fn write_value(out: &mut [u8], at: usize, rec: &[u8], from: usize, kind: Kind, count: usize) -> usize
     requires { (count < 65536) × (from + bytes_of_text kind count ≤ length rec.now)
         × (at + length (value_of kind count (drop from rec.now)) ≤ length out.old) }
     ensures { Puts at (value_of kind count (drop from rec.now)) out.old result out.new }
 {
-    if kind == RETAIN {
-        return write_decimal(out, at, count);
+    match kind {
+        Kind::Retain => write_decimal(out, at, count),
+        Kind::Insert => json_write_text::inner::write_string(out, at, rec, from, from + count),
+        Kind::Delete => write_negative(out, at, count),
     }
-    if kind == INSERT {
-        return json_write_text::inner::write_string(out, at, rec, from, from + count);
-    }
-    write_negative(out, at, count)
 }
 
 // How many bytes of text an operation has.
-fn text_bytes(kind: u8, count: usize) -> usize
+fn text_bytes(kind: Kind, count: usize) -> usize
     ensures { (result ≡ bytes_of_text kind count) × (result ≤ count) }
 {
-    if kind == INSERT { count } else { 0 }
+    match kind {
+        Kind::Insert => count,
+        Kind::Retain | Kind::Delete => 0,
+    }
 }
 
 // What stands behind a value: a comma, or the end of the list.

@@ -14,6 +14,8 @@ use Rattle.record.specs.Layout.{op_count_of, max_size}
 use Rattle.record.specs.Record.{record_fault}
 use Rattle.record.specs.Calls.{text_call, start_of_insert}
 use Rattle.operation.proofs.Answers.{text_passed, text_index, text_small}
+use Rattle.record.specs.Kinds.{number_of}
+use Rattle.record.specs.declared.inner.Kind.{Kind}
 use Rattle.walker.specs.declared.Op.{Op}
 use Rattle.walker.specs.Walk.{found_of}
 use Rattle.packing.specs.Numbers.{packed, step_number, most, small, part}
@@ -39,8 +41,8 @@ pub noop_is : (x : Result Bool Refusal) (b : Bool) (r : ℕ) → r ≡ cond b 1 
 noop_is x true r p e = rw e p
 noop_is x false r p e = rw e p
 
-pub step_is : (x : Found) (kind count : ℕ) → x ≡ Op kind count → kind + 256 * count ≡ step_number (found_of x)
-step_is x kind count e = rw e refl
+pub step_is : (x : Found) (kind : Kind) (number count : ℕ) → x ≡ Op kind count → number ≡ number_of kind → number + 256 * count ≡ step_number (found_of x)
+step_is x kind number count e p = rw (e, p) refl
 
 -- ---- two results
 

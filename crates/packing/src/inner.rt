@@ -53,7 +53,7 @@ pub fn step(x: Option<Op>) -> u64
     ensures { result ≡ step_number (found_of x) }
 {
     match x {
-        Some(Op { kind, count }) => kind as u64 + 256 * (count as u64),
+        Some(Op { kind, count }) => u8::from(kind) as u64 + 256 * (count as u64),
         None => 0,
     }
 }

@@ -1,10 +1,11 @@
 // Operations at their places in a record of n, by their numbers: one is written, the up to three of a group are, and those of a record
 // with more places are moved to their own. A byte that has no place in the buffer is not written, but where a contract asks for room.
 ghost use Rattle.std.specs.Prelude.{◌≡◌, ◌+◌, ◌*◌, ◌^◌, ◌<◌, ◌≤◌, ◌&&◌, length, nat_le};
+ghost use Rattle.record.specs.Kinds.{number_of};
 ghost use Rattle.record.specs.Layout.{counts_start, start_of_text};
 ghost use Rattle.places.specs.InnerOps.{one, written_op_if_any, written_op, flushed_at, relocated_ops, relocated};
 
-use record::inner::{DELETE, INSERT, RETAIN};
+use record::inner::Kind;
 
 // How many operations a count takes: none where it is 0.
 pub fn one_if_any(c: usize) -> usize
@@ -15,9 +16,9 @@ pub fn one_if_any(c: usize) -> usize
 
 // One operation, unless its count is 0: the number of operations afterwards. (Its bytes are written out: with `write_op` here the
 // compiler no longer inlines `push`.)
-fn write_op_if_any(out: &mut [u8], n: usize, ops: usize, kind: u8, count: usize) -> usize
+fn write_op_if_any(out: &mut [u8], n: usize, ops: usize, kind: Kind, count: usize) -> usize
     requires { (n ≤ 2 ^ 41) × (ops ≤ 2 ^ 41) }
-    ensures { (result ≡ ops + one count) × (result ≤ ops + 1) × (out.new ≡ written_op_if_any n ops kind count out.old) }
+    ensures { (result ≡ ops + one count) × (result ≤ ops + 1) × (out.new ≡ written_op_if_any n ops (number_of kind) count out.old) }
 {
     if count == 0 {
         return ops;
@@ -25,23 +26,23 @@ fn write_op_if_any(out: &mut [u8], n: usize, ops: usize, kind: u8, count: usize)
     let k = layout::inner::kind_place(ops);
     let at = layout::inner::count_place(n, ops);
     if at + 1 < out.len() {
-        out[k] = kind;
+        out[k] = u8::from(kind);
         out[at] = (count % 256) as u8;
         out[at + 1] = (count / 256 % 256) as u8;
         return ops + 1;
     }
-    buffers::inner::put(out, k, kind);
+    buffers::inner::put(out, k, u8::from(kind));
     buffers::inner::put16(out, at, count);
     ops + 1
 }
 
 // Kind and count of operation k of n, which have their places in the buffer.
-pub fn write_op(out: &mut [u8], n: usize, k: usize, kind: u8, count: usize)
+pub fn write_op(out: &mut [u8], n: usize, k: usize, kind: Kind, count: usize)
     requires { (n ≤ 2 ^ 41) × (k ≤ 2 ^ 41) × (counts_start n + 2 * k + 1 < length out.old) }
-    ensures { out.new ≡ written_op n k kind count out.old }
+    ensures { out.new ≡ written_op n k (number_of kind) count out.old }
 {
     let at = layout::inner::count_place(n, k);
-    out[layout::inner::kind_place(k)] = kind;
+    out[layout::inner::kind_place(k)] = u8::from(kind);
     out[at] = (count % 256) as u8;
     out[at + 1] = (count / 256 % 256) as u8;
 }
@@ -74,11 +75,11 @@ pub fn write_group(
     ensures { (result ≡ ops + one ins + one del + one ret) × (result ≤ ops + 3)
         × (out.new ≡ flushed_at n ops ins del ret out.old) }
 {
-    write_op(out, n, ops, INSERT, ins);
+    write_op(out, n, ops, Kind::Insert, ins);
     let x = ops + one_if_any(ins);
-    write_op(out, n, x, DELETE, del);
+    write_op(out, n, x, Kind::Delete, del);
     let y = x + one_if_any(del);
-    write_op(out, n, y, RETAIN, ret);
+    write_op(out, n, y, Kind::Retain, ret);
     y + 1
 }
 
@@ -91,9 +92,9 @@ pub fn flush(out: &mut [u8], n: usize, ops: usize, ins: usize, del: usize, ret: 
     if group_fits(out.len(), n, ops, ret) {
         return write_group(out, n, ops, ins, del, ret);
     }
-    let x = write_op_if_any(out, n, ops, INSERT, ins);
-    let y = write_op_if_any(out, n, x, DELETE, del);
-    write_op_if_any(out, n, y, RETAIN, ret)
+    let x = write_op_if_any(out, n, ops, Kind::Insert, ins);
+    let y = write_op_if_any(out, n, x, Kind::Delete, del);
+    write_op_if_any(out, n, y, Kind::Retain, ret)
 }
 
 // From a record with places for `slots` operations the first k counts and kinds go to their places in one of n.

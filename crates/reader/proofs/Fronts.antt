@@ -3,22 +3,22 @@ use Rattle.std.specs.Prelude.{◌≡◌, ℕ, zero, suc, ◌+◌, ◌-◌, ◌<�
 use Prim.Native.Nat.{zero-le}
 use native.Mathlib.Nat.{sub-zero, zero-add}
 use native.Mathlib.Omega.{arith}
-use mathlib.Core.Path.{ap, ◌∙◌, refl, sym, ap₂}
+use mathlib.Core.Path.{ap, ◌∙◌, refl, sym, ap₂, subst}
 use lib.ListN.{length-take, length-drop, length-append}
 use borrow.Author.Tests.{eq-eqb, ne_eqb, eqb-true, eqb-false}
 use lib.Seq.{length-take-le, take_all, take-take, drop-drop, take_at, drop_at}
-use Rattle.buffers.specs.Lists.{concat}
+use Rattle.buffers.specs.Lists.{all_of, concat}
 use Rattle.buffers.proofs.Tests.{both, holds}
 use Rattle.characters.specs.Text.{chars, Char, bytes}
 use Rattle.characters.specs.Form.{within, is_well_formed}
 use Rattle.characters.specs.Chars.{number_of_chars, chars_of, take_chars}
 use Rattle.characters.proofs.Texts.{chars_length, bytes_chars, bytes_take, bytes_split, chars_bytes, bytes_well}
-use Rattle.characters.proofs.Leads.{inside}
+use Rattle.characters.proofs.Leads.{inside, within_bounds}
 use Rattle.characters.proofs.Chars.{num_le, well_all}
 use Rattle.characters.proofs.Places.{skips_plain}
 use Rattle.edits.specs.Op.{retain, insert, delete, size, if_zero, Op, cut, rest}
 use Rattle.record.specs.Layout.{op_count_of, start_of_text, text_bytes_of, size_of, kind_at, count_at, max_ops, max_record}
-use Rattle.record.specs.Record.{entries, record_fault, in_chars, ops, insert_bytes, well_inserted, in_bytes, inserted}
+use Rattle.record.specs.Record.{entry_at, entries_from, entries, sound_entry, record_fault, in_chars, ops, insert_bytes, well_inserted, in_bytes, inserted}
 use Rattle.record.specs.InnerFront.{Place, byte_ops_left, ops_left, ahead, Loads, front_text, front_op, Stands, entries_left, Cut, Leaves}
 use Rattle.record.specs.declared.inner.Front.{Front}
 use Rattle.record.proofs.Faults.{limits, faultless}
@@ -56,6 +56,20 @@ fault_kinds r z = omega (arith, ((limits r).0 ((faultless r).0 z).in_limits).who
 
 pub fault_few : (r : List ℕ) (n : ℕ) → record_fault r ≡ 0 → n ≡ op_count_of r → n ≤ max_ops
 fault_few r n z e = omega (arith, ((limits r).0 ((faultless r).0 z).in_limits).ops)
+
+-- each of its kinds is one of the three
+sound_at : (r : List ℕ) (i n k : ℕ) → k < n → T (all_of sound_entry (entries_from r i n)) → T (sound_entry (entry_at r (i + k)))
+sound_at r i zero k h s = absurd (omega arith)
+sound_at r i (suc n) zero h s = let e : i + 0 ≡ i = omega arith in subst (λ j. T (sound_entry (entry_at r j))) (sym e) ((both (sound_entry (entry_at r i)) _).0 s).0
+sound_at r i (suc n) (suc k) h s =
+    let e : suc i + k ≡ i + suc k = omega arith in
+    subst (λ j. T (sound_entry (entry_at r j))) e (sound_at r (suc i) n k (omega arith) ((both (sound_entry (entry_at r i)) _).0 s).1)
+
+pub fault_kind : (r : List ℕ) (k : ℕ) → record_fault r ≡ 0 → k < op_count_of r → (1 ≤ kind_at r k) × (kind_at r k ≤ 3)
+unfolding entries
+fault_kind r k z h =
+    let s : T (sound_entry (entry_at r k)) = subst (λ j. T (sound_entry (entry_at r j))) (zero-add k) (sound_at r 0 (op_count_of r) k h ((faultless r).0 z).sound) in
+    within_bounds 1 3 (kind_at r k) ((both (within 1 3 (kind_at r k)) _).0 s).0
 
 module _ (r : List ℕ) {n t z : ℕ} (e : z ≡ start_of_text n) (p : n ≡ op_count_of r) (q : t ≡ text_bytes_of r) where
   pub fault_size : z + t ≡ size_of r

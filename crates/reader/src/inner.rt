@@ -1,10 +1,11 @@
 // What the crates above use to go through a record that was checked: its sizes, its operations, and the front of what lies ahead.
 ghost use Rattle.std.specs.Prelude.{◌≡◌, ◌<◌, ◌≤◌, length};
-ghost use Rattle.record.specs.Layout.{op_count_of, max_ops, base_of, target_of, text_bytes_of, size_of, max_record, kind_at, count_at};
+ghost use Rattle.record.specs.Kinds.{number_of};
+ghost use Rattle.record.specs.Layout.{retain_kind, delete_kind, op_count_of, max_ops, base_of, target_of, text_bytes_of, size_of, max_record, kind_at, count_at};
 ghost use Rattle.record.specs.Record.{record_fault, ops};
 ghost use Rattle.record.specs.InnerFront.{Stands, ahead, Place, Loads, Cut, Leaves};
 
-use record::inner::{AT_END, AT_INSERT, Front};
+use record::inner::{AT_END, AT_INSERT, Front, INSERT, Kind, RETAIN};
 
 // The sizes that a checked record states.
 pub fn op_count(rec: &[u8]) -> usize
@@ -45,12 +46,24 @@ pub fn size(rec: &[u8]) -> usize
     layout::inner::text_start(n) + layout::inner::text_bytes(rec)
 }
 
-// What stands at operation k: its kind, and its count of n.
-pub fn kind(rec: &[u8], k: usize) -> u8
-    requires { (record_fault rec.now ≡ 0) × (k < op_count_of rec.now) }
-    ensures { result ≡ kind_at rec.now k }
+// The kind that has this number.
+fn kind_of(number: u8) -> Kind
+    requires { (retain_kind ≤ number) × (number ≤ delete_kind) }
+    ensures { number_of result ≡ number }
 {
-    layout::inner::kind(rec, k)
+    match number {
+        RETAIN => Kind::Retain,
+        INSERT => Kind::Insert,
+        _ => Kind::Delete,
+    }
+}
+
+// What stands at operation k: its kind, and its count of n.
+pub fn kind(rec: &[u8], k: usize) -> Kind
+    requires { (record_fault rec.now ≡ 0) × (k < op_count_of rec.now) }
+    ensures { number_of result ≡ kind_at rec.now k }
+{
+    kind_of(layout::inner::kind(rec, k))
 }
 
 pub fn count(rec: &[u8], n: usize, k: usize) -> usize

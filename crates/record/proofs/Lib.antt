@@ -2,6 +2,7 @@
 pub mod Sequences
 pub mod Faults
 pub mod Records
+pub mod Cases
 pub mod Walks
 pub mod Checked
 pub mod Theorems

@@ -2,4 +2,5 @@
 pub mod Layout
 pub mod Record
 pub mod Calls
+pub mod Kinds
 pub mod InnerFront

@@ -5,6 +5,8 @@ use mathlib.Core.Path.{refl, ap, ap₂}
 use borrow.Author.Tests.{le-ltb, lt-ltb}
 use Rattle.answers.specs.Answer.{success, answer_of}
 use Rattle.answers.specs.declared.Refusal.{Refusal}
+use Rattle.record.specs.Kinds.{number_of}
+use Rattle.record.specs.declared.inner.Kind.{Kind}
 use Rattle.record.specs.Layout.{op_count_of, kind_at, count_at}
 use Rattle.record.specs.Calls.{check_call}
 use Rattle.record.proofs.Checked.{stopped, passed}
@@ -34,7 +36,7 @@ module _ (r : List ℕ) (at : ℕ) where
         pub past_stays : at ≡ next_at r at
         past_stays = goes None past_end
 
-      module _ (h : at < n) (k c : ℕ) (a : k ≡ kind_at r at) (b : c ≡ count_at r at) where
+      module _ (h : at < n) (k : Kind) (c : ℕ) (a : number_of k ≡ kind_at r at) (b : c ≡ count_at r at) where
         pub finds : found_of (Some (record { kind = k; count = c })) ≡ step_call r at
         unfolding step_call
         finds = rw (passed r f p s q, lt-ltb at (op_count_of r) (omega arith)) (ap₂ (λ x y. success (x ∷ y ∷ [])) a b)

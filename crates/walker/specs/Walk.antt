@@ -2,6 +2,7 @@
 -- refused, it gives the end."
 use Rattle.std.specs.Prelude.{ℕ, zero, suc, ◌+◌, cond, List, [], ◌∷◌, nat_lt, Option, Some, None}
 use Rattle.answers.specs.Answer.{Answer, success, refused, unless_refused}
+use Rattle.record.specs.Kinds.{number_of}
 use Rattle.record.specs.Layout.{op_count_of, kind_at, count_at}
 use Rattle.record.specs.Record.{record_fault}
 use Rattle.walker.specs.declared.Op.{Op}
@@ -12,7 +13,7 @@ end = success []
 
 -- what the code finds, in the paper's numbers
 abbrev pub found_of : Option Op → Answer
-found_of (Some op) = success (op.kind ∷ op.count ∷ [])
+found_of (Some op) = success (number_of op.kind ∷ op.count ∷ [])
 found_of None = end
 
 -- what a step at a position gives

@@ -4,6 +4,8 @@
 ghost use Rattle.std.specs.Prelude.{◌≡◌};
 ghost use Rattle.walker.specs.Walk.{found_of, step_call, next_at};
 
+pub use record::inner::Kind;
+
 pub mod inner;
 
 #[derive(Clone, Copy)]
@@ -12,10 +14,10 @@ pub struct Walker<'a> {
     pub at: usize,
 }
 
-// What a step finds: a kind (1 retain, 2 insert, 3 delete) and its count, an insert's in bytes. At the end it finds nothing.
+// What a step finds: a kind and its count, an insert's in bytes. At the end it finds nothing.
 #[derive(Clone, Copy, Debug, PartialEq, Eq)]
 pub struct Op {
-    pub kind: u8,
+    pub kind: Kind,
     pub count: u16,
 }
 

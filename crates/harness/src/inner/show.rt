@@ -55,7 +55,7 @@ pub fn noop(n: Noop) {
 pub fn step(f: Found) -> bool {
     match f {
         Found::Op { kind, count } => {
-            number(kind as u64);
+            number(u8::from(kind) as u64);
             text(b":");
             number(count as u64);
             true

@@ -3,7 +3,7 @@ ghost use Rattle.std.specs.Prelude.{◌<◌};
 
 use crate::inner::show;
 use answers::Fact;
-use walker::Found;
+use walker::{Found, Kind};
 
 pub fn wide(x: u8) -> usize
     ensures { result < 256 }
@@ -99,17 +99,17 @@ fn operation(rec: &[u8], k: usize) {
     }
 }
 
-fn named(kind: u8, count: u64, inserted: &[u8]) {
+fn named(kind: Kind, count: u64, inserted: &[u8]) {
     match kind {
-        1 => {
+        Kind::Retain => {
             show::text(b"R");
             show::number(count);
         }
-        2 => {
+        Kind::Insert => {
             show::text(b"I");
             text(inserted);
         }
-        _ => {
+        Kind::Delete => {
             show::text(b"D");
             show::number(count);
         }

@@ -5,17 +5,17 @@ use Rattle.json_write.proofs.inner.write_value.Goals as goal
 pub write_decimal-requires : goal.write_decimal-requires
 write_decimal-requires c = (search rules, search retain_room)
 
-pub returns-then-kind-eq-RETAIN : goal.returns-then-kind-eq-RETAIN
-returns-then-kind-eq-RETAIN c = search retain_puts
+pub returns-in-Retain : goal.returns-in-Retain
+returns-in-Retain c = search retain_puts
 
 pub write_string-requires : goal.write_string-requires
 write_string-requires c = (search rules, search insert_inside, search insert_room)
 
-pub returns-then-kind-eq-INSERT : goal.returns-then-kind-eq-INSERT
-returns-then-kind-eq-INSERT c = search insert_puts
+pub returns-in-Insert : goal.returns-in-Insert
+returns-in-Insert c = search insert_puts
 
 pub write_negative-requires : goal.write_negative-requires
 write_negative-requires c = (search rules, search delete_room)
 
-pub returns : goal.returns
-returns c = search delete_puts
+pub returns-in-Delete : goal.returns-in-Delete
+returns-in-Delete c = search delete_puts

@@ -8,4 +8,4 @@ pub bounds-out-at-2 : goal.bounds-out-at-2
 bounds-out-at-2 c = search enter_high
 
 pub returns : goal.returns
-returns c = search enter_in
+returns c = rw (← c.from.ensures) (search enter_in)

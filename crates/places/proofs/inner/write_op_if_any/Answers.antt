@@ -9,7 +9,7 @@ pub bounds-out-at : goal.bounds-out-at
 bounds-out-at c = search set_inside
 
 pub returns-then-at-out : goal.returns-then-at-out
-returns-then-at-out c = (search count_some, omega arith, search emit_in)
+returns-then-at-out c = (search count_some, omega arith, rw (← c.from.ensures) (search emit_in))
 
 pub returns : goal.returns
-returns c = (search count_some, omega arith, search emit_some)
+returns c = (search count_some, omega arith, rw (← c.from-2.ensures) (search emit_some))
