@@ -3,9 +3,3 @@ use Rattle.utf8.proofs.well_formed.Goals as goal
 
 pub returns-then-i-text : goal.returns-then-i-text
 returns-then-i-text c = search well_ascii
-
-pub returns-in-IllFormed : goal.returns-in-IllFormed
-returns-in-IllFormed c = search form_ill
-
-pub returns-in-Chars : goal.returns-in-Chars
-returns-in-Chars c = search form_well
