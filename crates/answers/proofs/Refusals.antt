@@ -1,8 +1,4 @@
--- What a chain of refusals tells, and what `ok_or` tells of an option.
-use Rattle.std.specs.Prelude.{Option, Some, None, Result, Ok, Err}
-use native.Mathlib.Omega.{arith}
-use Rattle.core.specs.Option.{ok_or}
-use Rattle.answers.specs.declared.Refusal.{Refusal}
+-- What a chain of refusals tells.
 use Prim.Native.Nat.{ℕ, suc, zero}
 use native.Mathlib.Nat.{suc-ne-zero}
 use mathlib.Core.Path.{◌≡◌, refl}
@@ -21,12 +17,3 @@ needs_in false n k h = absurd h
 pub first_zero : (a b : ℕ) → or_else a b ≡ 0 → (a ≡ 0) × (b ≡ 0)
 first_zero zero b e = (refl, e)
 first_zero (suc a) b e = absurd (suc-ne-zero a e)
-
-module _ {A : Type 0} (x : Refusal) (r : Result A Refusal) where
-  pub value_of : (o : Option A) (a : A) → r ≡ ok_or o x → r ≡ Ok a → o ≡ Some a
-  value_of None a v w = absurd (let z : ◌≡◌ {A = ℕ} 0 1 = cc (v, w) in omega arith)
-  value_of (Some b) a v w = cc (v, w)
-
-  pub refusal_of : (o : Option A) (y : Refusal) → r ≡ ok_or o x → r ≡ Err y → (o ≡ None) × (y ≡ x)
-  refusal_of None y v w = (refl, cc (v, w))
-  refusal_of (Some b) y v w = absurd (let z : ◌≡◌ {A = ℕ} 0 1 = cc (v, w) in omega arith)

@@ -48,7 +48,7 @@ pub fn sum_up(
 {
     let mut size = retain_all(start, cur);
     let mut at = LOG_HEADER;
-    for _ in 0..count {
+    for _k in 0..count {
         let rec = &log[at..];
         size = compose_next(rec, cur, next)?;
         at += reader::inner::size(rec);

@@ -53,7 +53,7 @@ fn play_revisions(
 {
     let mut len = n;
     let mut at = LOG_HEADER;
-    for _ in 0..j {
+    for _k in 0..j {
         let rec = &log[at..];
         len = advance(rec, len, a, b)?;
         at += reader::inner::size(rec);

@@ -1,5 +1,3 @@
-use Rattle.std.proofs.lemmas.Result.{err_from_is_err_and}
-use Rattle.answers.proofs.Refusals.{value_of, refusal_of}
 use Rattle.characters.proofs.Passed.{form_holds}
 use Rattle.playback_steps.proofs.Stages.{stands_inside, stands_size}
 use Rattle.playback.proofs.Answers.{play_refused, play_3, play_6, play_8, play_short, play_10, play_0, play_out, play_reads, play_count, play_agrees, play_room}

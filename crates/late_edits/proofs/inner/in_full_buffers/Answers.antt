@@ -15,7 +15,7 @@ pub write_again-requires : goal.write_again-requires
 write_again-requires c = (c.requires.0, c.requires.1, search rules, search rules, search rules, past_moved _ _ _ _ c.requires.0 _ c.requires.1 _ _ _ _ _ _ c.rebase.ensures _ c.in-Ok.is)
 
 pub returns-in-Err-Refused : goal.returns-in-Err-Refused
-returns-in-Err-Refused c = past_stops _ _ _ _ c.requires.0 _ c.requires.1 _ _ _ _ _ _ c.rebase.ensures _ c.in-Err-Refused.is _
+returns-in-Err-Refused c = rw c.in-Err-Refused.field-0-is (past_stops _ _ _ _ c.requires.0 _ c.requires.1 _ _ _ _ _ _ c.rebase.ensures _ (rw c.in-Err-Refused.field-0-is at c.in-Err-Refused.is) _)
 
 pub returns-in-Err-Short : goal.returns-in-Err-Short
-returns-in-Err-Short c = past_never _ _ _ _ c.requires.0 _ c.requires.1 _ _ _ _ _ _ c.rebase.ensures refl (search rules) c.in-Err-Short.is _
+returns-in-Err-Short c = past_never _ _ _ _ c.requires.0 _ c.requires.1 _ _ _ _ _ _ c.rebase.ensures refl (search rules) (rw c.in-Err-Short.field-0-is at c.in-Err-Short.is) _
