@@ -131,7 +131,8 @@ fn in_small_stage(
     ensures { Gives (compose_call a.now b.now out.old) result out.new }
 {
     let mut stage = [0u8; SMALL_STAGE];
-    staged(a, na, b, nb, &mut stage, na + nb, out)
+    let k = staged(a, na, b, nb, &mut stage, na + nb, out)?;
+    Ok(k)
 }
 
 fn in_medium_stage(
@@ -145,7 +146,8 @@ fn in_medium_stage(
     ensures { Gives (compose_call a.now b.now out.old) result out.new }
 {
     let mut stage = [0u8; MEDIUM_STAGE];
-    staged(a, na, b, nb, &mut stage, na + nb, out)
+    let k = staged(a, na, b, nb, &mut stage, na + nb, out)?;
+    Ok(k)
 }
 
 fn in_large_stage(

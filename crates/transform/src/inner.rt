@@ -147,7 +147,7 @@ fn in_small_stages(
 {
     let mut stage_a = [0u8; SMALL_STAGE];
     let mut stage_b = [0u8; SMALL_STAGE];
-    staged(
+    let (k, l) = staged(
         a,
         na,
         b,
@@ -157,7 +157,8 @@ fn in_small_stages(
         SMALL_OPS,
         out_a,
         out_b,
-    )
+    )?;
+    Ok((k, l))
 }
 
 fn in_medium_stages(
@@ -174,7 +175,7 @@ fn in_medium_stages(
 {
     let mut stage_a = [0u8; MEDIUM_STAGE];
     let mut stage_b = [0u8; MEDIUM_STAGE];
-    staged(
+    let (k, l) = staged(
         a,
         na,
         b,
@@ -184,7 +185,8 @@ fn in_medium_stages(
         MEDIUM_OPS,
         out_a,
         out_b,
-    )
+    )?;
+    Ok((k, l))
 }
 
 fn in_large_stages(
@@ -201,7 +203,7 @@ fn in_large_stages(
 {
     let mut stage_a = [0u8; LARGE_STAGE];
     let mut stage_b = [0u8; LARGE_STAGE];
-    staged(
+    let (k, l) = staged(
         a,
         na,
         b,
@@ -211,7 +213,8 @@ fn in_large_stages(
         MAX_OPS,
         out_a,
         out_b,
-    )
+    )?;
+    Ok((k, l))
 }
 
 // Of two records that were checked.

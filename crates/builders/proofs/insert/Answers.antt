@@ -1,4 +1,5 @@
 use Rattle.std.specs.Prelude.{Err}
+use Rattle.std.proofs.lemmas.Result.{err_from_is_err_and}
 use Rattle.characters.proofs.Passed.{form_ill, form_holds, form_num}
 use Rattle.answers.specs.declared.Refusal.TheVariants.{Utf8, Limit}
 use Rattle.answers.specs.InnerGiven.{Gives}
@@ -12,26 +13,27 @@ use Rattle.builders.proofs.insert.Goals as goal
 pub returns-in_default : goal.returns-in_default
 unfolding insert_call
 returns-in_default c = let a = c.args in
-    let w : Gives (insert_call a.rec.now a.text.now a.out.now) (Err Utf8) a.out.now = search (passed, text_ill, form_ill) in
+    let w : Gives (insert_call a.rec.now a.text.now a.out.now) (Err Utf8) a.out.now = search (passed, text_ill, form_ill, c.in_ok-check.was) in
     (w.answer, w.out)
 
 pub returns-then-text-gt-MAX_SIZE : goal.returns-then-text-gt-MAX_SIZE
 unfolding insert_call
 returns-then-text-gt-MAX_SIZE c = let a = c.args in
-    let w : Gives (insert_call a.rec.now a.text.now a.out.now) (Err Limit) a.out.now = search (passed, text_passed, form_holds, insert_limit) in
+    let w : Gives (insert_call a.rec.now a.text.now a.out.now) (Err Limit) a.out.now = search (passed, text_passed, form_holds, insert_limit, c.in_ok-check.was) in
     (w.answer, w.out)
 
 pub inserted-requires : goal.inserted-requires
-inserted-requires c = (search passed, search form_holds, search form_num, search rules)
+inserted-requires c = (search (passed, c.in_ok-check.was), search form_holds, search form_num, search rules)
 
-pub returns-in-Refused : goal.returns-in-Refused
+pub returns-in_err-check : goal.returns-in_err-check
 unfolding insert_call
-returns-in-Refused c = let a = c.args in
-    let w : Gives (insert_call a.rec.now a.text.now a.out.now) (Err c.in-Refused.y) a.out.now = search (text_refused) in
-    (w.answer, w.out)
+returns-in_err-check c = let a = c.args in
+    let p = err_from_is_err_and c.from_residual.result c.from_residual.ensures.1 in
+    let w : Gives (insert_call a.rec.now a.text.now a.out.now) (Err c.in_err-check.field-0.0) a.out.now = search (text_refused, c.in_err-check.was) in
+    rw (p.1, p.2) (w.answer, w.out)
 
-pub returns-else-text-gt-MAX_SIZE : goal.returns-else-text-gt-MAX_SIZE
+pub returns : goal.returns
 unfolding insert_call
-returns-else-text-gt-MAX_SIZE c = let a = c.args in
-    let w : Gives (insert_call a.rec.now a.text.now a.out.now) c.inserted.result c.inserted.new.out = search (passed, text_passed, form_holds) in
+returns c = let a = c.args in
+    let w : Gives (insert_call a.rec.now a.text.now a.out.now) c.inserted.result c.inserted.new.out = search (passed, text_passed, form_holds, c.in_ok-check.was) in
     (w.answer, w.out)

@@ -1,13 +1,14 @@
 use native.Mathlib.Omega.{arith}
+use Rattle.std.proofs.lemmas.Result.{err_from_is_err_and}
 use Rattle.builders.proofs.Extending.{before_few, text_room, more_refused, text_written}
 use borrow.Author.Rules.{rules}
 use Rattle.builders.proofs.inserted.Goals as goal
 
+pub returns-in_err-b : goal.returns-in_err-b
+returns-in_err-b c = let p = err_from_is_err_and c.from_residual.result c.from_residual.ensures.1 in rw (p.1, p.2) (search (more_refused, c.in_err-b.was))
+
 pub settle_with-requires : goal.settle_with-requires
 settle_with-requires c = (search rules, search rules, search before_few, omega arith, search text_room)
 
-pub returns-in-Refused : goal.returns-in-Refused
-returns-in-Refused c = search more_refused
-
-pub returns-in-Bytes : goal.returns-in-Bytes
-returns-in-Bytes c = search text_written
+pub returns : goal.returns
+returns c = search (text_written, c.in_ok-b.was)
