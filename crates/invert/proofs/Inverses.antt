@@ -187,7 +187,7 @@ module _ (r t : List ℕ) (z : record_fault r ≡ 0) (w : T (is_well_formed t)) 
           fitting (Ok u) = true
           fitting (Err x) = false
 
-          go : (x y : Bool) → leb (start_of_text count + inserted_back r t) (length o) ≡ y → cond x (cond y (Ok tt) (Err Room)) (Err Limit) ≡ (Ok tt) → start_of_text count ≤ length o
+          go : (x y : Bool) → leb (start_of_text count + inserted_back r t) (length o) ≡ y → ◌≡◌ {A = Result ⊤ Refusal} (cond x (cond y (Ok tt) (Err Room)) (Err Limit)) (Ok tt) → start_of_text count ≤ length o
           go true true k f = omega (arith, leb-true (start_of_text count + inserted_back r t) (length o) k)
           go true false k f = absurd (known (ap fitting f))
           go false y k f = absurd (known (ap fitting f))

@@ -1,5 +1,5 @@
 // An edit that was written against an older revision is rebased in buffers that are as short as will do, and appended.
-ghost use Rattle.std.specs.Prelude.{◌≡◌, ◌-◌, ◌≤◌, length};
+ghost use Rattle.std.specs.Prelude.{◌≡◌, ◌-◌, ◌^◌, ◌≤◌, length};
 ghost use Rattle.record.specs.Layout.{start_of_text, max_ops, max_record};
 ghost use Rattle.session_log.specs.Log.{count_of};
 ghost use Rattle.append.specs.InnerAccepting.{Admitted, Tries, Accepts, MovedPast};
@@ -137,7 +137,8 @@ fn in_short_buffers<const EDIT: usize, const STAGE: usize, const PARTS: usize>(
     out: &mut [u8],
     slots: usize,
 ) -> Result<(usize, usize), Stop>
-    requires { Admitted edit.now r log.old s × (n ≡ count_of log.old - r) × (STAGE ≡ start_of_text slots) × (slots ≤ max_ops) }
+    requires { Admitted edit.now r log.old s × (n ≡ count_of log.old - r) × (STAGE ≡ start_of_text slots) × (slots ≤ max_ops)
+        × (EDIT ≤ 2 ^ 40) × (PARTS ≤ 2 ^ 40) }
     ensures { Tries edit.now r log.old out.old result log.new out.new }
 {
     let mut cur = [0u8; EDIT];
