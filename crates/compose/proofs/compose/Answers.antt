@@ -14,7 +14,7 @@ returns-in_err-check c = let a = c.args in
 
 pub returns-in_err-check-2 : goal.returns-in_err-check-2
 returns-in_err-check-2 c = let a = c.args in
-    let p = err_from_is_err_and c.from_residual.result c.from_residual.ensures.1 in
+    let p = err_from_is_err_and c.from_residual-in_err-check-2.result c.from_residual-in_err-check-2.ensures.1 in
     let w : Gives (compose_call a.a.now a.b.now a.out.now) (Err c.in_err-check-2.field-0.0) a.out.now = search (passed, composes_second, c.in_ok-check.was, c.in_err-check-2.was) in
     rw (p.1, p.2) (w.answer, w.out)
 
