@@ -45,6 +45,11 @@ module _ (edit : List ℕ) (r : ℕ) (log : List ℕ) (s : Scan) (a : Admitted e
         let (l, k) = (runs_as (Err (stop.Refused y)) p).runs in
         subst (λ z. Accepts edit r log out (Err z) log out) (sym l) (accepts_limit edit r log out s a k)
 
+    -- where the run ends early
+    pub past_ends : (y : Stop) → x ≡ Err y → (out : List ℕ) → Tries edit r log out (Err y) log out
+    past_ends (stop.Refused y) p out = record { tries = past_stops y p out }
+    past_ends stop.Short p out = record { tries = (refl, refl) }
+
     -- long buffers are never too short
     module _ (few : max_ops ≡ slots) (wide : max_record ≤ room) where
       pub past_never : x ≡ Err stop.Short → (out : List ℕ) → Accepts edit r log out (Err Room) log out

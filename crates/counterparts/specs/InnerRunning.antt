@@ -1,5 +1,5 @@
 -- What the functions here and `rebase` promise each other, and `accept`. No entry's contract cites this.
-use Rattle.std.specs.Prelude.{◌≡◌, ℕ, ◌+◌, ◌≤◌, true, false, T, List, ◌++◌, map, length, take, drop}
+use Rattle.std.specs.Prelude.{◌≡◌, ℕ, ◌+◌, ◌≤◌, true, false, T, List, ◌++◌, map, length, take, drop, Result, Ok, Err}
 use Rattle.buffers.specs.InnerOver.{over}
 use Rattle.buffers.specs.Buffers.{put_at_front}
 use Rattle.characters.specs.Text.{Char}

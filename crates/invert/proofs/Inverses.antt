@@ -133,16 +133,16 @@ module _ (r t : List ℕ) (z : record_fault r ≡ 0) (w : T (is_well_formed t)) 
         sym (le-leb (base_of r) max_size (omega (arith, f.bases, ops_base r z)))
         ∙ limits_last sizes_of_state (omega (arith, f.ops, ops_length r z)) l (omega (arith, f.targets, ops_target r z))
 
-    abbrev answer_of : Result ⊤ Refusal → Result ℕ Refusal
-    answer_of (Ok tt) = Ok (start_of_text count + inserted_back r t)
-    answer_of (Err x) = Err x
+    abbrev sized_of : Result ⊤ Refusal → Result ℕ Refusal
+    sized_of (Ok u) = Ok (start_of_text count + inserted_back r t)
+    sized_of (Err x) = Err x
 
-    judged : (room : ℕ) → answer_of (decided_of (inserted_back r t) count room) ≡ limits_before_room sizes_of_state room
+    judged : (room : ℕ) → sized_of (decided_of (inserted_back r t) count room) ≡ limits_before_room sizes_of_state room
     unfolding decided_of
     judged room = go (leb (inserted_back r t) max_size) (leb (start_of_text count + inserted_back r t) room) refl refl
       where
         go : (x y : Bool) → leb (inserted_back r t) max_size ≡ x → leb (start_of_text count + inserted_back r t) room ≡ y
-            → answer_of (cond x (cond y (Ok tt) (Err Room)) (Err Limit)) ≡ limits_before_room sizes_of_state room
+            → sized_of (cond x (cond y (Ok tt) (Err Room)) (Err Limit)) ≡ limits_before_room sizes_of_state room
         go true true p q = judge_bytes sizes_of_state room true (text_decides (leb-true _ _ p)) (start_of_text count + inserted_back r t) refl refl (leb-true _ _ q)
         go true false p q = judge_room sizes_of_state room true (text_decides (leb-true _ _ p)) (start_of_text count + inserted_back r t) refl refl (leb-false _ _ q)
         go false y p q = judge_limit sizes_of_state room false (limits_text sizes_of_state (leb-false _ _ p)) refl
@@ -171,8 +171,8 @@ module _ (r t : List ℕ) (z : record_fault r ≡ 0) (w : T (is_well_formed t)) 
 
     module _ (o : List ℕ) (d : Result ⊤ Refusal) (p : d ≡ decided_of (inserted_back r t) count (length o)) where
       -- the answer, as `limits_then_room` would have it
-      as_judged : (x : Result ⊤ Refusal) → d ≡ x → answer_of x ≡ limits_before_room sizes_of_state (length o)
-      as_judged x q = ap answer_of (sym q ∙ p) ∙ judged (length o)
+      as_judged : (x : Result ⊤ Refusal) → d ≡ x → sized_of x ≡ limits_before_room sizes_of_state (length o)
+      as_judged x q = ap sized_of (sym q ∙ p) ∙ judged (length o)
 
       pub decided_refused : (x : Refusal) → d ≡ Err x → Gives (deliver 0 inverse o) (Err x) o
       decided_refused x q =
@@ -184,10 +184,10 @@ module _ (r t : List ℕ) (z : record_fault r ≡ 0) (w : T (is_well_formed t)) 
       decided_places q = go (leb (inserted_back r t) max_size) (leb (start_of_text count + inserted_back r t) (length o)) refl (sym p ∙ q)
         where
           fitting : Result ⊤ Refusal → Bool
-          fitting (Ok tt) = true
+          fitting (Ok u) = true
           fitting (Err x) = false
 
-          go : (x y : Bool) → leb (start_of_text count + inserted_back r t) (length o) ≡ y → cond x (cond y (Ok tt) (Err Room)) (Err Limit) ≡ (Ok tt) → start_of_text count ≤ length o
+          go : (x y : Bool) → leb (start_of_text count + inserted_back r t) (length o) ≡ y → ◌≡◌ {A = Result ⊤ Refusal} (cond x (cond y (Ok tt) (Err Room)) (Err Limit)) (Ok tt) → start_of_text count ≤ length o
           go true true k f = omega (arith, leb-true (start_of_text count + inserted_back r t) (length o) k)
           go true false k f = absurd (known (ap fitting f))
           go false y k f = absurd (known (ap fitting f))

@@ -1,5 +1,5 @@
 // An edit that was written against an older revision is rebased in buffers that are as short as will do, and appended.
-ghost use Rattle.std.specs.Prelude.{◌≡◌, ◌-◌, ◌≤◌, length};
+ghost use Rattle.std.specs.Prelude.{◌≡◌, ◌-◌, ◌^◌, ◌≤◌, length};
 ghost use Rattle.record.specs.Layout.{start_of_text, max_ops, max_record};
 ghost use Rattle.session_log.specs.Log.{count_of};
 ghost use Rattle.append.specs.InnerAccepting.{Admitted, Tries, Accepts, MovedPast};
@@ -127,6 +127,29 @@ pub fn in_large_buffers(
     in_full_buffers(edit, r, log, s, n, out, &mut cur, &mut next, &mut side)
 }
 
+// The edit is rebased in buffers of these lengths, in bytes; the stages have places for `slots` operations.
+fn in_short_buffers<const EDIT: usize, const STAGE: usize, const PARTS: usize>(
+    edit: &[u8],
+    r: u64,
+    log: &mut [u8],
+    s: Scan,
+    n: usize,
+    out: &mut [u8],
+    slots: usize,
+) -> Result<(usize, usize), Stop>
+    requires { Admitted edit.now r log.old s × (n ≡ count_of log.old - r) × (STAGE ≡ start_of_text slots) × (slots ≤ max_ops)
+        × (EDIT ≤ 2 ^ 40) × (PARTS ≤ 2 ^ 40) }
+    ensures { Tries edit.now r log.old out.old result log.new out.new }
+{
+    let mut cur = [0u8; EDIT];
+    let mut next = [0u8; STAGE];
+    let mut side = [0u8; STAGE];
+    let mut parts = [0u8; PARTS];
+    try_in(
+        edit, r, log, s, n, out, &mut cur, &mut next, &mut side, &mut parts, slots,
+    )
+}
+
 pub fn in_medium_buffers(
     edit: &[u8],
     r: u64,
@@ -138,13 +161,7 @@ pub fn in_medium_buffers(
     requires { Admitted edit.now r log.old s × (n ≡ count_of log.old - r) }
     ensures { Accepts edit.now r log.old out.old result log.new out.new }
 {
-    let mut cur = [0u8; MEDIUM_EDIT];
-    let mut next = [0u8; MEDIUM_STAGE];
-    let mut side = [0u8; MEDIUM_STAGE];
-    let mut parts = [0u8; MEDIUM_PARTS];
-    match try_in(
-        edit, r, log, s, n, out, &mut cur, &mut next, &mut side, &mut parts, MEDIUM_OPS,
-    ) {
+    match in_short_buffers::<MEDIUM_EDIT, MEDIUM_STAGE, MEDIUM_PARTS>(edit, r, log, s, n, out, MEDIUM_OPS) {
         Ok((k, l)) => Ok((k, l)),
         Err(Stop::Refused(x)) => Err(x),
         Err(Stop::Short) => in_large_buffers(edit, r, log, s, n, out),
@@ -162,13 +179,7 @@ pub fn in_small_buffers(
     requires { Admitted edit.now r log.old s × (n ≡ count_of log.old - r) }
     ensures { Accepts edit.now r log.old out.old result log.new out.new }
 {
-    let mut cur = [0u8; SMALL_EDIT];
-    let mut next = [0u8; SMALL_STAGE];
-    let mut side = [0u8; SMALL_STAGE];
-    let mut parts = [0u8; SMALL_PARTS];
-    match try_in(
-        edit, r, log, s, n, out, &mut cur, &mut next, &mut side, &mut parts, SMALL_OPS,
-    ) {
+    match in_short_buffers::<SMALL_EDIT, SMALL_STAGE, SMALL_PARTS>(edit, r, log, s, n, out, SMALL_OPS) {
         Ok((k, l)) => Ok((k, l)),
         Err(Stop::Refused(x)) => Err(x),
         Err(Stop::Short) => in_medium_buffers(edit, r, log, s, n, out),

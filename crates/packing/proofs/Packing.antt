@@ -1,5 +1,5 @@
 -- From the code's answers to their numbers.
-use Rattle.std.specs.Prelude.{Result, Ok, Err}
+use Rattle.std.specs.Prelude.{Result, Option, Ok, Err, Some}
 use Prim.Native.Nat.{ℕ, ◌+◌, ◌^◌, ◌*◌, ◌≤◌, zero, suc, ◌<◌}
 use mathlib.Core.Path.{◌≡◌, refl, sym, ap, ◌∙◌}
 use mathlib.Core.Bool.{Bool, true, false, cond}
@@ -23,14 +23,11 @@ use Rattle.packing.specs.Numbers.{packed, step_number, most, small, part}
 -- ---- refusals
 
 module _ (y : Refusal) (r : ℕ) (p : r ≡ 2 ^ 63 + number y) where
-  pub fact_refused : (x : Result ℕ Refusal) → x ≡ Err y → r ≡ packed (answer_of x)
-  fact_refused x e = rw e p
-
   pub noop_refused : (x : Result Bool Refusal) → x ≡ Err y → r ≡ packed (noop_of x)
   noop_refused x e = rw e p
 
-  pub written_refused : (x : Result ℕ Refusal) → x ≡ Err y → r ≡ packed (answer_of x)
-  written_refused x e = rw e p
+  pub answer_refused : (x : Result ℕ Refusal) → x ≡ Err y → r ≡ packed (answer_of x)
+  answer_refused x e = rw e p
 
   pub pair_refused : (x : Result (ℕ × ℕ) Refusal) → x ≡ Err y → r ≡ packed (pair_of x)
   pair_refused x e = rw e p
@@ -41,7 +38,7 @@ pub noop_is : (x : Result Bool Refusal) (b : Bool) (r : ℕ) → r ≡ cond b 1 
 noop_is x true r p e = rw e p
 noop_is x false r p e = rw e p
 
-pub step_is : (x : Found) (kind : Kind) (number count : ℕ) → x ≡ Op kind count → number ≡ number_of kind → number + 256 * count ≡ step_number (found_of x)
+pub step_is : (x : Option Op) (kind : Kind) (number count : ℕ) → x ≡ Some (record { kind = kind; count = count }) → number ≡ number_of kind → number + 256 * count ≡ step_number (found_of x)
 step_is x kind number count e p = rw (e, p) refl
 
 -- ---- two results

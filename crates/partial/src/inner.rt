@@ -48,12 +48,10 @@ pub fn sum_up(
 {
     let mut size = retain_all(start, cur);
     let mut at = LOG_HEADER;
-    let mut k = 0;
-    while k < count {
+    for _k in 0..count {
         let rec = &log[at..];
         size = compose_next(rec, cur, next)?;
         at += reader::inner::size(rec);
-        k += 1;
     }
     Ok(size)
 }

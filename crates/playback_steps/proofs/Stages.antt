@@ -254,9 +254,8 @@ module _ (l : List ℕ) (j : ℕ) (t : List ℕ) (a b : ℕ) (a' : List ℕ) (y 
         go : (y : Option (ℕ × ℕ)) → Ends l j t a b a' y → y ≡ Some (n, at) → Stands l j t a b a' n at
         go y (stages.Ends.short x) q = absurd (let z : ◌≡◌ {A = ℕ} 0 1 = cc q in omega arith)
         go y (whole {n = m} {at = p} w) q =
-            let en : m ≡ n = cc q in
-            let ea : p ≡ at = cc q in
-            rw (en, ea) at w
+            let e : ◌≡◌ {A = ℕ × ℕ} (m, p) (n, at) = cc q in
+            rw (ap (λ z. z.0) e, ap (λ z. z.1) e) at w
 
     pub stands_size : n ≡ length (take n a')
     stands_size = ends_stand.size ∙ ap length (sym ends_stand.text_is)

@@ -53,17 +53,10 @@ fn play_revisions(
 {
     let mut len = n;
     let mut at = LOG_HEADER;
-    let mut k = 0;
-    while k < j {
+    for _k in 0..j {
         let rec = &log[at..];
-        match advance(rec, len, a, b) {
-            None => return None,
-            Some(m) => {
-                len = m;
-            }
-        }
+        len = advance(rec, len, a, b)?;
         at += reader::inner::size(rec);
-        k += 1;
     }
     Some((len, at))
 }

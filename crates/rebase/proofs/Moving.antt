@@ -1,5 +1,5 @@
 -- The run past the revisions: what was moved already, and what is still to come, is the whole.
-use Rattle.std.specs.Prelude.{◌≡◌, ℕ, suc, ◌+◌, ◌-◌, ◌*◌, ◌^◌, ◌≤◌, Bool, true, false, not, ◌&&◌, T, leb, List, [], ◌∷◌, ◌++◌, map, length, take, drop}
+use Rattle.std.specs.Prelude.{◌≡◌, ℕ, suc, ◌+◌, ◌-◌, ◌*◌, ◌^◌, ◌≤◌, Bool, true, false, not, ◌&&◌, T, leb, List, [], ◌∷◌, ◌++◌, map, length, take, drop, Ok, Err}
 use mathlib.Core.Path.{refl, sym, ap, ◌∙◌, subst, ap₂, subst₂}
 use mathlib.Core.List.{append_assoc, append-nil}
 use lib.ListN.{length-append, length-drop}

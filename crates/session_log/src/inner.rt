@@ -59,18 +59,11 @@ fn go_through(log: &[u8], count: usize, start: usize, r: u64) -> Option<Scan>
         len: start,
     };
     let mut mark = Spot { at: 0, len: 0 };
-    let mut k = 0;
-    while k < count {
+    for k in 0..count {
         mark = marked(k, r, here, mark);
-        match next_revision(log, here) {
-            None => return None,
-            Some(next) => {
-                here = next;
-            }
-        }
-        k += 1;
+        here = next_revision(log, here)?;
     }
-    mark = marked(k, r, here, mark);
+    mark = marked(count, r, here, mark);
     Some(Scan {
         count,
         start,

@@ -135,9 +135,9 @@ fn take_back(
     ensures { Undoes log.old k text.now (length a.old) (length b.old)
         out.old result log.new out.new }
 {
-    let (n, at) = playback_steps::inner::play_first(log, (k - 1) as usize, text, a, b).ok_or(
-        Refusal::Room,
-    )?;
+    let Some((n, at)) = playback_steps::inner::play_first(log, (k - 1) as usize, text, a, b) else {
+        return Err(Refusal::Room);
+    };
     choose_buffer(log, k, s, at, &a[..n], b, out)
 }
 

@@ -1,13 +1,14 @@
-use Rattle.std.specs.Prelude.{Err}
+use Rattle.std.proofs.lemmas.Result.{err_from_is_err_and}
 use Rattle.record.proofs.Checked.{passed}
-use Rattle.append.specs.InnerAccepting.{Accepts}
 use Rattle.append.proofs.Answering.{accepts_edit}
 use Rattle.accept.proofs.accept.Goals as goal
 
 pub checked-requires : goal.checked-requires
-checked-requires c = search passed
+checked-requires c = search (passed, c.in_ok-check.was)
 
-pub returns-in-Refused : goal.returns-in-Refused
-returns-in-Refused c = let a = c.args in
-    let w : Accepts a.edit.now a.r a.log.now a.out.now (Err c.in-Refused.x) a.log.now a.out.now = search accepts_edit in
-    (w.answer, w.log_is, w.out_is)
+pub returns-in_err-check : goal.returns-in_err-check
+returns-in_err-check c =
+    let p = err_from_is_err_and c.from_residual.result c.from_residual.ensures.1 in
+    let a = c.args in
+    let w = accepts_edit a.edit.now a.r a.log.now a.out.now _ c.check.ensures _ c.in_err-check.was in
+    rw (p.1, p.2) (w.answer, w.log_is, w.out_is)

@@ -3,4 +3,4 @@ use Rattle.packing.specs.Numbers.{packed}
 use Rattle.c_api.proofs.ot_base_len.Goals as goal
 
 pub returns : goal.returns
-returns c = c.fact.ensures ∙ ap packed c.base_len.ensures
+returns c = c.answer.ensures ∙ ap packed c.base_len.ensures

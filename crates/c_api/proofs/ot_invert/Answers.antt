@@ -3,4 +3,4 @@ use Rattle.packing.specs.Numbers.{packed}
 use Rattle.c_api.proofs.ot_invert.Goals as goal
 
 pub returns : goal.returns
-returns c = let h = c.invert.ensures in (c.written.ensures ∙ ap packed h.0, h.1)
+returns c = let h = c.invert.ensures in (c.answer.ensures ∙ ap packed h.0, h.1)

@@ -3,4 +3,4 @@ use Rattle.packing.specs.Numbers.{packed}
 use Rattle.c_api.proofs.ot_target_len.Goals as goal
 
 pub returns : goal.returns
-returns c = c.fact.ensures ∙ ap packed c.target_len.ensures
+returns c = c.answer.ensures ∙ ap packed c.target_len.ensures

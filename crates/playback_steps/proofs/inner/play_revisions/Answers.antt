@@ -4,7 +4,7 @@ use borrow.Author.Rules.{rules}
 use Rattle.playback_steps.proofs.inner.play_revisions.Goals as goal
 
 pub loop-k-init : goal.loop-k-init
-loop-k-init c = (search rules, search stage_start, refl, refl)
+loop-k-init c = (search stage_start, refl, refl)
 
 pub slice_bounds-rec-count : goal.slice_bounds-rec-count
 slice_bounds-rec-count c = search stage_at
@@ -15,8 +15,8 @@ slice_bounds-rec-start c = search (stage_at, rules)
 pub advance-requires : goal.advance-requires
 advance-requires c = (search stage_fault, search rules, search rules, search stage_base)
 
-pub returns-in-Short : goal.returns-in-Short
-returns-in-Short c = search stage_short
+pub returns-in_err-len : goal.returns-in_err-len
+returns-in_err-len c = rw c.from_residual.ensures (search (stage_short, c.in_err-len.was))
 
 pub size-at-requires : goal.size-at-requires
 size-at-requires c = search stage_fault
@@ -25,7 +25,7 @@ pub overflow_add-at : goal.overflow_add-at
 overflow_add-at c = search (stage_room, rules)
 
 pub loop-k-preserved : goal.loop-k-preserved
-loop-k-preserved c = (search rules, search stage_next, search rules, search rules)
+loop-k-preserved c = (search (stage_next, c.in_ok-len.was), search rules, search rules)
 
 pub returns : goal.returns
 returns c = search stage_end

@@ -1,10 +1,7 @@
-use Rattle.std.specs.Prelude.{◌≡◌, ◌-◌, ◌≤◌, length, take}
+use Rattle.std.specs.Prelude.{◌≡◌, length, take}
 use Rattle.playback_steps.specs.InnerStages.{Stage}
 use Rattle.playback_steps.proofs.inner.play_revisions.Given as goal
 
 abbrev pub invariant-loop-k : goal.invariant-loop-k
 invariant-loop-k l =
-    (l.k ≤ l.j) × Stage l.log l.j (take l.n l.initial.a) (length l.initial.a) (length l.initial.b) l.k l.at l.len l.a × (length l.a ≡ length l.initial.a) × (length l.b ≡ length l.initial.b)
-
-abbrev pub decreases-loop-k : goal.decreases-loop-k
-decreases-loop-k l = l.j - l.k
+    Stage l.log l.j (take l.n l.initial.a) (length l.initial.a) (length l.initial.b) l._k l.at l.len l.a × (length l.a ≡ length l.initial.a) × (length l.b ≡ length l.initial.b)

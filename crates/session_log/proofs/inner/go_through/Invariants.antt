@@ -1,9 +1,5 @@
-use Rattle.std.specs.Prelude.{◌-◌, ◌≤◌}
 use Rattle.session_log.specs.InnerSteps.{Passing}
 use Rattle.session_log.proofs.inner.go_through.Given as goal
 
 abbrev pub invariant-loop-k : goal.invariant-loop-k
-invariant-loop-k l = (l.k ≤ l.count) × Passing l.log l.r l.k l.here l.mark
-
-abbrev pub decreases-loop-k : goal.decreases-loop-k
-decreases-loop-k l = l.count - l.k
+invariant-loop-k l = Passing l.log l.r l.k l.here l.mark

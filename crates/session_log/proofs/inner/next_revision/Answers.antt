@@ -15,7 +15,7 @@ returns-then-base-here c = search step_base
 
 pub overflow_add-result : goal.overflow_add-result
 overflow_add-result c = let a = c.args in
-    let h : a.here.at + c.in-Is.size ≤ length a.log.now = search step_room in
+    let h : a.here.at + c.in-Ok.size ≤ length a.log.now = search step_room in
     search rules
 
 pub target-requires : goal.target-requires
