@@ -76,7 +76,9 @@ fn checked(edit: &[u8], r: u64, log: &mut [u8], out: &mut [u8]) -> Result<(usize
     requires { record_fault edit.now ≡ 0 }
     ensures { Accepts edit.now r log.old out.old result log.new out.new }
 {
-    let s = session_log::inner::read(log, r).ok_or(Refusal::Log)?;
+    let Some(s) = session_log::inner::read(log, r) else {
+        return Err(Refusal::Log);
+    };
     admit(edit, r, log, s, out)
 }
 

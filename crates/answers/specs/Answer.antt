@@ -37,6 +37,11 @@ noop_of (Ok true) = success (1 ∷ [])
 noop_of (Ok false) = success (0 ∷ [])
 noop_of (Err x) = refused (number x)
 
+-- how many bytes were written to either output
+abbrev pub pair_of : Result (ℕ × ℕ) Refusal → Answer
+pair_of (Ok (p, q)) = success (p ∷ q ∷ [])
+pair_of (Err x) = refused (number x)
+
 -- where a test fails, its number; else what comes after
 abbrev pub needs : Bool → ℕ → ℕ → ℕ
 needs test n k = cond test k n
@@ -50,8 +55,3 @@ or_else (suc n) k = suc n
 abbrev pub unless_refused : {A : Type 0} → ℕ → (ℕ → A) → A → A
 unless_refused zero f x = x
 unless_refused (suc n) f x = f (suc n)
-
--- how many bytes were written to either output
-abbrev pub pair_of : Result (ℕ × ℕ) Refusal → Answer
-pair_of (Ok (p, q)) = success (p ∷ q ∷ [])
-pair_of (Err x) = refused (number x)

@@ -17,7 +17,9 @@ pub fn apply(rec: &[u8], text: &[u8], out: &mut [u8]) -> Result<usize, Refusal>
         × (out.new ≡ (apply_call rec.now text.now out.old).out) }
 {
     operation::check(rec)?;
-    let chars = utf8::inner::form_of(text).ok_or(Refusal::Utf8)?;
+    let Some(chars) = utf8::inner::form_of(text) else {
+        return Err(Refusal::Utf8);
+    };
     let base = reader::inner::base(rec);
     if chars != base {
         return Err(Refusal::IncompatibleLengths);

@@ -94,7 +94,9 @@ pub fn insert(rec: &[u8], text: &[u8], out: &mut [u8]) -> Result<usize, Refusal>
         × (out.new ≡ (insert_call rec.now text.now out.old).out) }
 {
     operation::check(rec)?;
-    let num = utf8::inner::typed_form(text).ok_or(Refusal::Utf8)?;
+    let Some(num) = utf8::inner::typed_form(text) else {
+        return Err(Refusal::Utf8);
+    };
     if MAX_SIZE < text.len() {
         return Err(Refusal::Limit);
     }

@@ -1,5 +1,5 @@
 -- A text gone through character by character.
-use Rattle.std.specs.Prelude.{Option, Some, None}
+use Rattle.std.specs.Prelude.{cond, Option, Some, None, is_some}
 use Prim.Native.Nat.{ℕ, ◌+◌, ◌<◌, zero-le, ◌-◌, ◌≤◌, zero, suc}
 use mathlib.Core.Path.{◌≡◌, refl, sym, ◌∙◌, ap}
 use mathlib.Core.Bool.{true, false, Bool, not, ◌&&◌, false≢true}
@@ -33,6 +33,15 @@ unfolding form_of
 is_ill t w = rw w
 
 module _ (t : List ℕ) (x : Option ℕ) (e : x ≡ form_of t) where
+  -- where there is a number of characters
+  pub form_tells : is_some x ≡ is_well_formed t
+  unfolding form_of
+  form_tells = rw e (go (is_well_formed t))
+    where
+      go : (w : Bool) → is_some (cond w (Some (number_of_chars t)) None) ≡ w
+      go true = refl
+      go false = refl
+
   pub form_ill : x ≡ None → false ≡ is_well_formed t
   form_ill f = go (is_well_formed t) refl
     where

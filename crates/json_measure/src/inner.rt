@@ -150,11 +150,13 @@ pub struct Measured {
 
 // The check from the inserted texts on, and the list measured.
 fn measure_texts(rec: &[u8], t: Totals) -> Result<Measured, Refusal>
-    requires { Entered.Of t ≡ entered_of rec.now }
+    requires { Ok t ≡ entered_of rec.now }
     ensures { measured_of result ≡ measure_call rec.now }
 {
     let n = t.ops;
-    let texts = insert_bytes(rec, n, t.text, t.ordered).ok_or(Refusal::Utf8)?;
+    let Some(texts) = insert_bytes(rec, n, t.text, t.ordered) else {
+        return Err(Refusal::Utf8);
+    };
     operation::inner::check_sums(rec, t, Some(texts.chars))?;
     Ok(Measured {
         ops: n,
@@ -171,7 +173,9 @@ fn check_entries(rec: &[u8]) -> Result<Totals, Refusal>
     }
     let n = layout::inner::op_count(rec);
     let text = layout::inner::text_bytes(rec);
-    let sums = tally::inner::sum_up_by_entry(rec, n).ok_or(Refusal::Entry)?;
+    let Some(sums) = tally::inner::sum_up_by_entry(rec, n) else {
+        return Err(Refusal::Entry);
+    };
     if sums.inserts != text {
         return Err(Refusal::Entry);
     }

@@ -56,7 +56,9 @@ pub fn check_entries(rec: &[u8]) -> Result<Totals, Refusal>
     }
     let n = layout::inner::op_count(rec);
     let text = layout::inner::text_bytes(rec);
-    let sums = tally::inner::sum_up(rec, n).ok_or(Refusal::Entry)?;
+    let Some(sums) = tally::inner::sum_up(rec, n) else {
+        return Err(Refusal::Entry);
+    };
     if sums.inserts != text {
         return Err(Refusal::Entry);
     }
@@ -71,10 +73,12 @@ pub fn check_entries(rec: &[u8]) -> Result<Totals, Refusal>
 
 // What the check comes to, by what was found of the inserted texts.
 pub fn check_sums(rec: &[u8], t: Totals, inserted: Option<usize>) -> Result<usize, Refusal>
-    requires { (Entered.Of t ≡ entered_of rec.now) × (inserted ≡ inserted_of rec.now) }
+    requires { (Ok t ≡ entered_of rec.now) × (inserted ≡ inserted_of rec.now) }
     ensures { answer_of result ≡ check_call rec.now }
 {
-    let chars = inserted.ok_or(Refusal::Utf8)?;
+    let Some(chars) = inserted else {
+        return Err(Refusal::Utf8);
+    };
     if !t.ordered {
         return Err(Refusal::Neighbours);
     }

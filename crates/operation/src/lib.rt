@@ -55,9 +55,9 @@ pub fn is_noop(rec: &[u8]) -> Result<bool, Refusal>
 pub fn insert_text(rec: &[u8], k: usize) -> &[u8]
     ensures { result.now ≡ text_call rec.now k }
 {
-    if check(rec).is_err() {
+    let Ok(_) = check(rec) else {
         return &rec[0..0];
-    }
+    };
     let n = layout::inner::op_count(rec);
     if n <= k {
         return &rec[0..0];

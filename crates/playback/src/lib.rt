@@ -20,14 +20,20 @@ pub fn play(
         × (out.new ≡ (play_call log.now text.now (length scratch_a.old)
         (length scratch_b.old) out.old).out) }
 {
-    let chars = utf8::inner::form_of(text).ok_or(Refusal::Utf8)?;
-    let scan = session_log::inner::read(log, 0).ok_or(Refusal::Log)?;
+    let Some(chars) = utf8::inner::form_of(text) else {
+        return Err(Refusal::Utf8);
+    };
+    let Some(scan) = session_log::inner::read(log, 0) else {
+        return Err(Refusal::Log);
+    };
     if chars != scan.start {
         return Err(Refusal::IncompatibleLengths);
     }
-    let (n, _) = playback_steps::inner::play_first(
+    let Some((n, _)) = playback_steps::inner::play_first(
         log, scan.count, text, scratch_a, scratch_b,
-    ).ok_or(Refusal::Room)?;
+    ) else {
+        return Err(Refusal::Room);
+    };
     if out.len() < n {
         return Err(Refusal::Room);
     }

@@ -17,7 +17,9 @@ pub fn summary(log: &[u8], out: &mut [u8]) -> Result<usize, Refusal>
     ensures { (answer_of result ≡ (summary_call log.now out.old).answer)
         × (out.new ≡ (summary_call log.now out.old).out) }
 {
-    let s = session_log::inner::read(log, 0).ok_or(Refusal::Log)?;
+    let Some(s) = session_log::inner::read(log, 0) else {
+        return Err(Refusal::Log);
+    };
     summed(log, s.count, s.start, out)
 }
 

@@ -158,8 +158,12 @@ pub fn undo(
         × (out.new ≡ (undo_call log.old k text.now (length scratch_a.old)
         (length scratch_b.old) out.old).out_b) }
 {
-    let chars = utf8::inner::form_of(text).ok_or(Refusal::Utf8)?;
-    let s = session_log::inner::read(log, k).ok_or(Refusal::Log)?;
+    let Some(chars) = utf8::inner::form_of(text) else {
+        return Err(Refusal::Utf8);
+    };
+    let Some(s) = session_log::inner::read(log, k) else {
+        return Err(Refusal::Log);
+    };
     if k == 0 {
         return Err(Refusal::Revision);
     }

@@ -29,9 +29,9 @@ struct Moved {
 fn move_at(rec: &[u8], at: usize) -> Moved
     ensures { (found_of result.step ≡ step_call rec.now at) × (result.at ≡ next_at rec.now at) }
 {
-    if operation::check(rec).is_err() {
+    let Ok(_) = operation::check(rec) else {
         return Moved { step: None, at };
-    }
+    };
     let n = reader::inner::op_count(rec);
     if n <= at {
         return Moved { step: None, at };

@@ -16,19 +16,19 @@ pub returns-then-t-base : goal.returns-then-t-base
 returns-then-t-base c = search check_5
 
 pub overflow_add-target : goal.overflow_add-target
-overflow_add-target c = let so_far : Agreed c.args.rec.now c.args.t.ops c.args.t.text (c.args.t.kept + c.in-Chars.chars) = search agreed in let h = so_far.small in omega arith
+overflow_add-target c = let so_far : Agreed c.args.rec.now c.args.t.ops c.args.t.text (c.args.t.kept + c.in-Some.chars) = search agreed in let h = so_far.small in omega arith
 
 pub target-requires : goal.target-requires
 target-requires c = search totals_header
 
 pub returns-then-target : goal.returns-then-target
-returns-then-target c = let so_far : Agreed c.args.rec.now c.args.t.ops c.args.t.text (c.args.t.kept + c.in-Chars.chars) = search agreed in check_5' _ _ _ _ so_far c.target.result c.target.ensures.0 c.if-target.true
+returns-then-target c = let so_far : Agreed c.args.rec.now c.args.t.ops c.args.t.text (c.args.t.kept + c.in-Some.chars) = search agreed in check_5' _ _ _ _ so_far c.target.result c.target.ensures.0 c.if-target.true
 
 pub text_start-requires : goal.text_start-requires
-text_start-requires c = let so_far : Agreed c.args.rec.now c.args.t.ops c.args.t.text (c.args.t.kept + c.in-Chars.chars) = search agreed in let h = so_far.few in omega arith
+text_start-requires c = let so_far : Agreed c.args.rec.now c.args.t.ops c.args.t.text (c.args.t.kept + c.in-Some.chars) = search agreed in let h = so_far.few in omega arith
 
 pub overflow_add-result : goal.overflow_add-result
-overflow_add-result c = let so_far : Agreed c.args.rec.now c.args.t.ops c.args.t.text (c.args.t.kept + c.in-Chars.chars) = search agreed in let h = so_far in omega (arith, h.few, h.short, c.text_start.ensures)
+overflow_add-result c = let so_far : Agreed c.args.rec.now c.args.t.ops c.args.t.text (c.args.t.kept + c.in-Some.chars) = search agreed in let h = so_far in omega (arith, h.few, h.short, c.text_start.ensures)
 
 pub returns : goal.returns
-returns c = let so_far : Agreed c.args.rec.now c.args.t.ops c.args.t.text (c.args.t.kept + c.in-Chars.chars) = search agreed in check_0 _ _ _ _ so_far c.target.result c.target.ensures.0 c.text_start.result c.text_start.ensures c.if-target.false
+returns c = let so_far : Agreed c.args.rec.now c.args.t.ops c.args.t.text (c.args.t.kept + c.in-Some.chars) = search agreed in check_0 _ _ _ _ so_far c.target.result c.target.ensures.0 c.text_start.result c.text_start.ensures c.if-target.false
