@@ -1,9 +1,10 @@
 -- Hexadecimal digits, and four of them.
-use Rattle.std.specs.Prelude.{◌≡◌, ℕ, zero, suc, ◌+◌, ◌-◌, ◌*◌, ◌<◌, ◌≤◌, Bool, true, false, cond, List, ◌∷◌, length, get_or, drop}
+use Rattle.std.specs.Prelude.{◌≡◌, ℕ, zero, suc, ◌+◌, ◌-◌, ◌*◌, ◌<◌, ◌≤◌, Bool, true, false, cond, List, ◌∷◌, length, get_or, drop, Option, Some, None}
+use Rattle.std.proofs.lemmas.Option.{none-some, same_Some}
 use native.Mathlib.Numerals.{add-one}
 use native.Mathlib.Omega.{arith}
 use mathlib.Core.Path.{refl, sym, ap, ◌∙◌}
-use mathlib.Core.Option.{Option}
+use mathlib.Core.Option.{Option as Maybe}
 use lib.ListN.{drop_of_length-le}
 use borrow.Author.Tests.{lt-ltb, le-ltb}
 use Rattle.buffers.proofs.Tests.{known}
@@ -13,54 +14,56 @@ use Rattle.json_lists.specs.Form.{is_hex, value_of_hex, in_unicode, outside, cou
 use Rattle.json_lists.specs.InnerRuns.{Onward, Fails}
 use Rattle.json_lists.proofs.Strings.{hex_value}
 use Rattle.json_lists.proofs.Steps.{onward_none, onward_then, fails_then, ended_fails, next_outside_fails, at_byte, hex_step}
-use Rattle.json_escapes.specs.InnerEscapes.{hex_or_none, Hex4At}
+use Rattle.json_escapes.specs.InnerEscapes.{hex_or_none, Hex4, Hex4At}
 
 -- ---- one digit
 
 module _ (b : ℕ) where
-  pub hex_digit : 0x30 ≤ b → b ≤ 0x39 → (b - 0x30 ≡ hex_or_none b) × (b - 0x30 ≤ 16)
+  pub hex_digit : 0x30 ≤ b → b ≤ 0x39 → Some (b - 0x30) ≡ hex_or_none b
   unfolding is_hex value_of_hex
-  hex_digit l h = (rw (inside 0x30 0x39 b l h, lt-ltb b 0x3A (omega arith)), omega arith)
+  hex_digit l h = rw (inside 0x30 0x39 b l h, lt-ltb b 0x3A (omega arith))
 
-  pub hex_upper : 0x41 ≤ b → b ≤ 0x46 → (b - 0x37 ≡ hex_or_none b) × (b - 0x37 ≤ 16)
+  pub hex_upper : 0x41 ≤ b → b ≤ 0x46 → Some (b - 0x41 + 10) ≡ hex_or_none b
   unfolding is_hex value_of_hex
-  hex_upper l h = (rw (over 0x30 0x39 b (omega arith), inside 0x41 0x46 b l h, le-ltb b 0x3A (omega arith), lt-ltb b 0x47 (omega arith)), omega arith)
+  hex_upper l h =
+      let e : b - 0x41 + 10 ≡ b - 0x37 = omega arith in
+      rw (over 0x30 0x39 b (omega arith), inside 0x41 0x46 b l h, le-ltb b 0x3A (omega arith), lt-ltb b 0x47 (omega arith)) (ap Some e)
 
-  pub hex_lower : 0x61 ≤ b → b ≤ 0x66 → (b - 0x57 ≡ hex_or_none b) × (b - 0x57 ≤ 16)
+  pub hex_lower : 0x61 ≤ b → b ≤ 0x66 → Some (b - 0x61 + 10) ≡ hex_or_none b
   unfolding is_hex value_of_hex
   hex_lower l h =
-      (rw (over 0x30 0x39 b (omega arith), over 0x41 0x46 b (omega arith), inside 0x61 0x66 b l h, le-ltb b 0x3A (omega arith), le-ltb b 0x47 (omega arith)), omega arith)
+      let e : b - 0x61 + 10 ≡ b - 0x57 = omega arith in
+      rw (over 0x30 0x39 b (omega arith), over 0x41 0x46 b (omega arith), inside 0x61 0x66 b l h, le-ltb b 0x3A (omega arith), le-ltb b 0x47 (omega arith)) (ap Some e)
 
-  none : within 0x30 0x39 b ≡ false → within 0x41 0x46 b ≡ false → within 0x61 0x66 b ≡ false → (16 ≡ hex_or_none b) × (16 ≤ 16)
+  none : within 0x30 0x39 b ≡ false → within 0x41 0x46 b ≡ false → within 0x61 0x66 b ≡ false → None ≡ hex_or_none b
   unfolding is_hex
-  none x y z = (rw (x, y, z), omega arith)
+  none x y z = rw (x, y, z)
 
-  pub hex_under : b < 0x30 → (16 ≡ hex_or_none b) × (16 ≤ 16)
+  pub hex_under : b < 0x30 → None ≡ hex_or_none b
   hex_under h = none (under 0x30 0x39 b h) (under 0x41 0x46 b (omega arith)) (under 0x61 0x66 b (omega arith))
 
-  pub hex_between : 0x39 < b → b < 0x41 → (16 ≡ hex_or_none b) × (16 ≤ 16)
+  pub hex_between : 0x39 < b → b < 0x41 → None ≡ hex_or_none b
   hex_between l h = none (over 0x30 0x39 b l) (under 0x41 0x46 b h) (under 0x61 0x66 b (omega arith))
 
-  pub hex_behind : 0x46 < b → b < 0x61 → (16 ≡ hex_or_none b) × (16 ≤ 16)
+  pub hex_behind : 0x46 < b → b < 0x61 → None ≡ hex_or_none b
   hex_behind l h = none (over 0x30 0x39 b (omega arith)) (over 0x41 0x46 b l) (under 0x61 0x66 b h)
 
-  pub hex_over : 0x66 < b → (16 ≡ hex_or_none b) × (16 ≤ 16)
+  pub hex_over : 0x66 < b → None ≡ hex_or_none b
   hex_over h = none (over 0x30 0x39 b (omega arith)) (over 0x41 0x46 b (omega arith)) (over 0x61 0x66 b h)
 
-  -- a digit has a value below 16
-  no_digit : hex_or_none b ≡ 16 → is_hex b ≡ false
-  no_digit e = go (is_hex b) refl e
+  no_digit : None ≡ hex_or_none b → is_hex b ≡ false
+  no_digit e = go (is_hex b) e
     where
-      go : (x : Bool) → is_hex b ≡ x → cond x (value_of_hex b) 16 ≡ 16 → x ≡ false
-      go true p q = absurd (omega (arith, hex_value b p))
-      go false p q = refl
+      go : (x : Bool) → None ≡ cond x (Some (value_of_hex b)) None → x ≡ false
+      go true q = absurd (none-some (value_of_hex b) q)
+      go false q = refl
 
-  a_digit : (hex_or_none b ≡ 16 → ⊥) → (is_hex b ≡ true) × (hex_or_none b ≡ value_of_hex b)
-  a_digit f = go (is_hex b) f
+  a_digit : {d : ℕ} → Some d ≡ hex_or_none b → (is_hex b ≡ true) × (d ≡ value_of_hex b)
+  a_digit {d} e = go (is_hex b) e
     where
-      go : (x : Bool) → (cond x (value_of_hex b) 16 ≡ 16 → ⊥) → (x ≡ true) × (cond x (value_of_hex b) 16 ≡ value_of_hex b)
-      go true g = (refl, refl)
-      go false g = absurd (g refl)
+      go : (x : Bool) → Some d ≡ cond x (Some (value_of_hex b)) None → (x ≡ true) × (d ≡ value_of_hex b)
+      go true q = (refl, same_Some d (value_of_hex b) q)
+      go false q = absurd (none-some d (sym q))
 
 -- ---- four digits
 
@@ -83,9 +86,9 @@ pub record SomeDigits (t : List ℕ) (at k v : ℕ) : Type 0 where
   pub small : v < below k
   pub fits : v < 0x10000
   pub there : at + k ≤ length t
-  pub onward : (high : Option ℕ) (s : List ℕ) → Onward (in_unicode high 3 0 s) (drop at t) (counted high (4 - k) v s) (drop (at + k) t)
+  pub onward : (high : Maybe ℕ) (s : List ℕ) → Onward (in_unicode high 3 0 s) (drop at t) (counted high (4 - k) v s) (drop (at + k) t)
 
-next_bad : (high : Option ℕ) (due v : ℕ) (s : List ℕ) (b : ℕ) → is_hex b ≡ false → next (in_unicode high due v s) b ≡ outside
+next_bad : (high : Maybe ℕ) (due v : ℕ) (s : List ℕ) (b : ℕ) → is_hex b ≡ false → next (in_unicode high due v s) b ≡ outside
 unfolding next
 next_bad high due v s b e = rw e
 
@@ -95,48 +98,36 @@ module _ (t : List ℕ) (at : ℕ) where
       let z : at + 0 ≡ at = omega arith in
       record { few = omega arith; small = omega arith; fits = omega arith; there = omega arith; onward = λ high s. rw z (onward_none (in_unicode high 3 0 s) (drop at t)) }
 
-  pub all_digits : (v : ℕ) {k : ℕ} → SomeDigits t at k v → 4 ≤ k → Hex4At t at v
+  pub all_digits : (v : ℕ) {k : ℕ} → SomeDigits t at k v → 4 ≤ k → Hex4 t at v
   all_digits v {k} d h =
       let l = d.few in
       let z : k ≡ 4 = omega arith in
-      let m = d.fits in
-      record {
-        few = omega arith;
-        there = λ _. omega (arith, d.there);
-        onward = λ _ high s. rw z at (d.onward high s);
-        fails = λ e. absurd (omega arith);
-      }
+      record { few = d.fits; there = omega (arith, d.there); onward = λ high s. rw z at (d.onward high s) }
 
   module _ (k v : ℕ) (d : SomeDigits t at k v) (h : k < 4) where
     -- the place behind them
-    due : (high : Option ℕ) (s : List ℕ) → counted high (4 - k) v s ≡ in_unicode high (3 - k) v s
+    due : (high : Maybe ℕ) (s : List ℕ) → counted high (4 - k) v s ≡ in_unicode high (3 - k) v s
     due high s = let z : 4 - k ≡ suc (3 - k) = omega arith in ap (λ n. counted high n v s) z
 
-    no_number : ((high : Option ℕ) (s : List ℕ) → Fails (in_unicode high (3 - k) v s) (drop (at + k) t)) → Hex4At t at 0x10000
-    no_number f = record {
-      few = omega arith;
-      there = λ l. absurd (omega arith);
-      onward = λ l. absurd (omega arith);
-      fails = λ _ high s. fails_then (rw (due high s) at (d.onward high s)) (f high s);
-    }
+    no_number : ((high : Maybe ℕ) (s : List ℕ) → Fails (in_unicode high (3 - k) v s) (drop (at + k) t)) → Hex4At t at None
+    no_number f = λ high s. fails_then (rw (due high s) at (d.onward high s)) (f high s)
 
-    pub digits_end : length t - at ≤ k → Hex4At t at 0x10000
-    digits_end l =
-        let m : length t ≤ at + k = omega arith in
-        no_number (λ high s. rw (drop_of_length-le t m) (ended_fails (in_unicode high (3 - k) v s) refl))
+    pub digits_end : length t ≤ at + k → Hex4At t at None
+    digits_end l = no_number (λ high s. rw (drop_of_length-le t l) (ended_fails (in_unicode high (3 - k) v s) refl))
 
-    module _ (l : k < length t - at) {x : ℕ} (e : x ≡ hex_or_none (get_or t (at + k) 0)) where
-      pub digits_bad : x ≡ 16 → Hex4At t at 0x10000
-      digits_bad f =
-          no_number (λ high s. rw (at_byte t (at + k) (omega arith)) (next_outside_fails (in_unicode high (3 - k) v s) (get_or t (at + k) 0) (drop (at + k + 1) t) (next_bad high (3 - k) v s (get_or t (at + k) 0) (no_digit (get_or t (at + k) 0) (sym e ∙ f)))))
-
-      pub digits_more : (x ≡ 16 → ⊥) → SomeDigits t at (k + 1) (v * 16 + x)
-      digits_more f =
+    module _ (l : at + k < length t) where
+      pub digits_bad : None ≡ hex_or_none (get_or t (at + k) 0) → Hex4At t at None
+      digits_bad e =
           let b = get_or t (at + k) 0 in
-          let (p, q) = a_digit b (λ z. f (e ∙ z)) in
+          no_number (λ high s. rw (at_byte t (at + k) l) (next_outside_fails (in_unicode high (3 - k) v s) b (drop (at + k + 1) t) (next_bad high (3 - k) v s b (no_digit b e))))
+
+      pub digits_more : {x : ℕ} → Some x ≡ hex_or_none (get_or t (at + k) 0) → SomeDigits t at (k + 1) (v * 16 + x)
+      digits_more {x} e =
+          let b = get_or t (at + k) 0 in
+          let (p, q) = a_digit b e in
           let u = hex_value b p in
-          let w₁ : value_of_hex b ≡ x = sym (e ∙ q) in
-          let step : (high : Option ℕ) (s : List ℕ) → Onward (in_unicode high (3 - k) v s) (b ∷ drop (at + k + 1) t) (counted high (3 - k) (v * 16 + value_of_hex b) s) (drop (at + k + 1) t) =
+          let w₁ : value_of_hex b ≡ x = sym q in
+          let step : (high : Maybe ℕ) (s : List ℕ) → Onward (in_unicode high (3 - k) v s) (b ∷ drop (at + k + 1) t) (counted high (3 - k) (v * 16 + value_of_hex b) s) (drop (at + k + 1) t) =
           λ high s. hex_step high (3 - k) v s b (drop (at + k + 1) t) (known p) in
           let z : at + k + 1 ≡ at + (k + 1) = omega arith in
           let y : 3 - k ≡ 4 - (k + 1) = omega arith in
@@ -146,7 +137,7 @@ module _ (t : List ℕ) (at : ℕ) where
             fits = let f = few_below (suc k) (omega arith) in omega (arith, d.small);
             there = omega arith;
             onward = λ high s.
-                onward_then (rw (due high s, at_byte t (at + k) (omega arith)) at (d.onward high s))
+                onward_then (rw (due high s, at_byte t (at + k) l) at (d.onward high s))
                 (record {
                   to = (step high s).to ∙ λ i. reached (counted high (y i) (v * 16 + w₁ i) s) (drop (z i) t);
                   has = (step high s).has ∙ λ i. items (counted high (y i) (v * 16 + w₁ i) s) (drop (z i) t);

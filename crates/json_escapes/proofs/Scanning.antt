@@ -1,5 +1,5 @@
 -- A string, scanned piece by piece.
-use Rattle.std.specs.Prelude.{◌≡◌, ℕ, ◌+◌, ◌-◌, ◌<◌, ◌≤◌, true, ◌⊎◌, List, [], ◌++◌, length, get_or, take, drop}
+use Rattle.std.specs.Prelude.{◌≡◌, ℕ, ◌+◌, ◌-◌, ◌<◌, ◌≤◌, true, List, [], ◌++◌, length, get_or, take, drop, None}
 use native.Mathlib.Omega.{arith}
 use mathlib.Core.Path.{refl, ◌∙◌}
 use mathlib.Core.Logic.{⊎_elim}
@@ -17,7 +17,7 @@ use Rattle.json_lists.specs.InnerRuns.{Plain, width, Onward, Fails}
 use Rattle.json_lists.proofs.Scalars.{encode_text, encode_chars, encode_length}
 use Rattle.json_lists.proofs.Steps.{onward_none, onward_then, passes_then, fails_then, ended_fails, ill_fails, next_outside_fails, at_byte, byte, run_plain, string_ends}
 use Rattle.json_escapes.specs.declared.inner.Escaped.{Escaped}
-use Rattle.json_escapes.specs.InnerEscapes.{EscapeAt, StringAt}
+use Rattle.json_escapes.specs.InnerEscapes.{Names, EscapeAt, StringAt}
 
 -- the string's text from `at` to i, of so many bytes and characters
 pub record Text (t : List ℕ) (at i bytes chars : ℕ) : Type 0 where
@@ -99,38 +99,35 @@ module _ (t : List ℕ) (at : ℕ) where
             (λ l. rw (at_byte t end h) (next_outside_fails (in_string text_plain.text) b (drop (end + 1) t) (rw (ne_eqb b 0x22 n, ne_eqb b 0x5C m, lt-ltb b 0x20 l))))
             (le_or_lt 0x20 b))
 
-        module _ (e : get_or t end 0 ≡ 0x5C) (r : Escaped) (z : EscapeAt after_escape t (end + 1) r) where
+        module _ (e : get_or t end 0 ≡ 0x5C) where
           -- the backslash is passed
           past : Onward (in_string []) (drop at t) (after_escape text_plain.text) (drop (end + 1) t)
           unfolding next ends
           past = onward_then text_plain.onward (rw (at_byte t end h, e) (byte {b = 0x5C} (drop (end + 1) t) (omega arith) refl refl))
 
-          pub escape_bad : r.code ≡ 0x110000 → Fails (in_string []) (drop at t)
-          escape_bad q = fails_then past (z.fails q text_plain.text)
+          pub escape_bad : EscapeAt after_escape t (end + 1) None → Fails (in_string []) (drop at t)
+          escape_bad z = fails_then past (z text_plain.text)
 
-          module _ (q : r.code ≡ 0x110000 → ⊥) where
-            code_small : r.code < 0x110000
-            code_small = ⊎_elim (λ l. absurd (q (omega (arith, z.few)))) (λ l. l) (le_or_lt 0x110000 r.code)
-
+          module _ (r : Escaped) (z : Names after_escape t (end + 1) r) where
             pub text_escape : (w : ℕ) → w ≡ width r.code → Text t at r.to (bytes + (end - i) + w) (chars + more + 1)
             text_escape w f =
                 let y = text_plain in
                 let c = encode_scalar r.code in
-                let s = z.scalar code_small in
+                let s = z.scalar in
                 let lc = encode_length r.code in
                 let nc = encode_chars r.code s in
-                let wide = z.wide code_small in
+                let wide = z.wide in
                 record {
                   text = y.text ++ c;
                   well = well_append y.text c y.well ∙ holds (is_well_formed c) (encode_text r.code s);
                   size = omega (arith, y.size, length-append y.text c);
                   num = omega (arith, y.num, num_append y.text c);
                   above = omega (arith, y.above);
-                  below = z.there code_small;
+                  below = z.there;
                   few = omega (arith, y.few, y.above);
                   fewer = omega (arith, y.fewer, num_le c);
-                  onward = onward_then past (z.onward code_small text_plain.text);
+                  onward = onward_then past (z.onward text_plain.text);
                 }
 
             pub escape_less : length t - r.to < length t - i
-            escape_less = omega (arith, z.wide code_small, z.there code_small, p.above)
+            escape_less = omega (arith, z.wide, z.there, p.above)

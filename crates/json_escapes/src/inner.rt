@@ -11,149 +11,98 @@ const BACKSLASH: u8 = 0x5C;
 // The letter behind a backslash that four hexadecimal digits follow.
 const LETTER_U: u8 = 0x75;
 
-// No hexadecimal digit, no number of four of them, and no scalar value: one more than the greatest each.
-const NO_DIGIT: usize = 16;
-
-const NO_NUMBER: usize = 0x10000;
-
-pub const NO_CODE: usize = 0x110000;
-
 // The value of a hexadecimal digit.
-fn hex(b: u8) -> usize
-    ensures { (result ≡ hex_or_none b) × (result ≤ 16) }
+fn hex(b: u8) -> Option<u8>
+    ensures { result ≡ hex_or_none b }
 {
     match b {
-        0x30..=0x39 => (b - 0x30) as usize,
-        0x41..=0x46 => (b - 0x37) as usize,
-        0x61..=0x66 => (b - 0x57) as usize,
-        _ => NO_DIGIT,
+        b'0'..=b'9' => Some(b - b'0'),
+        b'A'..=b'F' => Some(b - b'A' + 10),
+        b'a'..=b'f' => Some(b - b'a' + 10),
+        _ => None,
     }
 }
 
 // The number of the four hexadecimal digits at `at`.
-fn four_digits(list: &[u8], at: usize) -> usize
+fn four_digits(list: &[u8], at: usize) -> Option<usize>
     requires { at ≤ length list.now }
     ensures { Hex4At list.now at result }
 {
     let mut v = 0;
-    let mut k = 0;
-    while k < 4 {
-        if list.len() - at <= k {
-            return NO_NUMBER;
-        }
-        let d = hex(list[at + k]);
-        if d == NO_DIGIT {
-            return NO_NUMBER;
-        }
-        v = v * 16 + d;
-        k += 1;
+    for k in 0..4 {
+        let b = *list.get(at + k)?;
+        v = v * 16 + usize::from(hex(b)?);
     }
-    v
+    Some(v)
 }
 
 // The scalar value that an escape names, and the place behind it.
-#[derive(Clone, Copy)]
+#[derive(Clone, Copy, Debug, PartialEq, Eq)]
 pub struct Escaped {
     pub code: usize,
     pub to: usize,
 }
 
-fn no_escape(at: usize) -> Escaped
-    ensures { (result.code ≡ 0x110000) × (result.to ≡ at) }
-{
-    Escaped {
-        code: NO_CODE,
-        to: at,
-    }
-}
-
 // The low surrogate that must stand at `at`, behind a high one; the pair is one scalar value.
-fn low_surrogate(list: &[u8], at: usize, high: usize) -> Escaped
+fn low_surrogate(list: &[u8], at: usize, high: usize) -> Option<Escaped>
     requires { (at ≤ length list.now) × (0xD800 ≤ high) × (high ≤ 0xDBFF) }
     ensures { EscapeAt (after_high high) list.now at result }
 {
-    if list.len() - at < 2 {
-        return no_escape(at);
+    if !list[at..].starts_with(b"\\u") {
+        return None;
     }
-    if list[at] != BACKSLASH {
-        return no_escape(at);
-    }
-    if list[at + 1] != LETTER_U {
-        return no_escape(at);
-    }
-    let low = four_digits(list, at + 2);
-    if low < 0xDC00 {
-        return no_escape(at);
-    }
-    if 0xDFFF < low {
-        return no_escape(at);
-    }
-    Escaped {
-        code: 0x10000 + (high - 0xD800) * 0x400 + (low - 0xDC00),
-        to: at + 6,
+    let low = four_digits(list, at + 2)?;
+    match low {
+        0xDC00..=0xDFFF => Some(Escaped {
+            code: 0x10000 + (high - 0xD800) * 0x400 + (low - 0xDC00),
+            to: at + 6,
+        }),
+        _ => None,
     }
 }
 
 // An escape of four digits, which stand at `at`.
-fn by_number(list: &[u8], at: usize) -> Escaped
+fn by_number(list: &[u8], at: usize) -> Option<Escaped>
     requires { at ≤ length list.now }
     ensures { EscapeAt after_u list.now at result }
 {
-    let v = four_digits(list, at);
-    if v == NO_NUMBER {
-        return no_escape(at);
-    }
-    if v < 0xD800 {
-        return Escaped {
-            code: v,
-            to: at + 4,
-        };
-    }
-    if v <= 0xDBFF {
-        return low_surrogate(list, at + 4, v);
-    }
-    if v <= 0xDFFF {
-        return no_escape(at);
-    }
-    Escaped {
-        code: v,
-        to: at + 4,
+    let v = four_digits(list, at)?;
+    let to = at + 4;
+    match v {
+        0xD800..=0xDBFF => low_surrogate(list, to, v),
+        0xDC00..=0xDFFF => None,
+        _ => Some(Escaped { code: v, to }),
     }
 }
 
 // The code that an escape of one letter stands for.
-fn by_letter(b: u8) -> usize
+fn by_letter(b: u8) -> Option<usize>
     ensures { result ≡ short_or_none b }
 {
     match b {
-        0x22 => 0x22,
-        0x5C => 0x5C,
-        0x2F => 0x2F,
-        0x62 => 0x08,
-        0x66 => 0x0C,
-        0x6E => 0x0A,
-        0x72 => 0x0D,
-        0x74 => 0x09,
-        _ => NO_CODE,
+        b'"' => Some(0x22),
+        b'\\' => Some(0x5C),
+        b'/' => Some(0x2F),
+        b'b' => Some(0x08),
+        b'f' => Some(0x0C),
+        b'n' => Some(0x0A),
+        b'r' => Some(0x0D),
+        b't' => Some(0x09),
+        _ => None,
     }
 }
 
 // The escape whose backslash stands before `at`.
-pub fn escape(list: &[u8], at: usize) -> Escaped
+pub fn escape(list: &[u8], at: usize) -> Option<Escaped>
     requires { at ≤ length list.now }
     ensures { EscapeAt after_escape list.now at result }
 {
-    if list.len() <= at {
-        return no_escape(at);
-    }
-    let b = list[at];
+    let b = *list.get(at)?;
     if b == LETTER_U {
         return by_number(list, at + 1);
     }
-    Escaped {
-        code: by_letter(b),
-        to: at + 1,
-    }
+    let code = by_letter(b)?;
+    Some(Escaped { code, to: at + 1 })
 }
 
 // How many bytes a scalar value has.
@@ -188,33 +137,26 @@ pub fn string(list: &[u8], at: usize) -> Option<Scanned>
     let mut i = at;
     let mut bytes = 0;
     let mut chars = 0;
-    while i < list.len() {
+    loop {
         let s = json_strings::inner::plain(list, i);
         let end = s.to;
-        if list.len() <= end {
-            return None;
-        }
         bytes += end - i;
         chars += s.chars;
-        let b = list[end];
-        if b == QUOTATION_MARK {
-            return Some(Scanned {
-                bytes,
-                chars,
-                to: end + 1,
-            });
+        match *list.get(end)? {
+            QUOTATION_MARK => {
+                return Some(Scanned {
+                    bytes,
+                    chars,
+                    to: end + 1,
+                });
+            }
+            BACKSLASH => {
+                let x = escape(list, end + 1)?;
+                bytes += width(x.code);
+                chars += 1;
+                i = x.to;
+            }
+            _ => return None,
         }
-        if b != BACKSLASH {
-            return None;
-        }
-        let x = escape(list, end + 1);
-        let code = x.code;
-        if code == NO_CODE {
-            return None;
-        }
-        bytes += width(code);
-        chars += 1;
-        i = x.to;
     }
-    None
 }

@@ -1,5 +1,5 @@
 -- A text's characters, and the bytes that it takes in strings.
-use Rattle.std.specs.Prelude.{◌≡◌, ℕ, ◌+◌, ◌-◌, ◌*◌, ◌/◌, ◌%◌, ◌<◌, ◌≤◌, Bool, true, false, cond, not, ◌&&◌, ◌||◌, eqb, ltb, List, [], ◌∷◌, ◌++◌, length, get_or, take, drop}
+use Rattle.std.specs.Prelude.{◌≡◌, ℕ, ◌+◌, ◌-◌, ◌*◌, ◌/◌, ◌%◌, ◌<◌, ◌≤◌, Bool, true, false, cond, not, ◌&&◌, ◌||◌, eqb, ltb, List, [], ◌∷◌, ◌++◌, length, get_or, take, drop, Some, None}
 use native.Mathlib.Nat.{zero-add}
 use native.Mathlib.Omega.{arith}
 use mathlib.Core.Path.{refl, sym, ap, ◌∙◌}
@@ -19,7 +19,7 @@ use Rattle.json_lists.specs.InnerRuns.{Plain, extra_bytes}
 use Rattle.json_lists.specs.Written.{hex_digit_of, escaped, escaped_all}
 use Rattle.json_lists.proofs.Ascii.{ascii_on}
 use Rattle.json_lists.proofs.Lengths.{escaped_all_length, extra_bytes_append, extra_bytes_most, plain_none}
-use Rattle.json_measure.specs.declared.inner.Texts.TheVariants.{IllFormed, Of}
+use Rattle.json_measure.specs.declared.inner.Texts.{Texts}
 use Rattle.json_measure.specs.InnerSizes.{sizes_of}
 
 -- ---- one byte
@@ -105,7 +105,7 @@ sized_first t to k p =
 
 -- the byte at `at` takes x more
 module _ (t : List ℕ) (at chars more x : ℕ) (g : Sized t at chars more) (h : at < length t) (e : x + 1 ≡ length (escaped (get_or t at 0))) where
-  pub sized_ill : x ≡ 0 → IllFormed ≡ sizes_of t
+  pub sized_ill : x ≡ 0 → None ≡ sizes_of t
   unfolding sizes_of
   sized_ill z = rw (sym g.well ∙ g.stops h (raw_one (get_or t at 0) (omega arith)))
 
@@ -124,10 +124,10 @@ module _ (t : List ℕ) (at chars more x : ℕ) (g : Sized t at chars more) (h :
         stops = p.stops;
       }
 
-pub sized_end : (t : List ℕ) (at chars more : ℕ) → Sized t at chars more → length t ≤ at → Of chars (length t + more) ≡ sizes_of t
+pub sized_end : (t : List ℕ) (at chars more : ℕ) → Sized t at chars more → length t ≤ at → (x : Texts) → x.chars ≡ chars → x.bytes ≡ length t + more → Some x ≡ sizes_of t
 unfolding sizes_of extra_bytes
-sized_end t at chars more g h =
+sized_end t at chars more g h x p q =
     let d : drop at t ≡ [] = drop_of_length-le t h in
-    let c : chars ≡ number_of_chars t = omega (arith, g.num, ap number_of_chars d) in
-    let m : length t + more ≡ length (escaped_all t) = omega (arith, g.grows, ap extra_bytes d, escaped_all_length t) in
-    rw (sym g.well ∙ ap is_well_formed d) (λ i. Of (c i) (m i))
+    let c : x.chars ≡ number_of_chars t = omega (arith, p, g.num, ap number_of_chars d) in
+    let m : x.bytes ≡ length (escaped_all t) = omega (arith, q, g.grows, ap extra_bytes d, escaped_all_length t) in
+    rw (sym g.well ∙ ap is_well_formed d) (λ i. Some (record { chars = c i; bytes = m i }))

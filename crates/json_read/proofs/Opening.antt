@@ -1,5 +1,5 @@
 -- The beginning and the end of a list.
-use Rattle.std.specs.Prelude.{◌≡◌, ℕ, ◌+◌, ◌-◌, ◌^◌, ◌<◌, ◌≤◌, Bool, true, false, cond, not, ◌&&◌, leb, ◌⊎◌, List, [], ◌∷◌, ◌++◌, map, reverse, length, get_or, drop}
+use Rattle.std.specs.Prelude.{◌≡◌, ℕ, ◌+◌, ◌-◌, ◌^◌, ◌<◌, ◌≤◌, Bool, true, false, cond, not, ◌&&◌, leb, ◌⊎◌, List, [], ◌∷◌, ◌++◌, map, reverse, length, get_or, drop, Option, Some, None}
 use native.Mathlib.Omega.{arith}
 use mathlib.Core.Path.{refl, sym, ap, ap₂, ◌∙◌}
 use mathlib.Core.Bool.{true≢false}
@@ -23,11 +23,10 @@ use Rattle.json_lists.proofs.Limits.{capped_or_over}
 use Rattle.json_lists.proofs.Reading.{outside_none}
 use Rattle.json_lists.proofs.Steps.{onward_then, fails_then, ended_fails, next_outside_fails, at_byte, byte, run_spaces}
 use Rattle.json_values.specs.InnerValues.{NoSpace}
-use Rattle.json_read.specs.declared.inner.Opening.{Opening}
-use Rattle.json_read.specs.declared.inner.Opening.TheVariants as opening
+use Rattle.json_read.specs.declared.inner.Next.{Next}
+use Rattle.json_read.specs.declared.inner.Next.TheVariants as coming
 use Rattle.json_read.specs.declared.inner.Values.{Values}
-use Rattle.json_read.specs.declared.inner.Reading.{Reading}
-use Rattle.json_read.specs.InnerReading.{Holds, ValuesTo, ValuesRead, OpensTo, OpeningAt, Finished, FinishedBy, ListRead}
+use Rattle.json_read.specs.InnerReading.{Holds, ValuesTo, ValuesRead, OpensTo, OpeningAt, Finished, FinishedBy, ListIs}
 use Rattle.json_read.proofs.Holding.{over_is}
 use Rattle.json_read.proofs.Listing.{run_no_space}
 
@@ -81,46 +80,39 @@ module _ (t : List ℕ) (i : ℕ) (s : Run is_white_space t 0 i) where
 
 -- ---- `read_array`
 
-module _ (t : List ℕ) (r : Opening) (f : OpeningAt t r) where
-  pub array_below : {at : ℕ} → r ≡ opening.Value at → at ≤ length t
+module _ (t : List ℕ) (r : Next) (f : OpeningAt t (Some r)) where
+  pub array_below : {at : ℕ} → r ≡ coming.Value at → at ≤ length t
   array_below {at} z = let x : OpensTo t after_comma at × NoSpace t at = rw z at f in x.0.below
 
-  pub array_space : {at : ℕ} → r ≡ opening.Value at → NoSpace t at
+  pub array_space : {at : ℕ} → r ≡ coming.Value at → NoSpace t at
   array_space {at} z = let x : OpensTo t after_comma at × NoSpace t at = rw z at f in x.1
 
-module _ (n : ℕ) (t out0 : List ℕ) (r : Opening) (f : OpeningAt t r) (w : Values) where
-  pub array_none : r ≡ opening.Outside → w.found ≡ false → ValuesRead n t at_start t out0 w out0
-  array_none z b = record { found = λ d. absurd (true≢false (sym d ∙ b)); fails = λ _. rw z at f }
-
-  pub array_empty : {at : ℕ} → r ≡ opening.Empty at → w.found ≡ true → w.at ≡ at → w.e ≡ nothing → ValuesRead n t at_start t out0 w out0
+module _ (n : ℕ) (t out0 : List ℕ) (r : Next) (f : OpeningAt t (Some r)) where
+  pub array_empty : {at : ℕ} → r ≡ coming.End at → (w : Values) → w.at ≡ at → w.e ≡ nothing → ValuesTo n t at_start t out0 w out0
   unfolding add_all
-  array_empty {at} z b c d =
+  array_empty {at} z w c d =
       let x : OpensTo t at_end at = rw z at f in
       record {
-        found = λ _. record {
-          all = [];
-          passes = rw c (record { to = x.onward.to; has = x.onward.has; well = x.onward.well });
-          below = omega (arith, x.below);
-          emitted = rw d (record { small = under_more 0 (2 ^ 20) nothing (omega arith) under_start; is = inl (rep_start n out0) });
-        };
-        fails = λ k. absurd (true≢false (sym b ∙ k));
+        all = [];
+        passes = rw c (record { to = x.onward.to; has = x.onward.has; well = x.onward.well });
+        below = omega (arith, x.below);
+        emitted = rw d (record { small = under_more 0 (2 ^ 20) nothing (omega arith) under_start; is = inl (rep_start n out0) });
       }
 
-  pub array_values : {at : ℕ} → r ≡ opening.Value at → {o : List ℕ} → ValuesRead n t after_comma (drop at t) out0 w o → ValuesRead n t at_start t out0 w o
-  array_values {at} z y =
-      let x : OpensTo t after_comma at × NoSpace t at = rw z at f in
-      let a = x.0.onward in
-      record {
-        found = λ b.
-            let v = y.found b in
-            record {
-              all = v.all;
-              passes = record { to = a.to ∙ v.passes.to; has = a.has ∙ v.passes.has; well = a.well ∙ v.passes.well };
-              below = v.below;
-              emitted = v.emitted;
-            };
-        fails = λ b. fails_then a (y.fails b);
-      }
+  module _ {at : ℕ} (z : r ≡ coming.Value at) where
+    to_value : Onward at_start t after_comma (drop at t)
+    to_value = let x : OpensTo t after_comma at × NoSpace t at = rw z at f in x.0.onward
+
+    pub array_values : (w : Option Values) (o : List ℕ) → ValuesRead n t after_comma (drop at t) out0 w o → ValuesRead n t at_start t out0 w o
+    array_values None o y = fails_then to_value y
+    array_values (Some w) o y =
+        let a = to_value in
+        record {
+          all = y.all;
+          passes = record { to = a.to ∙ y.passes.to; has = a.has ∙ y.passes.has; well = a.well ∙ y.passes.well };
+          below = y.below;
+          emitted = y.emitted;
+        }
 
 -- ---- `ends`
 
@@ -183,34 +175,27 @@ no_items (b ∷ bs) = go (is_white_space b) (no_items bs)
     go true h = h
     go false h = outside_none bs
 
-module _ (n : ℕ) (t out0 o : List ℕ) (v : Values) (r : ValuesRead n t at_start t out0 v o) where
-  pub list_none : not v.found ≡ true → (w : Reading) → w.valid ≡ false → ListRead n t out0 w o
-  unfolding in_form
-  list_none b w c = record { form = c ∙ sym (r.fails (not-true v.found b)); emitted = λ d. absurd (true≢false (sym d ∙ c)) }
+pub list_none : (t : List ℕ) → Fails at_start t → in_form t ≡ false
+unfolding in_form
+list_none t f = f
 
-  module _ (b : not v.found ≡ false) where
-    x : ValuesTo n t at_start t out0 v o
-    x = r.found (not-false v.found b)
+module _ (n : ℕ) (t out0 o : List ℕ) (v : Values) (x : ValuesTo n t at_start t out0 v o) where
+  pub values_hold : Holds v.e
+  values_hold = record { n = n; out0 = out0; acc = add_all [] (map op_of (map capped x.all)); o = o; held = x.emitted }
 
-    pub values_below : v.at ≤ length t
-    values_below = x.below
+  module _ {y : Bool} (z : y ≡ (is_well_formed (drop v.at t) && is_end (reached at_end (drop v.at t)))) where
+    form_is : in_form t ≡ y
+    unfolding in_form
+    form_is = ap₂ (λ w p. w && is_end p) x.passes.well x.passes.to ∙ sym z
 
-    pub values_hold : Holds v.e
-    values_hold = record { n = n; out0 = out0; acc = add_all [] (map op_of (map capped x.all)); o = o; held = x.emitted }
+    pub list_more : y ≡ false → in_form t ≡ false
+    list_more q = form_is ∙ q
 
-    module _ {y : Bool} (z : y ≡ (is_well_formed (drop v.at t) && is_end (reached at_end (drop v.at t)))) where
-      form_is : in_form t ≡ y
-      unfolding in_form
-      form_is = ap₂ (λ w p. w && is_end p) x.passes.well x.passes.to ∙ sym z
-
-      pub list_more : not y ≡ true → (w : Reading) → w.valid ≡ false → ListRead n t out0 w o
-      list_more q w c = record { form = c ∙ sym (form_is ∙ not-true y q); emitted = λ d. absurd (true≢false (sym d ∙ c)) }
-
-      pub list_whole : not y ≡ false → (w : Reading) {o' : List ℕ} → FinishedBy n v.e o w.e o' → w.valid ≡ true → ListRead n t out0 w o'
-      unfolding ops_of build
-      list_whole q w {o'} f c =
-          let l : items at_start t ≡ x.all = x.passes.has ∙ ap (λ m. x.all ++ m) (no_items (drop v.at t)) ∙ append-nil x.all in
-          record {
-            form = c ∙ sym (form_is ∙ not-false y q);
-            emitted = λ _. rw l (uncapped n x.all out0 w.e o' (f.done out0 (add_all [] (map op_of (map capped x.all))) x.emitted));
-          }
+    pub list_whole : y ≡ true → (e : Emitter) {o' : List ℕ} → FinishedBy n v.e o e o' → ListIs n t out0 e o'
+    unfolding ops_of build
+    list_whole q e {o'} f =
+        let l : items at_start t ≡ x.all = x.passes.has ∙ ap (λ m. x.all ++ m) (no_items (drop v.at t)) ∙ append-nil x.all in
+        record {
+          form = form_is ∙ q;
+          emitted = rw l (uncapped n x.all out0 e o' (f.done out0 (add_all [] (map op_of (map capped x.all))) x.emitted));
+        }

@@ -1,5 +1,5 @@
 -- What the functions that read a list promise each other. Only contracts of inner functions cite this.
-use Rattle.std.specs.Prelude.{◌≡◌, ℕ, ◌+◌, ◌^◌, ◌<◌, ◌≤◌, min, true, false, T, ◌⊎◌, List, [], ◌++◌, map, reverse, length, drop}
+use Rattle.std.specs.Prelude.{◌≡◌, ℕ, ◌+◌, ◌^◌, ◌<◌, ◌≤◌, true, false, T, ◌⊎◌, List, [], ◌++◌, map, reverse, length, drop, Option, Some, None}
 use Rattle.characters.specs.Form.{is_well_formed}
 use Rattle.characters.specs.Chars.{number_of_chars}
 use Rattle.characters.specs.Text.{Char, chars}
@@ -10,18 +10,15 @@ use Rattle.record.specs.Layout.{max_size}
 use Rattle.record.specs.Record.{fits}
 use Rattle.emitter.specs.declared.inner.Emitter.{Emitter}
 use Rattle.emitter.specs.InnerEmit.{Under, Rep, Done, within_limits}
-use Rattle.json_lists.specs.Form.{Sign, plus, minus, Item, number, string, Place, after_comma, after_value, at_start, at_end, reached, items, in_form}
-use Rattle.json_lists.specs.InnerRuns.{over_limit, capped, Onward, Passes, Fails}
+use Rattle.json_lists.specs.Form.{Item, Place, after_comma, after_value, at_start, at_end, reached, items, in_form}
+use Rattle.json_lists.specs.InnerRuns.{capped, Onward, Fails}
 use Rattle.json_lists.specs.Calls.{op_of, ops_of}
 use Rattle.json_values.specs.InnerValues.{NoSpace}
 use Rattle.json_values.specs.declared.inner.Value.{Value}
-use Rattle.json_values.specs.declared.inner.Value.TheVariants.{Outside, Retain, Delete, Insert}
-use Rattle.json_read.specs.declared.inner.Follows.{Follows}
-use Rattle.json_read.specs.declared.inner.Follows.TheVariants as follows
+use Rattle.json_values.specs.declared.inner.Value.TheVariants.{Retain, Delete, Insert}
+use Rattle.json_read.specs.declared.inner.Next.{Next}
+use Rattle.json_read.specs.declared.inner.Next.TheVariants as next
 use Rattle.json_read.specs.declared.inner.Values.{Values}
-use Rattle.json_read.specs.declared.inner.Opening.{Opening}
-use Rattle.json_read.specs.declared.inner.Opening.TheVariants as opening
-use Rattle.json_read.specs.declared.inner.Reading.{Reading}
 
 -- the emitter e with the buffer o stands for the sequence `acc`; or that passes a limit, and so do the emitter's numbers
 pub record Held (n : ℕ) (out0 : List ℕ) (acc : Seq) (e : Emitter) (o : List ℕ) : Type 0 where
@@ -50,16 +47,14 @@ pub record FeedsText (n num_bytes num_chars : ℕ) (e : Emitter) (o : List ℕ) 
 
 -- a value's numbers are as a scan gives them
 abbrev pub Sized : Value → Type 0
-Sized Outside = Unit {0}
-Sized (Retain k to) = k ≤ 65536
-Sized (Delete k to) = k ≤ 65536
-Sized (Insert bytes chars to) = chars ≤ bytes
+Sized (Retain k) = k ≤ 65536
+Sized (Delete k) = k ≤ 65536
+Sized (Insert bytes chars) = chars ≤ bytes
 
 abbrev pub FeedsValue : ℕ → Value → Emitter → List ℕ → Emitter → List ℕ → Type 0
-FeedsValue n Outside e o e' o' = Unit {0}
-FeedsValue n (Retain k to) e o e' o' = Feeds n (retain k) e o e' o'
-FeedsValue n (Delete k to) e o e' o' = Feeds n (delete k) e o e' o'
-FeedsValue n (Insert bytes chars to) e o e' o' = FeedsText n bytes chars e o e' o'
+FeedsValue n (Retain k) e o e' o' = Feeds n (retain k) e o e' o'
+FeedsValue n (Delete k) e o e' o' = Feeds n (delete k) e o e' o'
+FeedsValue n (Insert bytes chars) e o e' o' = FeedsText n bytes chars e o e' o'
 
 -- more text than a record has
 abbrev pub over_text : Emitter → Emitter
@@ -73,42 +68,10 @@ pub record Separates (t : List ℕ) (at : ℕ) (q : Place) (to : ℕ) : Type 0 w
   pub below : to ≤ length t
   pub onward : Onward after_value (drop at t) q (drop to t)
 
-abbrev pub FollowsAt : List ℕ → ℕ → Follows → Type 0
-FollowsAt t at follows.Outside = Fails after_value (drop at t)
-FollowsAt t at (follows.Value to) = Separates t at after_comma to × NoSpace t to
-FollowsAt t at (follows.End to) = Separates t at at_end to
-
--- what a scanned value says of an item: a number over the limit is held as the first one over it
-pub record IsNumber (s : Sign) (n : ℕ) (x : Item) : Type 0 where
-  pub value : ℕ
-  pub capped : n ≡ min value over_limit
-  pub is : x ≡ number s value
-
-pub record IsString (num_bytes num_chars : ℕ) (x : Item) : Type 0 where
-  pub text : List ℕ
-  pub well : T (is_well_formed text)
-  pub size : num_bytes ≡ length text
-  pub num : num_chars ≡ number_of_chars text
-  pub is : x ≡ string text
-
-abbrev pub Means : Value → Item → Type 0
-Means Outside x = ⊥
-Means (Retain n to) x = IsNumber plus n x
-Means (Delete n to) x = IsNumber minus n x
-Means (Insert bytes chars to) x = IsString bytes chars x
-
--- the value at `at` is an item, and what follows it leads to q
-pub record ItemTo (t : List ℕ) (at : ℕ) (v : Value) (q : Place) (to : ℕ) : Type 0 where
-  pub item : Item
-  pub means : Means v item
-  pub above : at < to
-  pub below : to ≤ length t
-  pub passes : Passes item after_comma (drop at t) q (drop to t)
-
-abbrev pub ItemFollowed : List ℕ → ℕ → Value → Follows → Type 0
-ItemFollowed t at v follows.Outside = Fails after_comma (drop at t)
-ItemFollowed t at v (follows.Value to) = ItemTo t at v after_comma to × NoSpace t to
-ItemFollowed t at v (follows.End to) = ItemTo t at v at_end to
+abbrev pub FollowsAt : List ℕ → ℕ → Option Next → Type 0
+FollowsAt t at None = Fails after_value (drop at t)
+FollowsAt t at (Some (next.Value to)) = Separates t at after_comma to × NoSpace t to
+FollowsAt t at (Some (next.End to)) = Separates t at at_end to
 
 -- items are passed on the way from p to q
 pub record PassesAll (l : List Item) (p : Place) (bs : List ℕ) (q : Place) (cs : List ℕ) : Type 0 where
@@ -123,19 +86,19 @@ pub record ValuesTo (n : ℕ) (t : List ℕ) (p : Place) (bs out0 : List ℕ) (r
   pub below : r.at ≤ length t
   pub emitted : Held n out0 (add_all [] (map op_of (map capped all))) r.e o
 
-pub record ValuesRead (n : ℕ) (t : List ℕ) (p : Place) (bs out0 : List ℕ) (r : Values) (o : List ℕ) : Type 0 where
-  pub found : r.found ≡ true → ValuesTo n t p bs out0 r o
-  pub fails : r.found ≡ false → Fails p bs
+abbrev pub ValuesRead : ℕ → List ℕ → Place → List ℕ → List ℕ → Option Values → List ℕ → Type 0
+ValuesRead n t p bs out0 None o = Fails p bs
+ValuesRead n t p bs out0 (Some r) o = ValuesTo n t p bs out0 r o
 
 -- the way from the start of the list to its first value, or to its end
 pub record OpensTo (t : List ℕ) (q : Place) (to : ℕ) : Type 0 where
   pub below : to ≤ length t
   pub onward : Onward at_start t q (drop to t)
 
-abbrev pub OpeningAt : List ℕ → Opening → Type 0
-OpeningAt t opening.Outside = Fails at_start t
-OpeningAt t (opening.Value to) = OpensTo t after_comma to × NoSpace t to
-OpeningAt t (opening.Empty to) = OpensTo t at_end to
+abbrev pub OpeningAt : List ℕ → Option Next → Type 0
+OpeningAt t None = Fails at_start t
+OpeningAt t (Some (next.Value to)) = OpensTo t after_comma to × NoSpace t to
+OpeningAt t (Some (next.End to)) = OpensTo t at_end to
 
 -- the sequence s is written but for its text and the sizes; or it passes a limit, and so do the emitter's numbers
 pub record Finished (n : ℕ) (s : Seq) (out0 : List ℕ) (e : Emitter) (o : List ℕ) : Type 0 where
@@ -145,6 +108,11 @@ pub record Finished (n : ℕ) (s : Seq) (out0 : List ℕ) (e : Emitter) (o : Lis
 pub record FinishedBy (n : ℕ) (e : Emitter) (o : List ℕ) (e' : Emitter) (o' : List ℕ) : Type 0 where
   pub done : (out0 : List ℕ) (acc : Seq) → Held n out0 acc e o → Finished n (reverse acc) out0 e' o'
 
-pub record ListRead (n : ℕ) (t out0 : List ℕ) (r : Reading) (o : List ℕ) : Type 0 where
-  pub form : r.valid ≡ in_form t
-  pub emitted : r.valid ≡ true → Finished n (ops_of (items at_start t)) out0 r.e o
+-- the list is of the form, and the sequence of its values is written
+pub record ListIs (n : ℕ) (t out0 : List ℕ) (e : Emitter) (o : List ℕ) : Type 0 where
+  pub form : in_form t ≡ true
+  pub emitted : Finished n (ops_of (items at_start t)) out0 e o
+
+abbrev pub ListRead : ℕ → List ℕ → List ℕ → Option Emitter → List ℕ → Type 0
+ListRead n t out0 None o = in_form t ≡ false
+ListRead n t out0 (Some e) o = ListIs n t out0 e o

@@ -6,9 +6,9 @@ ghost use Rattle.edits.specs.Op.{retain, delete};
 ghost use Rattle.record.specs.Layout.{start_of_text, max_size};
 ghost use Rattle.emitter.specs.InnerEmit.{Under, within_limits};
 ghost use Rattle.json_lists.specs.Form.{after_comma, at_start, at_end, reached, is_end};
-ghost use Rattle.json_values.specs.InnerValues.{ValueFrom, NoSpace};
+ghost use Rattle.json_values.specs.InnerValues.{NoSpace};
 ghost use Rattle.json_read.specs.InnerReading.{Holds, Feeds, FeedsRetain, FeedsText, Sized, FeedsValue, over_text};
-ghost use Rattle.json_read.specs.InnerReading.{FollowsAt, ItemFollowed, ValuesRead, OpeningAt, FinishedBy, ListRead};
+ghost use Rattle.json_read.specs.InnerReading.{FollowsAt, ValuesRead, OpeningAt, FinishedBy, ListRead};
 
 use emitter::inner::Emitter;
 use json_values::inner::Value;
@@ -73,14 +73,9 @@ fn add_value(out: &mut [u8], n: usize, e: Emitter, v: Value) -> Emitter
     ensures { FeedsValue n v e out.old result out.new }
 {
     match v {
-        Value::Outside => e,
-        Value::Retain { n: k, to: _ } => add_retain(e, k),
-        Value::Delete { n: k, to: _ } => add_delete(out, n, e, k),
-        Value::Insert {
-            bytes,
-            chars,
-            to: _,
-        } => add_insert(out, n, e, bytes, chars),
+        Value::Retain(k) => add_retain(e, k),
+        Value::Delete(k) => add_delete(out, n, e, k),
+        Value::Insert { bytes, chars } => add_insert(out, n, e, bytes, chars),
     }
 }
 
@@ -90,140 +85,78 @@ const BEGIN_ARRAY: u8 = 0x5B;
 
 const END_ARRAY: u8 = 0x5D;
 
-// What follows a value: a comma, with the place of the next value; the end of the list, with the place behind it; or neither.
-#[derive(Clone, Copy)]
-pub enum Follows {
-    Outside,
+// What comes next in a list: a value, with its place, or the end of the list, with the place behind its bracket.
+#[derive(Clone, Copy, Debug, PartialEq, Eq)]
+pub enum Next {
     Value(usize),
     End(usize),
 }
 
-fn after_value(list: &[u8], at: usize) -> Follows
+// What follows a value: a comma and the next value, or the end.
+fn after_value(list: &[u8], at: usize) -> Option<Next>
     requires { at ≤ length list.now }
     ensures { FollowsAt list.now at result }
 {
     let i = json_values::inner::after_spaces(list, at);
-    if list.len() <= i {
-        return Follows::Outside;
-    }
-    let b = list[i];
-    if b == COMMA {
-        let to = json_values::inner::after_spaces(list, i + 1);
-        return Follows::Value(to);
-    }
-    if b == END_ARRAY {
-        return Follows::End(i + 1);
-    }
-    Follows::Outside
-}
-
-// What follows the value that was scanned at `at`.
-fn behind(list: &[u8], at: usize, v: Value) -> Follows
-    requires { ValueFrom after_comma list.now at v }
-    ensures { ItemFollowed list.now at v result }
-{
-    match v {
-        Value::Outside => Follows::Outside,
-        Value::Retain { n: _, to } => after_value(list, to),
-        Value::Delete { n: _, to } => after_value(list, to),
-        Value::Insert {
-            bytes: _,
-            chars: _,
-            to,
-        } => after_value(list, to),
+    match *list.get(i)? {
+        COMMA => Some(Next::Value(json_values::inner::after_spaces(list, i + 1))),
+        END_ARRAY => Some(Next::End(i + 1)),
+        _ => None,
     }
 }
 
-// Whether values stood in the list up to its end, the place behind that, and what was emitted.
+// The place behind a list's values and the bracket that ends it, and what was emitted.
 #[derive(Clone, Copy)]
 pub struct Values {
-    pub found: bool,
     pub at: usize,
     pub e: Emitter,
 }
 
-// The values from `at` on.
-fn read_values(list: &[u8], at: usize, out: &mut [u8], n: usize) -> Values
+// The values from `at` on, where nothing else stands before the end.
+fn read_values(list: &[u8], at: usize, out: &mut [u8], n: usize) -> Option<Values>
     requires { (at ≤ length list.now) × NoSpace list.now at × (n ≤ 2 ^ 40) × (length out.old ≤ start_of_text n) }
     ensures { ValuesRead n list.now after_comma (drop at list.now) out.old result out.new }
 {
     let mut e = emitter::inner::new_emitter();
     let mut i = at;
-    while i < list.len() {
-        let v = json_values::inner::scan_value(list, i);
-        e = add_value(out, n, e, v);
-        match behind(list, i, v) {
-            Follows::Outside => {
-                return Values {
-                    found: false,
-                    at: i,
-                    e,
-                };
-            }
-            Follows::End(to) => {
-                return Values {
-                    found: true,
-                    at: to,
-                    e,
-                };
-            }
-            Follows::Value(to) => {
+    loop {
+        let x = json_values::inner::scan_value(list, i)?;
+        e = add_value(out, n, e, x.value);
+        match after_value(list, x.to)? {
+            Next::Value(to) => {
                 i = to;
             }
+            Next::End(to) => return Some(Values { at: to, e }),
         }
     }
-    Values {
-        found: false,
-        at: i,
-        e,
-    }
 }
 
-// What a list begins with: its bracket and the place of the first value, both brackets and the place behind them, or neither.
-#[derive(Clone, Copy)]
-pub enum Opening {
-    Outside,
-    Value(usize),
-    Empty(usize),
-}
-
-fn begins_with(list: &[u8]) -> Opening
+// What a list begins with: its bracket and the first value, or both brackets.
+fn begins_with(list: &[u8]) -> Option<Next>
     ensures { OpeningAt list.now result }
 {
     let i = json_values::inner::after_spaces(list, 0);
-    if list.len() <= i {
-        return Opening::Outside;
-    }
-    if list[i] != BEGIN_ARRAY {
-        return Opening::Outside;
+    if *list.get(i)? != BEGIN_ARRAY {
+        return None;
     }
     let to = json_values::inner::after_spaces(list, i + 1);
-    if list.len() <= to {
-        return Opening::Outside;
+    if *list.get(to)? == END_ARRAY {
+        return Some(Next::End(to + 1));
     }
-    if list[to] == END_ARRAY {
-        return Opening::Empty(to + 1);
-    }
-    Opening::Value(to)
+    Some(Next::Value(to))
 }
 
 // The values of the whole list.
-fn read_array(list: &[u8], out: &mut [u8], n: usize) -> Values
+fn read_array(list: &[u8], out: &mut [u8], n: usize) -> Option<Values>
     requires { (n ≤ 2 ^ 40) × (length out.old ≤ start_of_text n) }
     ensures { ValuesRead n list.now at_start list.now out.old result out.new }
 {
-    match begins_with(list) {
-        Opening::Outside => Values {
-            found: false,
-            at: 0,
-            e: emitter::inner::new_emitter(),
-        },
-        Opening::Empty(at) => Values {
-            found: true,
+    match begins_with(list)? {
+        Next::Value(at) => read_values(list, at, out, n),
+        Next::End(at) => Some(Values {
             at,
             e: emitter::inner::new_emitter(),
-        },
-        Opening::Value(at) => read_values(list, at, out, n),
+        }),
     }
 }
 
@@ -246,28 +179,15 @@ fn finish(out: &mut [u8], n: usize, e: Emitter) -> Emitter
     emitter::inner::finish(out, n, e)
 }
 
-// Whether bytes are a list of the form; and the sizes of the record of its values, of which all but the text is written.
-#[derive(Clone, Copy)]
-pub struct Reading {
-    pub valid: bool,
-    pub e: Emitter,
-}
-
-// A list, read into a buffer with places for n operations and none for text.
-pub fn read_list(list: &[u8], out: &mut [u8], n: usize) -> Reading
+// A list, read into a buffer with places for n operations and none for text: the sizes of the record of its values, of which all but the
+// text is written; or none, where the bytes are no list of the form.
+pub fn read_list(list: &[u8], out: &mut [u8], n: usize) -> Option<Emitter>
     requires { (n ≤ 2 ^ 40) × (length out.old ≤ start_of_text n) }
     ensures { ListRead n list.now out.old result out.new }
 {
-    let v = read_array(list, out, n);
-    let e = v.e;
-    if !v.found {
-        return Reading { valid: false, e };
-    }
+    let v = read_array(list, out, n)?;
     if !ends(list, v.at) {
-        return Reading { valid: false, e };
+        return None;
     }
-    Reading {
-        valid: true,
-        e: finish(out, n, e),
-    }
+    Some(finish(out, n, v.e))
 }

@@ -1,8 +1,7 @@
 -- Text copied, one part behind another.
-use Rattle.std.specs.Prelude.{◌≡◌, ℕ, ◌+◌, ◌-◌, ◌<◌, ◌≤◌, Bool, false, not, ◌&&◌, T, eqb, List, [], ◌∷◌, ◌++◌, length, get_or, take, drop, set}
+use Rattle.std.specs.Prelude.{◌≡◌, ℕ, ◌+◌, ◌-◌, ◌<◌, ◌≤◌, Bool, false, not, ◌&&◌, T, eqb, List, [], ◌∷◌, ◌++◌, length, get_or, take, drop, set, Option, Some, None, IsSome}
 use native.Mathlib.Omega.{arith}
 use mathlib.Core.Path.{refl, sym, ap, ap₂, ◌∙◌}
-use mathlib.Core.Logic.{⊎_elim}
 use mathlib.Core.Bool.{true≢false}
 use mathlib.Core.List.{append_assoc, append-nil}
 use lib.ListN.{length-append, length-take, length-drop, take-append-drop, drop_of_length-le}
@@ -15,14 +14,13 @@ use Rattle.buffers.proofs.Tests.{both, holds, known}
 use Rattle.characters.specs.declared.Lead.TheVariants.{Of}
 use Rattle.characters.specs.Form.{is_well_formed}
 use Rattle.characters.specs.Scalar.{encode_scalar}
-use Rattle.characters.proofs.Leads.{le_or_lt}
 use Rattle.json_lists.specs.Form.{Place, at_start, in_string, after_escape, after_value, is_end, next, reached, items, in_form}
 use Rattle.json_lists.proofs.Reading.{inside}
 use Rattle.json_lists.proofs.Ascii.{ascii_on}
 use Rattle.json_lists.proofs.Steps.{at_byte}
 use Rattle.json_strings.specs.InnerStrings.{is_plain}
 use Rattle.json_escapes.specs.declared.inner.Escaped.{Escaped}
-use Rattle.json_escapes.specs.InnerEscapes.{EscapeAt}
+use Rattle.json_escapes.specs.InnerEscapes.{Names, EscapeAt}
 use Rattle.json_texts.specs.InnerTexts.{texts, ahead, Ready, Moved}
 use Rattle.json_texts.proofs.Texts.{held, out_byte, out_on, mark_on}
 use Rattle.json_texts.proofs.Positions.{starts, Part, in_string_no_end, raw_at, mark_at, slash_at, plains}
@@ -193,30 +191,32 @@ module _ {list : List ℕ} {at : ℕ} {out : List ℕ} {to : ℕ} (r : Ready (in
 
 -- ---- escapes
 
-module _ {list : List ℕ} {at : ℕ} {out : List ℕ} {to : ℕ} (r : Ready (after_escape []) list at out to) (w : T (is_well_formed (drop at list)))
-    {x : Escaped} (z : EscapeAt after_escape list at x) where
+module _ {list : List ℕ} {at : ℕ} {out : List ℕ} {to : ℕ} (r : Ready (after_escape []) list at out to) where
   -- a list of the form has no escape that names nothing
-  pub code_small : x.code < 0x110000
-  code_small =
-      ⊎_elim
-      (λ l. absurd
-      (true≢false (ap₂ ◌&&◌ (sym (holds (is_well_formed (drop at list)) w)) (sym r.ends) ∙ z.fails (omega (arith, z.few)) [])))
-      (λ l. l)
-      (le_or_lt 0x110000 x.code)
+  pub escape_there : T (is_well_formed (drop at list)) → (x : Option Escaped) → EscapeAt after_escape list at x → IsSome x
+  escape_there w None z = absurd (true≢false (ap₂ ◌&&◌ (sym (holds (is_well_formed (drop at list)) w)) (sym r.ends) ∙ z []))
+  escape_there w (Some e) z = refl
 
-  escape_at : Part (after_escape []) (in_string []) list at x.to (encode_scalar x.code)
-  unfolding ahead
-  escape_at =
-      let o = z.onward code_small [] in
-      let (e, f) = held (encode_scalar x.code) (drop x.to list) (sym (ap is_end o.to) ∙ r.ends) in
-      record { splits = ap texts o.has ∙ f; ends = e; above = omega (arith, z.wide code_small); below = z.there code_small }
+  module _ {x : Escaped} {y : Option Escaped} (q : y ≡ Some x) (z : EscapeAt after_escape list at y) where
+    named : Names after_escape list at x
+    named = rw q at z
 
-  pub room_scalar : to + length (encode_scalar x.code) ≤ length out
-  room_scalar = room_part r (moved_none r) escape_at
+    pub code_small : x.code < 0x110000
+    code_small = named.few
 
-  pub moved_scalar : {j : ℕ} {o : List ℕ} → o ≡ over to (encode_scalar x.code) out → j ≡ to + length (encode_scalar x.code)
-      → Moved (after_escape []) (in_string []) list at out to x.to j o
-  moved_scalar h b = moved_part r (moved_none r) escape_at b h
+    escape_at : Part (after_escape []) (in_string []) list at x.to (encode_scalar x.code)
+    unfolding ahead
+    escape_at =
+        let o = named.onward [] in
+        let (e, f) = held (encode_scalar x.code) (drop x.to list) (sym (ap is_end o.to) ∙ r.ends) in
+        record { splits = ap texts o.has ∙ f; ends = e; above = omega (arith, named.wide); below = named.there }
+
+    pub room_scalar : to + length (encode_scalar x.code) ≤ length out
+    room_scalar = room_part r (moved_none r) escape_at
+
+    pub moved_scalar : {j : ℕ} {o : List ℕ} → o ≡ over to (encode_scalar x.code) out → j ≡ to + length (encode_scalar x.code)
+        → Moved (after_escape []) (in_string []) list at out to x.to j o
+    moved_scalar h b = moved_part r (moved_none r) escape_at b h
 
 -- ---- the whole list
 

@@ -122,7 +122,7 @@ fn copy_escape(list: &[u8], at: usize, out: &mut [u8], to: usize) -> Copied
     ensures { Moved (after_escape []) (in_string []) list.now at out.old to result.from result.to
         out.new }
 {
-    let e = json_escapes::inner::escape(list, at);
+    let e = json_escapes::inner::escape(list, at).unwrap();
     let end = write_scalar(out, to, e.code);
     Copied {
         from: e.to,

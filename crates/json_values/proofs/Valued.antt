@@ -1,20 +1,18 @@
 -- A value, by its first byte.
-use Rattle.std.specs.Prelude.{◌≡◌, ℕ, ◌+◌, ◌-◌, ◌<◌, ◌≤◌, true, false, List, [], length, get_or, drop}
+use Rattle.std.specs.Prelude.{◌≡◌, ℕ, ◌+◌, ◌-◌, ◌<◌, ◌≤◌, List, [], length, get_or, drop, true, false, Option, Some, None}
 use native.Mathlib.Omega.{arith}
 use mathlib.Core.Path.{refl}
 use lib.ListN.{drop_of_length-le}
 use borrow.Author.Tests.{ne_eqb}
 use Rattle.characters.proofs.Leads.{inside, under, over}
-use Rattle.json_lists.specs.Form.{Sign, plus, minus, is_digit1_9, value_of_digit, Place, after_comma, after_minus, in_number, in_string, outside, next, ends}
+use Rattle.json_lists.specs.Form.{Sign, plus, minus, number, string, is_digit1_9, Place, after_comma, after_minus, in_number, in_string, next, ends}
 use Rattle.json_lists.specs.InnerRuns.{Onward, Fails}
 use Rattle.json_lists.proofs.Steps.{onward_then, passes_then, fails_then, ended_fails, next_outside_fails, at_byte, byte, number_ends}
-use Rattle.json_escapes.specs.declared.inner.Scanned.{Scanned}
-use Rattle.json_escapes.specs.declared.inner.Scanned.TheVariants as scanned
-use Rattle.json_escapes.specs.InnerEscapes.{StringScanned}
+use Rattle.json_escapes.specs.InnerEscapes.{StringAt}
 use Rattle.json_values.specs.declared.inner.Digits.{Digits}
-use Rattle.json_values.specs.declared.inner.Value.{Value}
-use Rattle.json_values.specs.declared.inner.Value.TheVariants.{Outside, Retain, Delete, Insert}
-use Rattle.json_values.specs.InnerValues.{DigitsAt, NumberAt, InsertAt, ValueFrom, NoSpace, OtherByte}
+use Rattle.json_values.specs.declared.inner.Found.{Found}
+use Rattle.json_values.specs.declared.inner.Value.TheVariants.{Retain, Delete, Insert}
+use Rattle.json_values.specs.InnerValues.{DigitsAt, NumberAt, Begins, WholeNumber, ValueAt, ValueFrom, NoSpace, OtherByte}
 
 module _ (b : ℕ) where
   first_digit : 0x31 ≤ b → b ≤ 0x39 → is_digit1_9 b ≡ true
@@ -29,11 +27,6 @@ module _ (b : ℕ) where
   unfolding is_digit1_9
   first_over h = over 0x31 0x39 b h
 
--- a place at which a first digit begins a number of the sign s, and any other byte of some kind leads outside
-record Begins (p : Place) (s : Sign) (b : ℕ) : Type 0 where
-  digit : is_digit1_9 b ≡ true → (next p b ≡ in_number s (value_of_digit b)) × (ends p b ≡ [])
-  other : is_digit1_9 b ≡ false → next p b ≡ outside
-
 minus_begins : (b : ℕ) → Begins after_minus minus b
 unfolding next ends
 minus_begins b = record { digit = λ e. (rw e, refl); other = λ e. rw e }
@@ -46,82 +39,81 @@ comma_begins b o =
       other = λ e. rw (o.no_space, ne_eqb b 0x22 o.no_mark, ne_eqb b 0x2D o.no_minus, e);
     }
 
-module _ (p : Place) (s : Sign) (t : List ℕ) (at : ℕ) (h : at < length t) (g : Begins p s (get_or t at 0)) where
-  other_fails : is_digit1_9 (get_or t at 0) ≡ false → Fails p (drop at t)
-  other_fails e = rw (at_byte t at h) (next_outside_fails p (get_or t at 0) (drop (at + 1) t) (g.other e))
-
-  module _ (l : 0x31 ≤ get_or t at 0) (k : get_or t at 0 ≤ 0x39) (x : Digits) (d : DigitsAt t at x) where
-    begun : Onward p (drop at t) (in_number s d.value) (drop x.to t)
-    begun =
-        let (n, m) = g.digit (first_digit (get_or t at 0) l k) in
-        onward_then (rw (at_byte t at h) (byte {b = get_or t at 0} (drop (at + 1) t) (omega arith) n m)) (d.onward s)
-
-    number_cut : length t ≤ x.to → Fails p (drop at t)
-    number_cut e = fails_then begun (rw (drop_of_length-le t e) (ended_fails (in_number s d.value) refl))
-
-    number_whole : x.to < length t → NumberAt p s t at x.value x.to
-    number_whole e = record {
-      value = d.value;
-      capped = d.capped;
-      above = d.above;
-      below = d.below;
-      passes = passes_then begun (rw (at_byte t x.to e) (number_ends s d.value (get_or t x.to 0) (drop (x.to + 1) t) (d.stops e)));
-    }
-
 module _ (t : List ℕ) (at : ℕ) where
-  pub minus_end : at ≤ length t → length t ≤ at → Fails after_minus (drop at t)
-  minus_end h l = rw (drop_of_length-le t l) (ended_fails after_minus refl)
+  -- the list ends before the number begins
+  pub whole_cut : length t ≤ at → WholeNumber t at None
+  whole_cut l = record { read = λ p s e f. rw (drop_of_length-le t l) (ended_fails p e) }
 
   module _ (h : at < length t) where
-    pub minus_under : get_or t at 0 < 0x31 → Fails after_minus (drop at t)
-    minus_under e = other_fails after_minus minus t at h (minus_begins (get_or t at 0)) (first_under (get_or t at 0) e)
+    other_fails : is_digit1_9 (get_or t at 0) ≡ false → WholeNumber t at None
+    other_fails e = record { read = λ p s n f. rw (at_byte t at h) (next_outside_fails p (get_or t at 0) (drop (at + 1) t) ((f h).other e)) }
 
-    pub minus_over : 0x39 < get_or t at 0 → Fails after_minus (drop at t)
-    minus_over e = other_fails after_minus minus t at h (minus_begins (get_or t at 0)) (first_over (get_or t at 0) e)
+    pub whole_under : get_or t at 0 < 0x31 → WholeNumber t at None
+    whole_under e = other_fails (first_under (get_or t at 0) e)
+
+    pub whole_over : 0x39 < get_or t at 0 → WholeNumber t at None
+    whole_over e = other_fails (first_over (get_or t at 0) e)
 
     module _ (l : 0x31 ≤ get_or t at 0) (k : get_or t at 0 ≤ 0x39) (x : Digits) (d : DigitsAt t at x) where
-      pub minus_cut : length t ≤ x.to → Fails after_minus (drop at t)
-      minus_cut = number_cut after_minus minus t at h (minus_begins (get_or t at 0)) l k x d
+      begun : (p : Place) (s : Sign) → Begins p s (get_or t at 0) → Onward p (drop at t) (in_number s d.value) (drop x.to t)
+      begun p s g =
+          let (n, m) = g.digit (first_digit (get_or t at 0) l k) in
+          onward_then (rw (at_byte t at h) (byte {b = get_or t at 0} (drop (at + 1) t) (omega arith) n m)) (d.onward s)
 
-      pub minus_number : x.to < length t → NumberAt after_minus minus t at x.value x.to
-      minus_number = number_whole after_minus minus t at h (minus_begins (get_or t at 0)) l k x d
+      pub number_cut : length t ≤ x.to → WholeNumber t at None
+      number_cut e = record { read = λ p s n f. fails_then (begun p s (f h)) (rw (drop_of_length-le t e) (ended_fails (in_number s d.value) refl)) }
 
-    module _ (o : OtherByte (get_or t at 0)) where
-      pub plus_under : get_or t at 0 < 0x31 → Fails after_comma (drop at t)
-      plus_under e = other_fails after_comma plus t at h (comma_begins (get_or t at 0) o) (first_under (get_or t at 0) e)
+      pub number_whole : x.to < length t → WholeNumber t at (Some x)
+      number_whole e = record {
+        read = λ p s n f.
+            record {
+              value = d.value;
+              capped = d.capped;
+              above = d.above;
+              below = d.below;
+              passes = passes_then (begun p s (f h)) (rw (at_byte t x.to e) (number_ends s d.value (get_or t x.to 0) (drop (x.to + 1) t) (d.stops e)));
+            };
+      }
 
-      pub plus_over : 0x39 < get_or t at 0 → Fails after_comma (drop at t)
-      plus_over e = other_fails after_comma plus t at h (comma_begins (get_or t at 0) o) (first_over (get_or t at 0) e)
+  -- ---- `negative`, `positive`
 
-      module _ (l : 0x31 ≤ get_or t at 0) (k : get_or t at 0 ≤ 0x39) (x : Digits) (d : DigitsAt t at x) where
-        pub plus_cut : length t ≤ x.to → Fails after_comma (drop at t)
-        plus_cut = number_cut after_comma plus t at h (comma_begins (get_or t at 0) o) l k x d
+  pub minus_none : WholeNumber t at None → Fails after_minus (drop at t)
+  minus_none w = w.read after_minus minus refl (λ _. minus_begins (get_or t at 0))
 
-        pub plus_number : x.to < length t → NumberAt after_comma plus t at x.value x.to
-        plus_number = number_whole after_comma plus t at h (comma_begins (get_or t at 0) o) l k x d
+  pub minus_number : {x : Digits} → WholeNumber t at (Some x) → (f : Found) → f.value ≡ Delete x.value → f.to ≡ x.to → ValueAt after_minus t at f.value f.to
+  minus_number {x} w f y z =
+      let n : NumberAt after_minus minus t at x.value x.to = w.read after_minus minus refl (λ _. minus_begins (get_or t at 0)) in
+      rw (y, z) (record { item = number minus n.value; means = record { value = n.value; capped = n.capped; is = refl }; above = n.above; below = n.below; passes = n.passes })
 
-    -- ---- a string
+  module _ (o : OtherByte (get_or t at 0)) where
+    pub plus_none : WholeNumber t at None → Fails after_comma (drop at t)
+    plus_none w = w.read after_comma plus refl (λ _. comma_begins (get_or t at 0) o)
 
-    module _ (e : get_or t at 0 ≡ 0x22) where
-      past_mark : Onward after_comma (drop at t) (in_string []) (drop (at + 1) t)
-      unfolding next ends
-      past_mark = rw (at_byte t at h, e) (byte {b = 0x22} (drop (at + 1) t) (omega arith) refl refl)
+    pub plus_number : {x : Digits} → WholeNumber t at (Some x) → (f : Found) → f.value ≡ Retain x.value → f.to ≡ x.to → ValueAt after_comma t at f.value f.to
+    plus_number {x} w f y z =
+        let n : NumberAt after_comma plus t at x.value x.to = w.read after_comma plus refl (λ _. comma_begins (get_or t at 0) o) in
+        rw (y, z) (record { item = number plus n.value; means = record { value = n.value; capped = n.capped; is = refl }; above = n.above; below = n.below; passes = n.passes })
 
-      pub quoted_none : (r : Scanned) → StringScanned t (at + 1) r → r ≡ scanned.Outside → Fails after_comma (drop at t)
-      quoted_none r s q = fails_then past_mark (rw q at s)
+  -- ---- a string
 
-      pub quoted_text : (r : Scanned) → StringScanned t (at + 1) r → {bytes chars to : ℕ} → r ≡ scanned.Text bytes chars to → InsertAt after_comma t at bytes chars to
-      quoted_text r s {bytes} {chars} {to} q =
-          let x : StringScanned t (at + 1) (scanned.Text bytes chars to) = rw q at s in
-          record {
-            text = x.text;
-            well = x.well;
-            size = x.size;
-            num = x.num;
-            above = omega (arith, x.above);
-            below = x.below;
-            passes = passes_then past_mark x.passes;
-          }
+  module _ (h : at < length t) (e : get_or t at 0 ≡ 0x22) where
+    past_mark : Onward after_comma (drop at t) (in_string []) (drop (at + 1) t)
+    unfolding next ends
+    past_mark = rw (at_byte t at h, e) (byte {b = 0x22} (drop (at + 1) t) (omega arith) refl refl)
+
+    pub quoted_none : Fails (in_string []) (drop (at + 1) t) → Fails after_comma (drop at t)
+    quoted_none f = fails_then past_mark f
+
+    pub quoted_text : {bytes chars to : ℕ} → StringAt t (at + 1) bytes chars to → (f : Found) → f.value ≡ Insert bytes chars → f.to ≡ to → ValueAt after_comma t at f.value f.to
+    quoted_text x f y z =
+        rw (y, z)
+        (record {
+          item = string x.text;
+          means = record { text = x.text; well = x.well; size = x.size; num = x.num; is = refl };
+          above = omega (arith, x.above);
+          below = x.below;
+          passes = passes_then past_mark x.passes;
+        })
 
   -- ---- by the first byte
 
@@ -131,17 +123,11 @@ module _ (t : List ℕ) (at : ℕ) where
   pub other_byte : at < length t → NoSpace t at → (get_or t at 0 ≡ 0x22 → ⊥) → (get_or t at 0 ≡ 0x2D → ⊥) → OtherByte (get_or t at 0)
   other_byte h n x y = record { no_space = n.none h; no_mark = x; no_minus = y }
 
-  past_minus : at < length t → get_or t at 0 ≡ 0x2D → Onward after_comma (drop at t) after_minus (drop (at + 1) t)
-  unfolding next ends
-  past_minus h e = rw (at_byte t at h, e) (byte {b = 0x2D} (drop (at + 1) t) (omega arith) refl refl)
+  module _ (h : at < length t) (e : get_or t at 0 ≡ 0x2D) where
+    past_minus : Onward after_comma (drop at t) after_minus (drop (at + 1) t)
+    unfolding next ends
+    past_minus = rw (at_byte t at h, e) (byte {b = 0x2D} (drop (at + 1) t) (omega arith) refl refl)
 
-  pub value_minus : at < length t → get_or t at 0 ≡ 0x2D → (r : Value) → ValueFrom after_minus t (at + 1) r → ValueFrom after_comma t at r
-  value_minus h e Outside x = fails_then (past_minus h e) x
-  value_minus h e (Retain n to) x = carried x
-    where
-      carried : {s : Sign} → NumberAt after_minus s t (at + 1) n to → NumberAt after_comma s t at n to
-      carried x = record { value = x.value; capped = x.capped; above = omega (arith, x.above); below = x.below; passes = passes_then (past_minus h e) x.passes }
-  value_minus h e (Delete n to) x =
-      record { value = x.value; capped = x.capped; above = omega (arith, x.above); below = x.below; passes = passes_then (past_minus h e) x.passes }
-  value_minus h e (Insert bytes chars to) x =
-      record { text = x.text; well = x.well; size = x.size; num = x.num; above = omega (arith, x.above); below = x.below; passes = passes_then (past_minus h e) x.passes }
+    pub value_minus : (r : Option Found) → ValueFrom after_minus t (at + 1) r → ValueFrom after_comma t at r
+    value_minus None x = fails_then past_minus x
+    value_minus (Some f) x = record { item = x.item; means = x.means; above = omega (arith, x.above); below = x.below; passes = passes_then past_minus x.passes }

@@ -3,9 +3,8 @@ ghost use Rattle.std.specs.Prelude.{◌≡◌, ◌+◌, ◌-◌, ◌*◌, ◌<�
 ghost use Rattle.std.specs.List.{prefix_len};
 ghost use Rattle.json_lists.specs.Form.{is_white_space, after_minus, after_comma};
 ghost use Rattle.json_lists.specs.InnerRuns.{Run, over_limit};
-ghost use Rattle.json_values.specs.InnerValues.{DigitsAt, ValueFrom, NoSpace, OtherByte};
+ghost use Rattle.json_values.specs.InnerValues.{DigitsAt, WholeNumber, ValueFrom, NoSpace, OtherByte};
 
-use json_escapes::inner::Scanned;
 use json_lists::inner::{MINUS, QUOTATION_MARK};
 use record::inner::MAX_SIZE;
 
@@ -86,98 +85,82 @@ fn number(list: &[u8], at: usize) -> Digits
     }
 }
 
-// A value: none of the form's; a number, which retains or deletes; or a string, which inserts so many bytes and characters. Each with the
-// place behind it.
-#[derive(Clone, Copy)]
+// The number at `at`, where a digit from 1 to 9 stands there and the list goes on behind the last.
+fn whole_number(list: &[u8], at: usize) -> Option<Digits>
+    requires { at ≤ length list.now }
+    ensures { WholeNumber list.now at result }
+{
+    match *list.get(at)? {
+        b'1'..=b'9' => {
+            let x = number(list, at);
+            if x.to < list.len() { Some(x) } else { None }
+        }
+        _ => None,
+    }
+}
+
+// A value: a number, which retains or deletes; or a string, which inserts so many bytes and characters.
+#[derive(Clone, Copy, Debug, PartialEq, Eq)]
 pub enum Value {
-    Outside,
-    Retain {
-        n: usize,
-        to: usize,
-    },
-    Delete {
-        n: usize,
-        to: usize,
-    },
-    Insert {
-        bytes: usize,
-        chars: usize,
-        to: usize,
-    },
+    Retain(usize),
+    Delete(usize),
+    Insert { bytes: usize, chars: usize },
+}
+
+// A value that was scanned, and the place behind it.
+#[derive(Clone, Copy, Debug, PartialEq, Eq)]
+pub struct Found {
+    pub value: Value,
+    pub to: usize,
 }
 
 // The number whose minus stands before `at`.
-fn negative(list: &[u8], at: usize) -> Value
+fn negative(list: &[u8], at: usize) -> Option<Found>
     requires { at ≤ length list.now }
     ensures { ValueFrom after_minus list.now at result }
 {
-    if list.len() <= at {
-        return Value::Outside;
-    }
-    let b = list[at];
-    if b < 0x31 {
-        return Value::Outside;
-    }
-    if 0x39 < b {
-        return Value::Outside;
-    }
-    let x = number(list, at);
-    if list.len() <= x.to {
-        return Value::Outside;
-    }
-    Value::Delete {
-        n: x.value,
+    let x = whole_number(list, at)?;
+    Some(Found {
+        value: Value::Delete(x.value),
         to: x.to,
-    }
+    })
 }
 
 // The number whose first digit stands at `at`.
-fn positive(list: &[u8], at: usize) -> Value
+fn positive(list: &[u8], at: usize) -> Option<Found>
     requires { (at < length list.now) × OtherByte (slice_index list.now at) }
     ensures { ValueFrom after_comma list.now at result }
 {
-    let b = list[at];
-    if b < 0x31 {
-        return Value::Outside;
-    }
-    if 0x39 < b {
-        return Value::Outside;
-    }
-    let x = number(list, at);
-    if list.len() <= x.to {
-        return Value::Outside;
-    }
-    Value::Retain {
-        n: x.value,
+    let x = whole_number(list, at)?;
+    Some(Found {
+        value: Value::Retain(x.value),
         to: x.to,
-    }
+    })
 }
 
 // The string whose first quotation mark stands at `at`.
-fn quoted(list: &[u8], at: usize) -> Value
+fn quoted(list: &[u8], at: usize) -> Option<Found>
     requires { (at < length list.now) × (slice_index list.now at ≡ 0x22) }
     ensures { ValueFrom after_comma list.now at result }
 {
-    match json_escapes::inner::string(list, at + 1) {
-        None => Value::Outside,
-        Some(Scanned { bytes, chars, to }) => Value::Insert { bytes, chars, to },
-    }
+    let s = json_escapes::inner::string(list, at + 1)?;
+    Some(Found {
+        value: Value::Insert {
+            bytes: s.bytes,
+            chars: s.chars,
+        },
+        to: s.to,
+    })
 }
 
 // The value that stands at `at`, where no white space does.
-pub fn scan_value(list: &[u8], at: usize) -> Value
+pub fn scan_value(list: &[u8], at: usize) -> Option<Found>
     requires { (at ≤ length list.now) × NoSpace list.now at }
     ensures { ValueFrom after_comma list.now at result }
 {
-    if list.len() <= at {
-        return Value::Outside;
+    match *list.get(at)? {
+        QUOTATION_MARK => quoted(list, at),
+        MINUS => negative(list, at + 1),
+        _ => positive(list, at),
     }
-    let b = list[at];
-    if b == QUOTATION_MARK {
-        return quoted(list, at);
-    }
-    if b == MINUS {
-        return negative(list, at + 1);
-    }
-    positive(list, at)
 }

@@ -1,21 +1,23 @@
+use native.Mathlib.Omega.{arith}
+use mathlib.Core.Path.{refl}
 use Rattle.json_escapes.proofs.Escaping.{number_none, number_under, number_there, number_high, number_low, number_over}
 use borrow.Author.Rules.{rules}
 use Rattle.json_escapes.proofs.inner.by_number.Goals as goal
 
-pub returns-then-v-eq-NO_NUMBER : goal.returns-then-v-eq-NO_NUMBER
-returns-then-v-eq-NO_NUMBER c = search number_none
-
-pub returns-then-v-lt55296 : goal.returns-then-v-lt55296
-returns-then-v-lt55296 c = let f = c.if-v-eq-NO_NUMBER.false in search (number_under, f)
+pub returns-in_err-v : goal.returns-in_err-v
+returns-in_err-v c = rw c.from_residual.ensures (number_none c.args.list.now c.args.at c.in_err-v.ensures)
 
 pub low_surrogate-requires : goal.low_surrogate-requires
-low_surrogate-requires c = let f = c.if-v-eq-NO_NUMBER.false in search (number_there, rules, f)
+low_surrogate-requires c = search (number_there, rules)
 
-pub returns-then-v-le56319 : goal.returns-then-v-le56319
-returns-then-v-le56319 c = let f = c.if-v-eq-NO_NUMBER.false in search (number_high, f)
+pub returns-in-55296-to-56319 : goal.returns-in-55296-to-56319
+returns-in-55296-to-56319 c = number_high _ _ _ c.in_ok-v.ensures (omega arith) (omega arith) _ c.low_surrogate.ensures
 
-pub returns-then-v-le57343 : goal.returns-then-v-le57343
-returns-then-v-le57343 c = let f = c.if-v-eq-NO_NUMBER.false in search (number_low, f)
+pub returns-in-56320-to-57343 : goal.returns-in-56320-to-57343
+returns-in-56320-to-57343 c = number_low _ _ _ c.in_ok-v.ensures (omega arith) (omega arith)
 
-pub returns : goal.returns
-returns c = let f = c.if-v-eq-NO_NUMBER.false in search (number_over, f)
+pub returns-in_default : goal.returns-in_default
+returns-in_default c = number_under _ _ _ c.in_ok-v.ensures (omega arith) _ refl refl
+
+pub returns-in_default-2 : goal.returns-in_default-2
+returns-in_default-2 c = number_over _ _ _ c.in_ok-v.ensures (omega arith) _ refl refl

@@ -1,22 +1,23 @@
 use native.Mathlib.Omega.{arith}
 use mathlib.Core.Path.{refl}
-use Rattle.json_escapes.proofs.Escaping.{low_short, low_slash, low_letter, low_less, low_more, low_pair}
+use Rattle.json_escapes.proofs.Escaping.{low_absent, low_there, low_none, low_less, low_more, low_pair}
 use Rattle.json_escapes.proofs.inner.low_surrogate.Goals as goal
 
-pub returns-then-list-at-lt2 : goal.returns-then-list-at-lt2
-returns-then-list-at-lt2 c = low_short _ _ _ _ c.no_escape.ensures (omega arith) (omega arith)
+pub returns-then-not-starts_with : goal.returns-then-not-starts_with
+returns-then-not-starts_with c = low_absent c.args.list.now c.args.at c.args.high c.starts_with.ensures.value c.if-not-starts_with.true
 
-pub returns-then-list-at-ne-BACKSLASH : goal.returns-then-list-at-ne-BACKSLASH
-returns-then-list-at-ne-BACKSLASH c = low_slash _ _ _ _ c.no_escape-then-list-at-ne-BACKSLASH.ensures (omega arith) c.if-list-at-ne-BACKSLASH.true
+pub four_digits-requires : goal.four_digits-requires
+four_digits-requires c = low_there c.args.list.now c.args.at c.args.high c.starts_with.ensures.value c.if-not-starts_with.false
 
-pub returns-then-list-at-ne-LETTER_U : goal.returns-then-list-at-ne-LETTER_U
-returns-then-list-at-ne-LETTER_U c = low_letter _ _ _ _ c.no_escape-then-list-at-ne-LETTER_U.ensures (omega arith) c.if-list-at-ne-BACKSLASH.false c.if-list-at-ne-LETTER_U.true
+pub returns-in_err-low : goal.returns-in_err-low
+returns-in_err-low c = rw c.from_residual.ensures (low_none c.args.list.now c.args.at c.args.high c.starts_with.ensures.value c.if-not-starts_with.false c.in_err-low.ensures)
 
-pub returns-then-low-lt56320 : goal.returns-then-low-lt56320
-returns-then-low-lt56320 c = low_less _ _ _ _ c.no_escape-then-low-lt56320.ensures (omega arith) c.if-list-at-ne-BACKSLASH.false c.if-list-at-ne-LETTER_U.false c.four_digits-low.result c.four_digits-low.ensures (omega arith)
+pub returns-in-56320-to-57343 : goal.returns-in-56320-to-57343
+returns-in-56320-to-57343 c =
+    low_pair c.args.list.now c.args.at c.args.high c.starts_with.ensures.value c.if-not-starts_with.false _ c.in_ok-low.ensures (omega arith) (omega arith) (omega arith) (omega arith) _ refl refl
 
-pub returns-then-low-gt57343 : goal.returns-then-low-gt57343
-returns-then-low-gt57343 c = low_more _ _ _ _ c.no_escape-then-low-gt57343.ensures (omega arith) c.if-list-at-ne-BACKSLASH.false c.if-list-at-ne-LETTER_U.false c.four_digits-low.result c.four_digits-low.ensures (omega arith)
+pub returns-in_default : goal.returns-in_default
+returns-in_default c = low_less c.args.list.now c.args.at c.args.high c.starts_with.ensures.value c.if-not-starts_with.false _ c.in_ok-low.ensures (omega arith)
 
-pub returns : goal.returns
-returns c = low_pair _ _ _ (omega arith) (omega arith) (omega arith) c.if-list-at-ne-BACKSLASH.false c.if-list-at-ne-LETTER_U.false c.four_digits-low.result c.four_digits-low.ensures (omega arith) (omega arith) _ refl refl
+pub returns-in_default-2 : goal.returns-in_default-2
+returns-in_default-2 c = low_more c.args.list.now c.args.at c.args.high c.starts_with.ensures.value c.if-not-starts_with.false _ c.in_ok-low.ensures (omega arith)

@@ -1,27 +1,37 @@
-use Rattle.std.specs.Prelude.{◌-◌}
-use Rattle.json_escapes.proofs.Scanning.{text_none, plain_ends, string_read, string_bad, escape_bad, text_escape, escape_less, text_ends}
+use native.Mathlib.Omega.{arith}
+use mathlib.Core.Path.{sym, ◌∙◌}
+use Rattle.json_escapes.proofs.Scanning.{text_none, plain_ends, string_read, string_bad, escape_bad, text_escape, escape_less}
 use Rattle.json_escapes.proofs.inner.string.Goals as goal
 
-pub loop-i-init : goal.loop-i-init
-loop-i-init c = search text_none
+pub loop-x-init : goal.loop-x-init
+loop-x-init c = search text_none
 
-pub returns-then-list-end : goal.returns-then-list-end
-returns-then-list-end c = search plain_ends
+pub returns-in_err-get : goal.returns-in_err-get
+returns-in_err-get c = rw c.from_residual.ensures (plain_ends _ _ _ _ _ c.loop-x.invariant _ _ c.plain-s.ensures c.in_err-get.ensures.lookup.3)
 
-pub returns-then-b-eq-QUOTATION_MARK : goal.returns-then-b-eq-QUOTATION_MARK
-returns-then-b-eq-QUOTATION_MARK c = search string_read
+pub returns-in-34 : goal.returns-in-34
+returns-in-34 c =
+    let k = c.in_ok-get.ensures.lookup in
+    string_read _ _ _ _ _ c.loop-x.invariant _ _ c.plain-s.ensures k.3.0 (sym (k.4 (omega arith) 0) ∙ c.in-34.is)
 
-pub returns-then-b-ne-BACKSLASH : goal.returns-then-b-ne-BACKSLASH
-returns-then-b-ne-BACKSLASH c = let f = c.if-b-ne-BACKSLASH.true in let g = c.if-b-eq-QUOTATION_MARK.false in search (string_bad, f, g)
+pub returns-in_default : goal.returns-in_default
+returns-in_default c =
+    let k = c.in_ok-get.ensures.lookup in
+    let e = k.4 (omega arith) 0 in
+    string_bad _ _ _ _ _ c.loop-x.invariant _ _ c.plain-s.ensures k.3.0 (λ q. omega (arith, e)) (λ q. omega (arith, e))
 
-pub returns-then-code-eq-NO_CODE : goal.returns-then-code-eq-NO_CODE
-returns-then-code-eq-NO_CODE c = search escape_bad
+pub returns-in_err-x-in-92 : goal.returns-in_err-x-in-92
+returns-in_err-x-in-92 c =
+    let k = c.in_ok-get.ensures.lookup in
+    rw c.from_residual-in_err-x-in-92.ensures
+    (escape_bad _ _ _ _ _ c.loop-x.invariant _ _ c.plain-s.ensures k.3.0 (sym (k.4 (omega arith) 0) ∙ c.in-92.is) c.in_err-x-in-92.ensures)
 
-pub loop-i-smaller : goal.loop-i-smaller
-loop-i-smaller c = let f = c.if-code-eq-NO_CODE.false in search (escape_less, f)
+pub loop-x-smaller : goal.loop-x-smaller
+loop-x-smaller c =
+    let k = c.in_ok-get.ensures.lookup in
+    escape_less _ _ _ _ _ c.loop-x.invariant _ _ c.plain-s.ensures k.3.0 (sym (k.4 (omega arith) 0) ∙ c.in-92.is) _ c.in_ok-x-in-92.ensures
 
-pub loop-i-preserved : goal.loop-i-preserved
-loop-i-preserved c = let f = c.if-code-eq-NO_CODE.false in search (text_escape, f)
-
-pub returns : goal.returns
-returns c = search text_ends
+pub loop-x-preserved : goal.loop-x-preserved
+loop-x-preserved c =
+    let k = c.in_ok-get.ensures.lookup in
+    text_escape _ _ _ _ _ c.loop-x.invariant _ _ c.plain-s.ensures k.3.0 (sym (k.4 (omega arith) 0) ∙ c.in-92.is) _ c.in_ok-x-in-92.ensures _ c.width.ensures.0

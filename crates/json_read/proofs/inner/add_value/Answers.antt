@@ -1,4 +1,4 @@
-use Rattle.json_read.proofs.Feeding.{retain_sized, delete_sized, insert_sized, outside_fed, retain_fed, delete_fed, insert_fed}
+use Rattle.json_read.proofs.Feeding.{retain_sized, delete_sized, insert_sized, retain_fed, delete_fed, insert_fed}
 use borrow.Author.Rules.{rules}
 use Rattle.json_read.proofs.inner.add_value.Goals as goal
 
@@ -10,9 +10,6 @@ add_delete-requires c = (search delete_sized, search rules, search rules)
 
 pub add_insert-requires : goal.add_insert-requires
 add_insert-requires c = (search insert_sized, search rules, search rules, search rules)
-
-pub returns-in-Outside : goal.returns-in-Outside
-returns-in-Outside c = search outside_fed
 
 pub returns-in-Retain : goal.returns-in-Retain
 returns-in-Retain c = search retain_fed

@@ -1,17 +1,9 @@
-use Rattle.json_values.proofs.Valued.{minus_end, minus_under, minus_over, minus_cut, minus_number}
+use mathlib.Core.Path.{refl}
+use Rattle.json_values.proofs.Valued.{minus_none, minus_number}
 use Rattle.json_values.proofs.inner.negative.Goals as goal
 
-pub returns-then-list-at : goal.returns-then-list-at
-returns-then-list-at c = search minus_end
-
-pub returns-then-b-lt49 : goal.returns-then-b-lt49
-returns-then-b-lt49 c = search minus_under
-
-pub returns-then-b-gt57 : goal.returns-then-b-gt57
-returns-then-b-gt57 c = search minus_over
-
-pub returns-then-list-x : goal.returns-then-list-x
-returns-then-list-x c = search minus_cut
+pub returns-in_err-x : goal.returns-in_err-x
+returns-in_err-x c = rw c.from_residual.ensures (minus_none _ _ c.in_err-x.ensures)
 
 pub returns : goal.returns
-returns c = search minus_number
+returns c = minus_number _ _ c.in_ok-x.ensures _ refl refl
