@@ -22,7 +22,7 @@ returns-then-chars-base c = let a = c.args in
     (w.answer, w.out)
 
 pub inverted-requires : goal.inverted-requires
-inverted-requires c = (search (passed, c.in_ok-check.was), search form_holds, search agree)
+inverted-requires c = (search (passed, c.in_ok-check.was), search form_holds, search (agree, c.in_ok-check.was))
 
 pub returns-in_err-check : goal.returns-in_err-check
 returns-in_err-check c = let a = c.args in
