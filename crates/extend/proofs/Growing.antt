@@ -1,5 +1,5 @@
 -- A record's last operations, and the operation that is added to them.
-use Rattle.std.specs.Prelude.{◌≡◌, ℕ, zero, suc, ◌+◌, ◌-◌, ◌^◌, ◌<◌, ◌≤◌, Bool, true, false, cond, T, eqb, List, [], ◌∷◌, ◌++◌, map, reverse, length}
+use Rattle.std.specs.Prelude.{◌≡◌, ℕ, zero, suc, ◌+◌, ◌-◌, ◌^◌, ◌<◌, ◌≤◌, ◌≢◌, Bool, true, false, cond, not, T, eqb, List, [], ◌∷◌, ◌++◌, map, reverse, length}
 use mathlib.Core.List.{append-nil, reverse_aux, reverse-reverse}
 use lib.Dec.{eqb→eq}
 use native.Mathlib.Omega.{arith}
@@ -18,6 +18,11 @@ use Rattle.edits.specs.Sequence.{Seq}
 use Rattle.edits.specs.Build.{put, add, extend}
 use Rattle.edits.proofs.Building.{Back}
 use Rattle.record.specs.Record.{in_bytes, code, record_fault, inserted, text, text_of, ops}
+use denote.Enum.Bare.{sameb}
+use Rattle.record.specs.contracts.inner.Kind.{the_type}
+use Rattle.record.specs.declared.inner.Kind.{Kind}
+use Rattle.record.specs.declared.inner.Kind.TheVariants.{Retain, Insert, Delete}
+use Rattle.record.specs.Kinds.{number_of}
 use Rattle.record.specs.Layout.{kind_at, count_at, op_count_of, text_bytes_of, base_of, target_of, kinds_start, counts_start, start_of_text, max_size}
 use Rattle.record.proofs.Sequences.{in_bytes_size}
 use Rattle.record.proofs.Records.{Bytes, ops_base, ops_target}
@@ -119,6 +124,29 @@ insert_grows (delete (suc d) ∷ insert (a ∷ x) ∷ w) (c ∷ y) b = refl
 insert_grows (delete (suc d) ∷ delete m ∷ w) y b = absurd b.1
 
 -- ---- `ending`, `before`
+
+-- kinds are compared as their numbers are
+pub kinds_same : (a b : Kind) (v : Bool) → v ≡ not (sameb the_type a b) → v ≡ false → number_of a ≡ number_of b
+kinds_same Retain Retain v p q = refl
+kinds_same Retain Insert v p q = let z : false ≡ true = sym q ∙ p in cc
+kinds_same Retain Delete v p q = let z : false ≡ true = sym q ∙ p in cc
+kinds_same Insert Retain v p q = let z : false ≡ true = sym q ∙ p in cc
+kinds_same Insert Insert v p q = refl
+kinds_same Insert Delete v p q = let z : false ≡ true = sym q ∙ p in cc
+kinds_same Delete Retain v p q = let z : false ≡ true = sym q ∙ p in cc
+kinds_same Delete Insert v p q = let z : false ≡ true = sym q ∙ p in cc
+kinds_same Delete Delete v p q = refl
+
+pub kinds_differ : (a b : Kind) (v : Bool) → v ≡ not (sameb the_type a b) → v ≡ true → number_of a ≢ number_of b
+kinds_differ Retain Retain v p q e = let z : true ≡ false = sym q ∙ p in cc
+kinds_differ Retain Insert v p q e = cc
+kinds_differ Retain Delete v p q e = cc
+kinds_differ Insert Retain v p q e = cc
+kinds_differ Insert Insert v p q e = let z : true ≡ false = sym q ∙ p in cc
+kinds_differ Insert Delete v p q e = cc
+kinds_differ Delete Retain v p q e = cc
+kinds_differ Delete Insert v p q e = cc
+kinds_differ Delete Delete v p q e = let z : true ≡ false = sym q ∙ p in cc
 
 module _ (r : List ℕ) (k kind : ℕ) where
   pub last_none : k ≡ 0 → 0 ≡ last_count r k kind
