@@ -40,7 +40,10 @@ fn staged(list: &[u8], stage: &mut [u8], slots: usize, out: &mut [u8]) -> Result
 }
 
 // `staged`, in a stage with places for so many operations, which has so many bytes.
-fn in_stage<const SLOTS: usize, const BYTES: usize>(list: &[u8], out: &mut [u8]) -> Result<usize, Refusal>
+fn in_stage<const SLOTS: usize, const BYTES: usize>(
+    list: &[u8],
+    out: &mut [u8],
+) -> Result<usize, Refusal>
     requires { (SLOTS ≤ max_ops) × (BYTES ≡ start_of_text SLOTS) × Enough SLOTS list.now }
     ensures { Gives (from_json_call list.now out.old) result out.new }
 {
