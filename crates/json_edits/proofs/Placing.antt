@@ -1,12 +1,12 @@
 -- A list's record: what is read, judged and put together is what the call gives.
-use Rattle.std.specs.Prelude.{◌≡◌, ℕ, ◌+◌, ◌^◌, ◌≤◌, Bool, true, false, cond, not, T, eqb, leb, ◌⊎◌, List, [], ◌∷◌, ◌++◌, map, reverse, length, Result, Ok, Err}
+use Rattle.std.specs.Prelude.{◌≡◌, ℕ, ◌+◌, ◌^◌, ◌≤◌, Bool, true, false, cond, T, eqb, leb, ◌⊎◌, List, [], ◌∷◌, ◌++◌, map, reverse, length, Result, Ok, Err, Option, Some, None}
 use native.Mathlib.Omega.{arith}
 use mathlib.Core.Path.{refl, sym, ap, ◌∙◌}
 use mathlib.Core.Logic.{inl, inr}
 use mathlib.Core.List.{append_assoc, append-nil}
 use mathlib.Core.Option.{none, some}
 use lib.ListN.{length-append, length-map, length-reverse}
-use borrow.Author.Tests.{not-true, not-false, leb-true}
+use borrow.Author.Tests.{leb-true}
 use Rattle.buffers.specs.Lists.{all_of}
 use Rattle.buffers.specs.InnerOver.{over}
 use Rattle.buffers.proofs.Tests.{both, known, holds}
@@ -32,8 +32,7 @@ use Rattle.json_lists.specs.Form.{plus, minus, Item, number, string, is_digit, P
 use Rattle.json_lists.specs.Calls.{op_of, ops_of, made, from_json_call}
 use Rattle.json_lists.proofs.Strings.{well_item, strings_well}
 use Rattle.json_texts.specs.InnerTexts.{texts}
-use Rattle.json_read.specs.declared.inner.Reading.{Reading}
-use Rattle.json_read.specs.InnerReading.{Finished, ListRead}
+use Rattle.json_read.specs.InnerReading.{Finished, ListIs, ListRead}
 use Rattle.json_read.proofs.Holding.{in_bytes_reverse}
 use Rattle.json_edits.specs.InnerStages.{Placeable, Enough}
 
@@ -137,22 +136,25 @@ call_is : (t out : List ℕ) → in_form t ≡ true → from_json_call t out ≡
 unfolding from_json_call read
 call_is t out f = ap (λ b. made (cond b (some (items at_start t)) none) out) f
 
-module _ (slots : ℕ) (t before stage out : List ℕ) (r : Reading) (l : ListRead slots t before r stage) where
-  pub no_list : not r.valid ≡ true → Gives (from_json_call t out) (Err Json) out
+module _ (slots : ℕ) (t before stage out : List ℕ) (r : Option Emitter) (l : ListRead slots t before r stage) where
+  pub no_list : r ≡ None → Gives (from_json_call t out) (Err Json) out
   unfolding from_json_call read writing
-  no_list q = let f : in_form t ≡ false = sym l.form ∙ not-true r.valid q in rw f (record { answer = refl; out = refl })
+  no_list q = let f : in_form t ≡ false = rw q at l in rw f (record { answer = refl; out = refl })
 
-  module _ (q : not r.valid ≡ false) where
+  module _ (e : Emitter) (q : r ≡ Some e) where
+    list_is : ListIs slots t before e stage
+    list_is = rw q at l
+
     form : in_form t ≡ true
-    form = sym l.form ∙ not-false r.valid q
+    form = list_is.form
 
-    finished : Finished slots (ops_of (items at_start t)) before r.e stage
-    finished = l.emitted (not-false r.valid q)
+    finished : Finished slots (ops_of (items at_start t)) before e stage
+    finished = list_is.emitted
 
-    pub list_under : Under (2 ^ 40) r.e
+    pub list_under : Under (2 ^ 40) e
     list_under = finished.small
 
-    module _ (v : Result ℕ Refusal) (j : v ≡ limits_before_room r.e (length out)) where
+    module _ (v : Result ℕ Refusal) (j : v ≡ limits_before_room e (length out)) where
       pub list_refused : (y : Refusal) → v ≡ Err y → Gives (from_json_call t out) (Err y) out
       unfolding limits_before_room
       list_refused y z = rw (call_is t out form) (go finished.is)
@@ -160,28 +162,28 @@ module _ (slots : ℕ) (t before stage out : List ℕ) (r : Reading) (l : ListRe
           s : Seq
           s = ops_of (items at_start t)
 
-          go : Done slots s before r.e stage ⊎ ((fits s ≡ false) × (within_limits r.e ≡ false)) → Gives (deliver 0 s out) (Err y) out
-          go (inl d) = gives_refused s out r.e before stage d v j y z
-          go (inr x) = rw (sym z ∙ j ∙ ap (λ b. cond b (cond (leb (size_in r.e) (length out)) (Ok (size_in r.e)) (Err Room)) (Err Limit)) x.1) (gives_limit s out x.0)
+          go : Done slots s before e stage ⊎ ((fits s ≡ false) × (within_limits e ≡ false)) → Gives (deliver 0 s out) (Err y) out
+          go (inl d) = gives_refused s out e before stage d v j y z
+          go (inr x) = rw (sym z ∙ j ∙ ap (λ b. cond b (cond (leb (size_in e) (length out)) (Ok (size_in e)) (Err Room)) (Err Limit)) x.1) (gives_limit s out x.0)
 
       module _ (k : ℕ) (z : v ≡ Ok k) where
         -- nothing passes a limit then
-        whole : Done slots (ops_of (items at_start t)) before r.e stage
+        whole : Done slots (ops_of (items at_start t)) before e stage
         unfolding limits_before_room
         whole = go finished.is
           where
             s : Seq
             s = ops_of (items at_start t)
 
-            go : Done slots s before r.e stage ⊎ ((fits s ≡ false) × (within_limits r.e ≡ false)) → Done slots s before r.e stage
+            go : Done slots s before e stage ⊎ ((fits s ≡ false) × (within_limits e ≡ false)) → Done slots s before e stage
             go (inl d) = d
             go (inr x) =
-                absurd (let y : ◌≡◌ {A = ℕ} 0 1 = cc (sym z ∙ j ∙ ap (λ b. cond b (cond (leb (size_in r.e) (length out)) (Ok (size_in r.e)) (Err Room)) (Err Limit)) x.1) in omega arith)
+                absurd (let y : ◌≡◌ {A = ℕ} 0 1 = cc (sym z ∙ j ∙ ap (λ b. cond b (cond (leb (size_in e) (length out)) (Ok (size_in e)) (Err Room)) (Err Limit)) x.1) in omega arith)
 
-        pub list_placeable : slots ≤ max_ops → Enough slots t → length before ≡ start_of_text slots → length stage ≡ length before → Placeable t stage slots r.e out
+        pub list_placeable : slots ≤ max_ops → Enough slots t → length before ≡ start_of_text slots → length stage ≡ length before → Placeable t stage slots e out
         list_placeable m n a b =
             let d = whole in
-            let u = bytes_limits r.e (length out) v j k z in
+            let u = bytes_limits e (length out) v j k z in
             record {
               form = known form;
               before = before;
@@ -193,5 +195,5 @@ module _ (slots : ℕ) (t before stage out : List ℕ) (r : Reading) (l : ListRe
               room = u.1;
             }
 
-        pub list_written : (o : List ℕ) → Writes r.e.ops (ops_of (items at_start t)) out o → Gives (from_json_call t out) (Ok k) o
-        list_written o w = rw (call_is t out form) (gives_written (ops_of (items at_start t)) out r.e before stage whole v j k o z w)
+        pub list_written : (o : List ℕ) → Writes e.ops (ops_of (items at_start t)) out o → Gives (from_json_call t out) (Ok k) o
+        list_written o w = rw (call_is t out form) (gives_written (ops_of (items at_start t)) out e before stage whole v j k o z w)

@@ -6,10 +6,6 @@ use Rattle.emitter.specs.InnerEmit.{Done, size_in}
 use Rattle.json_lists.specs.Form.{at_start, items, in_form}
 use Rattle.json_lists.specs.Calls.{ops_of}
 
--- how many operations the small stage has places for
-abbrev pub small_ops : ℕ
-small_ops = 128
-
 -- a stage with places for so many operations has one for each operation of a list that passes no limit
 pub record Enough (slots : ℕ) (t : List ℕ) : Type 0 where
   pub places : min (length t) max_ops ≤ slots

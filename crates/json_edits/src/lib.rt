@@ -9,7 +9,7 @@ ghost use Rattle.record.specs.Layout.{start_of_text, max_ops};
 ghost use Rattle.emitter.specs.InnerEmit.{Writes};
 ghost use Rattle.json_lists.specs.Form.{at_start, items};
 ghost use Rattle.json_lists.specs.Calls.{ops_of, from_json_call, to_json_call};
-ghost use Rattle.json_edits.specs.InnerStages.{Placeable, Enough, small_ops};
+ghost use Rattle.json_edits.specs.InnerStages.{Placeable, Enough};
 
 use answers::Refusal;
 use emitter::inner::Emitter;
@@ -31,37 +31,32 @@ fn staged(list: &[u8], stage: &mut [u8], slots: usize, out: &mut [u8]) -> Result
     requires { (slots ≤ max_ops) × (length stage.old ≡ start_of_text slots) × Enough slots list.now }
     ensures { Gives (from_json_call list.now out.old) result out.new }
 {
-    let r = json_read::inner::read_list(list, stage, slots);
-    let e = r.e;
-    if !r.valid {
+    let Some(e) = json_read::inner::read_list(list, stage, slots) else {
         return Err(Refusal::Json);
-    }
+    };
     let k = emitter::inner::limits_then_room(e, out.len())?;
     place(list, stage, slots, e, out);
     Ok(k)
 }
 
-// The operations that a stage has places for, and its bytes.
+// `staged`, in a stage with places for so many operations, which has so many bytes.
+fn in_stage<const SLOTS: usize, const BYTES: usize>(
+    list: &[u8],
+    out: &mut [u8],
+) -> Result<usize, Refusal>
+    requires { (SLOTS ≤ max_ops) × (BYTES ≡ start_of_text SLOTS) × Enough SLOTS list.now }
+    ensures { Gives (from_json_call list.now out.old) result out.new }
+{
+    let mut stage = [0u8; BYTES];
+    staged(list, &mut stage, SLOTS, out)
+}
+
+// The operations that the small stage has places for; the large one has them for as many as a record may have.
 const SMALL_OPS: usize = 128;
 
 const SMALL_STAGE: usize = HEADER + OP_BYTES * SMALL_OPS;
 
 const LARGE_STAGE: usize = HEADER + OP_BYTES * MAX_OPS;
-
-fn in_small_stage(list: &[u8], out: &mut [u8]) -> Result<usize, Refusal>
-    requires { length list.now ≤ small_ops }
-    ensures { Gives (from_json_call list.now out.old) result out.new }
-{
-    let mut stage = [0u8; SMALL_STAGE];
-    staged(list, &mut stage, SMALL_OPS, out)
-}
-
-fn in_large_stage(list: &[u8], out: &mut [u8]) -> Result<usize, Refusal>
-    ensures { Gives (from_json_call list.now out.old) result out.new }
-{
-    let mut stage = [0u8; LARGE_STAGE];
-    staged(list, &mut stage, MAX_OPS, out)
-}
 
 // The record that a list gives through the builders, one value after another; 11 where the bytes are no list of the form.
 pub fn from_json(list: &[u8], out: &mut [u8]) -> Result<usize, Refusal>
@@ -69,9 +64,9 @@ pub fn from_json(list: &[u8], out: &mut [u8]) -> Result<usize, Refusal>
         × (out.new ≡ (from_json_call list.now out.old).out) }
 {
     if SMALL_OPS < list.len() {
-        return in_large_stage(list, out);
+        return in_stage::<MAX_OPS, LARGE_STAGE>(list, out);
     }
-    in_small_stage(list, out)
+    in_stage::<SMALL_OPS, SMALL_STAGE>(list, out)
 }
 
 // The answer of `to_json`.

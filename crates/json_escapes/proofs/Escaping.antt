@@ -1,5 +1,5 @@
 -- What an escape names, case by case.
-use Rattle.std.specs.Prelude.{◌≡◌, ℕ, ◌+◌, ◌-◌, ◌*◌, ◌<◌, ◌≤◌, Bool, true, false, cond, ◌||◌, T, eqb, ltb, List, [], ◌∷◌, ◌++◌, length, get_or, take, drop, Option, Some, None}
+use Rattle.std.specs.Prelude.{◌≡◌, ℕ, ◌+◌, ◌-◌, ◌*◌, ◌<◌, ◌≤◌, Bool, true, false, cond, ◌||◌, eqb, ltb, List, [], ◌∷◌, ◌++◌, length, get_or, take, drop, Option, Some, None}
 use Rattle.std.proofs.lemmas.Bool.Decides.{Decides-eqb}
 use Rattle.std.proofs.lemmas.Option.{none-some}
 use Rattle.std.proofs.lemmas.Slice.Eq.{starts_is}
@@ -13,10 +13,9 @@ use lib.ListN.{drop_of_length-le, length-drop}
 use lib.Seq.{drop-drop, take_all}
 use borrow.Author.Tests.{ne_eqb, eqb-true, lt-ltb, le-ltb}
 use Rattle.buffers.proofs.Tests.{known}
-use Rattle.characters.specs.Scalar.{is_scalar, encode_scalar}
 use Rattle.characters.proofs.Codes.{encode_1, scalar_low}
 use Rattle.characters.proofs.Leads.{le_or_lt, inside, under, over}
-use Rattle.json_lists.specs.Form.{is_high, is_low, paired, Place, in_string, after_escape, in_unicode, after_high, after_high_escape, outside, named, next, ends, reached, is_end}
+use Rattle.json_lists.specs.Form.{is_high, is_low, paired, Place, in_string, after_escape, in_unicode, after_high, after_high_escape, outside, next, ends}
 use Rattle.json_lists.specs.InnerRuns.{width, Onward, Fails}
 use Rattle.json_lists.proofs.Ascii.{low_self}
 use Rattle.json_lists.proofs.Scalars.{named_scalar, paired_scalar}

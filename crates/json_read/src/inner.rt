@@ -39,13 +39,8 @@ fn with_text_over(e: Emitter) -> Emitter
     ensures { result ≡ over_text e }
 {
     Emitter {
-        ins: e.ins,
-        del: e.del,
-        ret: e.ret,
-        ops: e.ops,
         text: MAX_SIZE + 1,
-        base: e.base,
-        target: e.target,
+        ..e
     }
 }
 

@@ -1,12 +1,12 @@
 -- Text copied, one part behind another.
-use Rattle.std.specs.Prelude.{◌≡◌, ℕ, ◌+◌, ◌-◌, ◌<◌, ◌≤◌, Bool, false, not, ◌&&◌, T, eqb, List, [], ◌∷◌, ◌++◌, length, get_or, take, drop, set, Option, Some, None, IsSome}
+use Rattle.std.specs.Prelude.{◌≡◌, ℕ, ◌+◌, ◌-◌, ◌<◌, ◌≤◌, Bool, true, false, ◌&&◌, T, eqb, List, [], ◌∷◌, ◌++◌, length, get_or, take, drop, set, Option, Some, None, IsSome}
 use native.Mathlib.Omega.{arith}
 use mathlib.Core.Path.{refl, sym, ap, ap₂, ◌∙◌}
 use mathlib.Core.Bool.{true≢false}
 use mathlib.Core.List.{append_assoc, append-nil}
 use lib.ListN.{length-append, length-take, length-drop, take-append-drop, drop_of_length-le}
 use lib.Seq.{drop-drop}
-use borrow.Author.Tests.{not-false, eq-eqb}
+use borrow.Author.Tests.{eq-eqb}
 use Rattle.buffers.specs.Lists.{all_of}
 use Rattle.buffers.specs.InnerOver.{over}
 use Rattle.buffers.proofs.Over.{length_over, over_nil, over_join, over_at, put_in}
@@ -42,6 +42,10 @@ module _ {p : Place} {list : List ℕ} {at : ℕ} {out : List ℕ} {to : ℕ} wh
         fits = omega (arith, r.room);
         same = refl;
       }
+
+  -- the same of places that are written in another way
+  pub moved_to : {q : Place} {i j : ℕ} {o : List ℕ} → Moved p q list at out to i j o → {k l : ℕ} → i ≡ k → j ≡ l → Moved p q list at out to k l o
+  moved_to m e f = rw (e, f) at m
 
   -- one stretch behind another
   pub moved_then : {q s : Place} {i j k l : ℕ} {o o' : List ℕ}
@@ -110,13 +114,13 @@ module _ {p : Place} {list : List ℕ} {at : ℕ} {out : List ℕ} {to : ℕ} wh
       moved_byte = moved_part r m byte_at refl (put_in o j (get_or list i 0))
 
     -- eight plain bytes
-    module _ {b : Bool} (e : b ≡ all_of is_plain (take 8 (drop i list))) (n : not b ≡ false) (h : 8 ≤ length list - i) where
+    module _ {b : Bool} (e : b ≡ all_of is_plain (take 8 (drop i list))) (n : b ≡ true) (h : 8 ≤ length list - i) where
       eight_at : Part (in_string []) (in_string []) list i (i + 8) (take 8 (drop i list))
       unfolding ahead
       eight_at =
           let z = take-append-drop 8 (drop i list) in
           let y = drop-drop 8 i list in
-          let x = plains (take 8 (drop i list)) (drop 8 (drop i list)) (known (sym e ∙ not-false b n)) (rw z m.ends) in
+          let x = plains (take 8 (drop i list)) (drop 8 (drop i list)) (known (sym e ∙ n)) (rw z m.ends) in
           let (f, g) = rw y at (rw z at x) in
           record { splits = g; ends = f; above = omega arith; below = omega arith }
 

@@ -90,21 +90,26 @@ fn copy_singles(list: &[u8], at: usize, out: &mut [u8], to: usize) -> Copied
     requires { Ready (in_string []) list.now at out.old to }
     ensures { Moved (in_string []) (in_string []) list.now at out.old to result.from result.to out.new }
 {
-    let mut i = at;
-    let mut j = to;
-    while i - at < 7 {
-        let b = list[i];
+    for k in 0..7 {
+        let b = list[at + k];
         if b == QUOTATION_MARK {
-            return Copied { from: i, to: j };
+            return Copied {
+                from: at + k,
+                to: to + k,
+            };
         }
         if b == BACKSLASH {
-            return Copied { from: i, to: j };
+            return Copied {
+                from: at + k,
+                to: to + k,
+            };
         }
-        out[j] = b;
-        i += 1;
-        j += 1;
+        out[to + k] = b;
     }
-    Copied { from: i, to: j }
+    Copied {
+        from: at + 7,
+        to: to + 7,
+    }
 }
 
 // Copies bytes that stand for themselves: plain ASCII eight at a time, then a few others.

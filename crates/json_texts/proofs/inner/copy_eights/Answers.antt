@@ -13,6 +13,6 @@ loop-i-preserved c = moved_eight
     c.requires
     c.loop-i.invariant
     c.plain_eight.ensures
-    c.if-not-plain_eight.false-raw
+    c.if-not-plain_eight.false
     c.loop-i-test.true
     c.copy_few.ensures

@@ -1,14 +1,15 @@
-use Rattle.json_texts.proofs.Moves.{moved_none, more_bytes, room_byte, moved_byte}
+use native.Mathlib.Omega.{arith}
+use Rattle.json_texts.proofs.Moves.{moved_none, moved_to, more_bytes, room_byte, moved_byte}
 use Rattle.json_texts.proofs.inner.copy_singles.Goals as goal
 
-pub loop-i-init : goal.loop-i-init
-loop-i-init c = search moved_none
+pub loop-k-init : goal.loop-k-init
+loop-k-init c = moved_to (moved_none c.requires) (omega arith) (omega arith)
 
-pub bounds-list-i : goal.bounds-list-i
-bounds-list-i c = search more_bytes
+pub bounds-list-at : goal.bounds-list-at
+bounds-list-at c = more_bytes c.requires c.loop-k.invariant
 
-pub bounds-out-j : goal.bounds-out-j
-bounds-out-j c = search room_byte
+pub bounds-out-to : goal.bounds-out-to
+bounds-out-to c = room_byte c.requires c.loop-k.invariant c.if-b-eq-QUOTATION_MARK.false c.if-b-eq-BACKSLASH.false
 
-pub loop-i-preserved : goal.loop-i-preserved
-loop-i-preserved c = search moved_byte
+pub loop-k-preserved : goal.loop-k-preserved
+loop-k-preserved c = moved_to (moved_byte c.requires c.loop-k.invariant c.if-b-eq-QUOTATION_MARK.false c.if-b-eq-BACKSLASH.false) (omega arith) (omega arith)
