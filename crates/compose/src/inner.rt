@@ -118,39 +118,9 @@ fn staged(
     Ok(k)
 }
 
-// With stages of several lengths: what is cleared is paid for. (The answer is taken apart because one that is handed on whole is
+// `staged`, in a stage of so many bytes: what is cleared is paid for. (The answer is taken apart because one that is handed on whole is
 // copied, and the copy waits for the bytes.)
-fn in_small_stage(
-    a: &[u8],
-    na: usize,
-    b: &[u8],
-    nb: usize,
-    out: &mut [u8],
-) -> Result<usize, Refusal>
-    requires { Operands na nb a.now b.now × (target_of a.now ≡ base_of b.now) }
-    ensures { Gives (compose_call a.now b.now out.old) result out.new }
-{
-    let mut stage = [0u8; SMALL_STAGE];
-    let k = staged(a, na, b, nb, &mut stage, na + nb, out)?;
-    Ok(k)
-}
-
-fn in_medium_stage(
-    a: &[u8],
-    na: usize,
-    b: &[u8],
-    nb: usize,
-    out: &mut [u8],
-) -> Result<usize, Refusal>
-    requires { Operands na nb a.now b.now × (target_of a.now ≡ base_of b.now) }
-    ensures { Gives (compose_call a.now b.now out.old) result out.new }
-{
-    let mut stage = [0u8; MEDIUM_STAGE];
-    let k = staged(a, na, b, nb, &mut stage, na + nb, out)?;
-    Ok(k)
-}
-
-fn in_large_stage(
+fn in_stage<const BYTES: usize>(
     a: &[u8],
     na: usize,
     b: &[u8],
@@ -158,11 +128,12 @@ fn in_large_stage(
     slots: usize,
     out: &mut [u8],
 ) -> Result<usize, Refusal>
-    requires { Operands na nb a.now b.now × (slots ≤ 2 * max_ops) × (target_of a.now ≡ base_of b.now) }
+    requires { (BYTES ≤ 2 ^ 20) × Operands na nb a.now b.now × (slots ≤ 2 * max_ops) × (target_of a.now ≡ base_of b.now) }
     ensures { Gives (compose_call a.now b.now out.old) result out.new }
 {
-    let mut stage = [0u8; LARGE_STAGE];
-    staged(a, na, b, nb, &mut stage, slots, out)
+    let mut stage = [0u8; BYTES];
+    let k = staged(a, na, b, nb, &mut stage, slots, out)?;
+    Ok(k)
 }
 
 // Of two records that were checked.
@@ -179,16 +150,16 @@ pub fn composed(a: &[u8], b: &[u8], out: &mut [u8]) -> Result<usize, Refusal>
     let nb = reader::inner::op_count(b);
     // a result of more than 1,024 is refused
     if MAX_OPS < na + nb {
-        return in_large_stage(a, na, b, nb, MAX_OPS, out);
+        return in_stage::<LARGE_STAGE>(a, na, b, nb, MAX_OPS, out);
     }
     let most = layout::inner::text_start(na + nb)
         + reader::inner::text_bytes(a)
         + reader::inner::text_bytes(b);
     if MEDIUM_STAGE < most {
-        return in_large_stage(a, na, b, nb, na + nb, out);
+        return in_stage::<LARGE_STAGE>(a, na, b, nb, na + nb, out);
     }
     if SMALL_STAGE < most {
-        return in_medium_stage(a, na, b, nb, out);
+        return in_stage::<MEDIUM_STAGE>(a, na, b, nb, na + nb, out);
     }
-    in_small_stage(a, na, b, nb, out)
+    in_stage::<SMALL_STAGE>(a, na, b, nb, na + nb, out)
 }

@@ -1,4 +1,4 @@
--- What the functions of `transform` promise each other: the answer with both outputs, and how many operations a stage has places for.
+-- What the functions of `transform` promise each other: the answer with both outputs.
 use Rattle.std.specs.Prelude.{◌≡◌, ℕ, List, Result}
 use Rattle.answers.specs.Answer.{pair_of}
 use Rattle.operational_transform.specs.Calls.{transform_call}
@@ -8,10 +8,3 @@ pub record Transforms (a b x y : List ℕ) (r : Result (ℕ × ℕ) Refusal) (x'
   pub answer : pair_of r ≡ (transform_call a b x y).answer
   pub out_a : x' ≡ (transform_call a b x y).out_a
   pub out_b : y' ≡ (transform_call a b x y).out_b
-
--- the small and the medium stages have places for so many operations
-abbrev pub small_ops : ℕ
-small_ops = 40
-
-abbrev pub medium_ops : ℕ
-medium_ops = 338

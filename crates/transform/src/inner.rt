@@ -7,7 +7,7 @@ ghost use Rattle.record.specs.Record.{record_fault, ops};
 ghost use Rattle.emitter.specs.InnerEmit.{Under, limits_then_room_both};
 ghost use Rattle.steps.specs.InnerBoth.{BegunBoth, MarkedBoth};
 ghost use Rattle.steps.specs.InnerSteps.{Operands, live_is};
-ghost use Rattle.transform.specs.InnerPairs.{Transforms, small_ops, medium_ops};
+ghost use Rattle.transform.specs.InnerPairs.{Transforms};
 
 use answers::Refusal;
 use emitter::inner::Emitter;
@@ -131,9 +131,9 @@ const MEDIUM_STAGE: usize = HEADER + OP_BYTES * MEDIUM_OPS;
 
 const LARGE_STAGE: usize = HEADER + OP_BYTES * MAX_OPS;
 
-// With stages of several lengths: what is cleared is paid for. (The answer is taken apart because one that is handed on whole is
-// copied, and the copy waits for the bytes.)
-fn in_small_stages(
+// `staged`, in two stages with places for so many operations, which have so many bytes: what is cleared is paid for. (The answer is taken
+// apart because one that is handed on whole is copied, and the copy waits for the bytes.)
+fn in_stages<const SLOTS: usize, const BYTES: usize>(
     a: &[u8],
     na: usize,
     b: &[u8],
@@ -141,12 +141,13 @@ fn in_small_stages(
     out_a: &mut [u8],
     out_b: &mut [u8],
 ) -> Result<(usize, usize), Refusal>
-    requires { Operands na nb a.now b.now × (na + nb ≤ small_ops) × (base_of a.now ≡ base_of b.now) }
+    requires { Operands na nb a.now b.now × (SLOTS ≤ max_ops) × (min (na + nb) max_ops ≤ SLOTS) × (BYTES ≡ start_of_text SLOTS)
+        × (base_of a.now ≡ base_of b.now) }
     ensures { Transforms a.now b.now out_a.old out_b.old result out_a.new
         out_b.new }
 {
-    let mut stage_a = [0u8; SMALL_STAGE];
-    let mut stage_b = [0u8; SMALL_STAGE];
+    let mut stage_a = [0u8; BYTES];
+    let mut stage_b = [0u8; BYTES];
     let (k, l) = staged(
         a,
         na,
@@ -154,63 +155,7 @@ fn in_small_stages(
         nb,
         &mut stage_a,
         &mut stage_b,
-        SMALL_OPS,
-        out_a,
-        out_b,
-    )?;
-    Ok((k, l))
-}
-
-fn in_medium_stages(
-    a: &[u8],
-    na: usize,
-    b: &[u8],
-    nb: usize,
-    out_a: &mut [u8],
-    out_b: &mut [u8],
-) -> Result<(usize, usize), Refusal>
-    requires { Operands na nb a.now b.now × (na + nb ≤ medium_ops) × (base_of a.now ≡ base_of b.now) }
-    ensures { Transforms a.now b.now out_a.old out_b.old result out_a.new
-        out_b.new }
-{
-    let mut stage_a = [0u8; MEDIUM_STAGE];
-    let mut stage_b = [0u8; MEDIUM_STAGE];
-    let (k, l) = staged(
-        a,
-        na,
-        b,
-        nb,
-        &mut stage_a,
-        &mut stage_b,
-        MEDIUM_OPS,
-        out_a,
-        out_b,
-    )?;
-    Ok((k, l))
-}
-
-fn in_large_stages(
-    a: &[u8],
-    na: usize,
-    b: &[u8],
-    nb: usize,
-    out_a: &mut [u8],
-    out_b: &mut [u8],
-) -> Result<(usize, usize), Refusal>
-    requires { Operands na nb a.now b.now × (base_of a.now ≡ base_of b.now) }
-    ensures { Transforms a.now b.now out_a.old out_b.old result out_a.new
-        out_b.new }
-{
-    let mut stage_a = [0u8; LARGE_STAGE];
-    let mut stage_b = [0u8; LARGE_STAGE];
-    let (k, l) = staged(
-        a,
-        na,
-        b,
-        nb,
-        &mut stage_a,
-        &mut stage_b,
-        MAX_OPS,
+        SLOTS,
         out_a,
         out_b,
     )?;
@@ -236,10 +181,10 @@ pub fn transformed(
     let na = reader::inner::op_count(a);
     let nb = reader::inner::op_count(b);
     if MEDIUM_OPS < na + nb {
-        return in_large_stages(a, na, b, nb, out_a, out_b);
+        return in_stages::<MAX_OPS, LARGE_STAGE>(a, na, b, nb, out_a, out_b);
     }
     if SMALL_OPS < na + nb {
-        return in_medium_stages(a, na, b, nb, out_a, out_b);
+        return in_stages::<MEDIUM_OPS, MEDIUM_STAGE>(a, na, b, nb, out_a, out_b);
     }
-    in_small_stages(a, na, b, nb, out_a, out_b)
+    in_stages::<SMALL_OPS, SMALL_STAGE>(a, na, b, nb, out_a, out_b)
 }

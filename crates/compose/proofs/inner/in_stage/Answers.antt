@@ -1,0 +1,9 @@
+use Rattle.std.proofs.lemmas.Result.{err_from_is_err_and}
+use Rattle.emitter.proofs.Giving.{handed_on}
+use Rattle.compose.proofs.inner.in_stage.Goals as goal
+
+pub returns-in_err-k : goal.returns-in_err-k
+returns-in_err-k g c = let p = err_from_is_err_and c.from_residual.result c.from_residual.ensures.1 in rw (p.1, p.2) (search (handed_on, c.in_err-k.was))
+
+pub returns : goal.returns
+returns g c = search (handed_on, c.in_ok-k.was)
