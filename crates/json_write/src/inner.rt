@@ -35,7 +35,14 @@ fn write_negative(out: &mut [u8], at: usize, n: usize) -> usize
 }
 
 // The value of an operation, the text of which begins at `from`: the place behind it.
-fn write_value(out: &mut [u8], at: usize, rec: &[u8], from: usize, kind: Kind, count: usize) -> usize
+fn write_value(
+    out: &mut [u8],
+    at: usize,
+    rec: &[u8],
+    from: usize,
+    kind: Kind,
+    count: usize,
+) -> usize
     requires { (count < 65536) × (from + bytes_of_text kind count ≤ length rec.now)
         × (at + length (value_of kind count (drop from rec.now)) ≤ length out.old) }
     ensures { Puts at (value_of kind count (drop from rec.now)) out.old result out.new }

@@ -1,6 +1,5 @@
 use native.Mathlib.Omega.{arith}
 use Rattle.reader.proofs.Fronts.{fault_few}
-use Rattle.std.specs.Prelude.{◌-◌}
 use lib.ListN.{length-set}
 use Rattle.json_write.proofs.Lists.{first_room, second_room, list_none, list_start, left_room, list_more, list_end, same_long}
 use borrow.Author.Rules.{rules}
