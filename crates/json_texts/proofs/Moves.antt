@@ -1,11 +1,11 @@
 -- Text copied, one part behind another.
-use Rattle.std.specs.Prelude.{◌≡◌, ℕ, ◌+◌, ◌-◌, ◌<◌, ◌≤◌, Bool, true, false, ◌&&◌, T, eqb, List, [], ◌∷◌, ◌++◌, length, get_or, take, drop, set, Option, Some, None, IsSome}
+use Rattle.std.specs.Prelude.{◌≡◌, ◌≢◌, ℕ, zero, suc, ◌+◌, ◌-◌, ◌<◌, ◌≤◌, Bool, true, false, ◌&&◌, T, eqb, List, [], ◌∷◌, ◌++◌, length, get_or, take, drop, set, Option, Some, None, IsSome}
 use native.Mathlib.Omega.{arith}
-use mathlib.Core.Path.{refl, sym, ap, ap₂, ◌∙◌}
+use mathlib.Core.Path.{refl, sym, ap, ap₂, subst, ◌∙◌}
 use mathlib.Core.Bool.{true≢false}
 use mathlib.Core.List.{append_assoc, append-nil}
 use lib.ListN.{length-append, length-take, length-drop, take-append-drop, drop_of_length-le}
-use lib.Seq.{drop-drop}
+use lib.Seq.{drop-drop, get_or-drop, take_all}
 use borrow.Author.Tests.{eq-eqb}
 use Rattle.buffers.specs.Lists.{all_of}
 use Rattle.buffers.specs.InnerOver.{over}
@@ -286,3 +286,42 @@ module _ {list out₀ : List ℕ} {at : ℕ} (f : T (in_form list)) (h : at + le
 
         pub between_string : {k n : ℕ} {o : List ℕ} → Moved (in_string []) after_value list (i + 1) out to k n o → Between list out₀ at k n o
         between_string m = record { place = after_value; apart = refl; moved = moved_then string_moved m }
+
+-- ---- the next quotation mark
+
+-- bytes of the list from i on
+module _ (list : List ℕ) (i : ℕ) where
+  rest_is : take (length list - i) (drop i list) ≡ drop i list
+  rest_is = take_all (length list - i) (drop i list) (simp length-drop (omega arith))
+
+  rest_long : length (take (length list - i) (drop i list)) ≡ length list - i
+  rest_long = ap length rest_is ∙ length-drop i list
+
+  rest_at : (j : ℕ) → get_or (take (length list - i) (drop i list)) j 0 ≡ get_or list (i + j) 0
+  rest_at j = ap (λ x. get_or x j 0) rest_is ∙ get_or-drop i list j 0
+
+module _ {list out₀ : List ℕ} {at : ℕ} (f : T (in_form list)) (h : at + length (texts (items at_start list)) ≤ length out₀) where
+  -- bytes between strings
+  between_run : {i to : ℕ} {out : List ℕ} → Between list out₀ at i to out → (n : ℕ) → i + n ≤ length list → ((j : ℕ) → j < n → get_or list (i + j) 0 ≢ 0x22) → Between list out₀ at (i + n) to out
+  between_run {i} {to} {out} b zero l g = let z : i ≡ i + 0 = omega arith in subst (λ k. Between list out₀ at k to out) z b
+  between_run {i} {to} {out} b (suc n) l g =
+      let z : i + n + 1 ≡ i + suc n = omega arith in
+      subst (λ k. Between list out₀ at k to out) z (between_byte f h (between_run b n (omega arith) (λ j l. g j (omega arith))) (omega arith) (g n (omega arith)))
+
+  module _ {i to : ℕ} {out : List ℕ} (b : Between list out₀ at i to out) where
+    -- no string is left
+    pub rest_copied : ((j : ℕ) → j < length (take (length list - i) (drop i list)) → get_or (take (length list - i) (drop i list)) j 0 ≢ 0x22) → out ≡ over at (texts (items at_start list)) out₀
+    rest_copied g =
+        let l = b.moved.below in
+        all_copied f h (between_run b (length list - i) (omega arith) (λ j k e. g j (omega (arith, rest_long list i)) (rest_at list i j ∙ e))) (omega arith)
+
+    module _ (k : ℕ)
+        (x : (k < length (take (length list - i) (drop i list))) × (get_or (take (length list - i) (drop i list)) k 0 ≡ 0x22) × ((j : ℕ) → j < k → get_or (take (length list - i) (drop i list)) j 0 ≢ 0x22)) where
+      before_mark : Between list out₀ at (i + k) to out
+      before_mark = let l = b.moved.below in between_run b k (omega (arith, x.0, rest_long list i)) (λ j l e. x.2 j l (rest_at list i j ∙ e))
+
+      pub next_ready : Ready (in_string []) list (i + k + 1) out to
+      next_ready = string_ready f h before_mark (omega (arith, x.0, rest_long list i)) (sym (rest_at list i k) ∙ x.1)
+
+      pub next_between : {m n : ℕ} {o : List ℕ} → Moved (in_string []) after_value list (i + k + 1) out to m n o → Between list out₀ at m n o
+      next_between = between_string f h before_mark (omega (arith, x.0, rest_long list i)) (sym (rest_at list i k) ∙ x.1)

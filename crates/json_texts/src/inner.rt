@@ -1,6 +1,6 @@
 // The texts of a list's strings are copied one behind another. The list is known to be of the form, so nothing is refused, and one pass
 // goes over it: bytes that stand for themselves are searched for the next that doesn't and copied at the same time.
-ghost use Rattle.std.specs.Prelude.{◌≡◌, ◌+◌, ◌<◌, ◌≤◌, false, T, [], length, drop, ◌==◌, slice_index};
+ghost use Rattle.std.specs.Prelude.{◌≡◌, ◌≢◌, ℕ, ◌+◌, ◌<◌, ◌≤◌, false, T, [], length, drop, ◌==◌, slice_index, MatchOption};
 ghost use Rattle.buffers.specs.InnerOver.{over};
 ghost use Rattle.characters.specs.Form.{is_well_formed};
 ghost use Rattle.characters.specs.Scalar.{encode_scalar};
@@ -164,6 +164,14 @@ fn copy_string(list: &[u8], at: usize, out: &mut [u8], to: usize) -> Copied
     Copied { from: i + 1, to: j }
 }
 
+// How many bytes stand before the first quotation mark.
+fn next_mark(bytes: &[u8]) -> Option<usize>
+    ensures { MatchOption result ((j : ℕ) → j < length bytes.now → slice_index bytes.now j ≢ 0x22)
+        (λ k. (k < length bytes.now) × (slice_index bytes.now k ≡ 0x22) × ((j : ℕ) → j < k → slice_index bytes.now j ≢ 0x22)) }
+{
+    bytes.iter().position(|&b| b == QUOTATION_MARK)
+}
+
 // Copies the texts of all strings of a list to `at`, one behind another. Where no string goes on, a quotation mark begins one.
 pub fn copy_texts(list: &[u8], out: &mut [u8], at: usize)
     requires { T (in_form list.now) × (at + length (texts (items at_start list.now)) ≤ length out.old) }
@@ -171,12 +179,8 @@ pub fn copy_texts(list: &[u8], out: &mut [u8], at: usize)
 {
     let mut i = 0;
     let mut to = at;
-    while i < list.len() {
-        if list[i] != QUOTATION_MARK {
-            i += 1;
-            continue;
-        }
-        let c = copy_string(list, i + 1, out, to);
+    while let Some(k) = next_mark(&list[i..]) {
+        let c = copy_string(list, i + k + 1, out, to);
         i = c.from;
         to = c.to;
     }

@@ -1,17 +1,14 @@
-use Rattle.json_texts.proofs.Moves.{between_none, between_byte, string_ready, between_string, all_copied}
+use Rattle.json_texts.proofs.Moves.{between_none, next_ready, next_between, rest_copied}
 use Rattle.json_texts.proofs.inner.copy_texts.Goals as goal
 
-pub loop-i-init : goal.loop-i-init
-loop-i-init c = search between_none
-
-pub loop-i-preserved-then-list-i-ne-QUOTATION_MARK : goal.loop-i-preserved-then-list-i-ne-QUOTATION_MARK
-loop-i-preserved-then-list-i-ne-QUOTATION_MARK c = search between_byte
+pub loop-k-init : goal.loop-k-init
+loop-k-init c = search between_none
 
 pub copy_string-c-requires : goal.copy_string-c-requires
-copy_string-c-requires c = search string_ready
+copy_string-c-requires c = next_ready c.requires.0 c.requires.1 c.loop-k.invariant _ c.in-Some.ensures
 
-pub loop-i-preserved : goal.loop-i-preserved
-loop-i-preserved c = search between_string
+pub loop-k-preserved : goal.loop-k-preserved
+loop-k-preserved c = next_between c.requires.0 c.requires.1 c.loop-k.invariant _ c.in-Some.ensures c.copy_string-c.ensures
 
 pub returns : goal.returns
-returns c = search all_copied
+returns c = rest_copied c.requires.0 c.requires.1 c.loop-k.invariant c.in_default.ensures
