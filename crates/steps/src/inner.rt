@@ -198,7 +198,5 @@ pub fn begin_both(a: &[u8], na: usize, b: &[u8], nb: usize) -> Both
 pub fn both_go_on(s: Both) -> bool
     ensures { result ≡ live_is s.x s.y }
 {
-    let x = s.x;
-    let y = s.y;
-    live(x, y)
+    live(s.x, s.y)
 }

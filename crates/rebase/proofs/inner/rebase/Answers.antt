@@ -8,7 +8,7 @@ use borrow.Author.Rules.{rules}
 use Rattle.rebase.proofs.inner.rebase.Goals as goal
 
 pub loop-k-init : goal.loop-k-init
-loop-k-init c = (search some_left, moving_start, search rules, search rules, search rules, search rules)
+loop-k-init c = ((let e : c.args.n - 0 ≡ c.args.n = omega arith in rw e (search moving_start)), search rules, search rules, search rules, search rules)
 
 pub slice_bounds-rec-count : goal.slice_bounds-rec-count
 slice_bounds-rec-count c = search (moving_place, rules)
@@ -32,14 +32,14 @@ begin_both-b-requires c = record {
   passed_b = moving_record _ _ _ _ _ _ _ _ _ c.loop-k.invariant.0 (some_left _ _ c.loop-k-test.true);
 }
 
-pub loop-next-init : goal.loop-next-init
-loop-next-init c = (both_start _ _ _ _ _ _ _ c.loop-k.invariant.0.holds.fault (moving_record _ _ _ _ _ _ _ _ _ c.loop-k.invariant.0 (some_left _ _ c.loop-k-test.true)) c.begin_both-b.ensures, search rules, search rules)
+pub loop-cur-init : goal.loop-cur-init
+loop-cur-init c = (both_start _ _ _ _ _ _ _ c.loop-k.invariant.0.holds.fault (moving_record _ _ _ _ _ _ _ _ _ c.loop-k.invariant.0 (some_left _ _ c.loop-k-test.true)) c.begin_both-b.ensures, search rules, search rules)
 
 pub finish_both-c-requires : goal.finish_both-c-requires
-finish_both-c-requires c = (c.requires.7, left_under _ _ _ _ _ _ c.loop-next.b _ _ c.loop-next.invariant.0, right_under _ _ _ _ _ _ c.loop-next.b _ _ c.loop-next.invariant.0)
+finish_both-c-requires c = (c.requires.7, left_under _ _ _ _ _ _ c.loop-cur.b _ _ c.loop-cur.invariant.0, right_under _ _ _ _ _ _ c.loop-cur.b _ _ c.loop-cur.invariant.0)
 
 pub sizes-p-requires : goal.sizes-p-requires
-sizes-p-requires c = let d = marked_run _ _ _ _ _ c.loop-next.b _ _ c.loop-next.invariant.0 c.loop-next.invariant.1 c.loop-next.invariant.2 _ c.both_go_on.ensures c.loop-next-test.false c.finish_both-c.result _ _ c.finish_both-c.ensures (omega (arith, c.next-1.given, c.finish_both-c)) (omega (arith, c.side-1.given, c.finish_both-c)) in
+sizes-p-requires c = let d = marked_run _ _ _ _ _ c.loop-cur.b _ _ c.loop-cur.invariant.0 c.loop-cur.invariant.1 c.loop-cur.invariant.2 _ c.both_go_on.ensures c.loop-cur-test.false c.finish_both-c.result _ _ c.finish_both-c.ensures (omega (arith, c.finish_both-c)) (omega (arith, c.finish_both-c)) in
     (c.loop-k.invariant.0.holds.fault, moving_record _ _ _ _ _ _ _ _ _ c.loop-k.invariant.0 (some_left _ _ c.loop-k-test.true), moving_agree _ _ _ _ _ _ _ _ _ c.loop-k.invariant.0 (some_left _ _ c.loop-k-test.true), d.counted)
 
 pub have_places-requires : goal.have_places-requires
@@ -58,24 +58,24 @@ step-b-requires c = (
   record {
     slots_left = c.requires.7;
     slots_right = c.requires.7;
-    under_e = left_under _ _ _ _ _ _ c.loop-next.b _ _ c.loop-next.invariant.0;
-    under_f = right_under _ _ _ _ _ _ c.loop-next.b _ _ c.loop-next.invariant.0;
-    stands_x = c.loop-next.invariant.0.left.stands_x;
-    stands_y = c.loop-next.invariant.0.left.stands_y;
-    room_left = omega (arith, c.loop-next.invariant.1, c.loop-k.invariant.2, c.requires.5);
-    room_right = omega (arith, c.loop-next.invariant.2, c.loop-k.invariant.3, c.requires.6);
+    under_e = left_under _ _ _ _ _ _ c.loop-cur.b _ _ c.loop-cur.invariant.0;
+    under_f = right_under _ _ _ _ _ _ c.loop-cur.b _ _ c.loop-cur.invariant.0;
+    stands_x = c.loop-cur.invariant.0.left.stands_x;
+    stands_y = c.loop-cur.invariant.0.left.stands_y;
+    room_left = omega (arith, c.loop-cur.invariant.1, c.loop-k.invariant.2, c.requires.5);
+    room_right = omega (arith, c.loop-cur.invariant.2, c.loop-k.invariant.3, c.requires.6);
   },
-  sym c.both_go_on.ensures ∙ c.loop-next-test.true,
+  sym c.both_go_on.ensures ∙ c.loop-cur-test.true,
 )
 
-pub loop-next-smaller : goal.loop-next-smaller
-loop-next-smaller c = search went_less
+pub loop-cur-smaller : goal.loop-cur-smaller
+loop-cur-smaller c = search went_less
 
-pub loop-next-preserved : goal.loop-next-preserved
-loop-next-preserved c = (search both_more, search rules, search rules)
+pub loop-cur-preserved : goal.loop-cur-preserved
+loop-cur-preserved c = (search both_more, search rules, search rules)
 
 pub replace_edit-spot-requires : goal.replace_edit-spot-requires
-replace_edit-spot-requires c = let d = marked_run _ _ _ _ _ c.loop-next.b _ _ c.loop-next.invariant.0 c.loop-next.invariant.1 c.loop-next.invariant.2 _ c.both_go_on.ensures c.loop-next-test.false c.finish_both-c.result _ _ c.finish_both-c.ensures (omega (arith, c.next-1.given, c.finish_both-c)) (omega (arith, c.side-1.given, c.finish_both-c)) in (
+replace_edit-spot-requires c = let d = marked_run _ _ _ _ _ c.loop-cur.b _ _ c.loop-cur.invariant.0 c.loop-cur.invariant.1 c.loop-cur.invariant.2 _ c.both_go_on.ensures c.loop-cur-test.false c.finish_both-c.result _ _ c.finish_both-c.ensures (omega (arith, c.finish_both-c)) (omega (arith, c.finish_both-c)) in (
   c.requires.7,
   c.op_count-ne.ensures.0,
   c.op_count-ne.ensures.1,
@@ -84,8 +84,8 @@ replace_edit-spot-requires c = let d = marked_run _ _ _ _ _ c.loop-next.b _ _ c.
   c.requires.3,
   moving_record _ _ _ _ _ _ _ _ _ c.loop-k.invariant.0 (some_left _ _ c.loop-k-test.true),
   c.loop-k.invariant.0.same_text,
-  omega (arith, c.next-1.given, c.finish_both-c, c.loop-next.invariant.1, c.loop-k.invariant.2, c.requires.5),
-  omega (arith, c.side-1.given, c.finish_both-c, c.loop-next.invariant.2, c.loop-k.invariant.3, c.requires.6),
+  omega (arith, c.finish_both-c, c.loop-cur.invariant.1, c.loop-k.invariant.2, c.requires.5),
+  omega (arith, c.finish_both-c, c.loop-cur.invariant.2, c.loop-k.invariant.3, c.requires.6),
   moving_ready _ _ _ _ _ _ _ _ _ c.loop-k.invariant.0 (some_left _ _ c.loop-k-test.true) _ c.sizes-p.ensures _ c.keep_limits.ensures c.if-not-keep_limits.false-raw _ _ _ c.have_places.ensures c.if-not-have_places.false-raw _ _ _ d,
   omega (arith, c.loop-k.invariant.0.place),
   moving_small _ _ _ _ _ _ _ _ _ c.loop-k.invariant.0 c.requires.1,
@@ -95,8 +95,8 @@ pub loop-k-preserved : goal.loop-k-preserved
 loop-k-preserved c = (
   (let e : c.args.n - c.loop-k._k - 1 ≡ c.args.n - (c.loop-k._k + 1) = omega arith in rw e at (moving_next _ _ _ _ _ _ _ _ _ c.loop-k.invariant.0 (some_left _ _ c.loop-k-test.true) (moving_fit _ _ _ _ _ _ _ _ _ c.loop-k.invariant.0 (some_left _ _ c.loop-k-test.true) _ c.sizes-p.ensures _ c.keep_limits.ensures c.if-not-keep_limits.false-raw) c.loop-k.invariant.4 _ _ _ c.replace_edit-spot.ensures)),
   omega (arith, c.loop-k.invariant.1, c.cur-1.given, c.replace_edit-spot),
-  omega (arith, c.next-1.given, c.finish_both-c, c.loop-next.invariant.1, c.loop-k.invariant.2),
-  omega (arith, c.side-1.given, c.finish_both-c, c.loop-next.invariant.2, c.loop-k.invariant.3),
+  omega (arith, c.finish_both-c, c.loop-cur.invariant.1, c.loop-k.invariant.2),
+  omega (arith, c.finish_both-c, c.loop-cur.invariant.2, c.loop-k.invariant.3),
   omega (arith, c.loop-k.invariant.4, c.parts-1.given, c.replace_edit-spot),
 )
 
