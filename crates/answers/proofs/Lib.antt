@@ -1,3 +1,4 @@
 -- answers
 pub mod Refusals
 pub mod Outputs
+pub mod Delivered

@@ -4,6 +4,8 @@
 ghost use Rattle.std.specs.Prelude.{◌≡◌, ◌≤◌};
 ghost use Rattle.answers.specs.Answer.{number as number_of};
 
+pub mod inner;
+
 // Why a call is refused: document 01's numbers 1 to 10, in order, and document 02's from 11 on.
 #[derive(Clone, Copy, Debug, PartialEq, Eq)]
 pub enum Refusal {

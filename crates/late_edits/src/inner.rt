@@ -161,7 +161,9 @@ pub fn in_medium_buffers(
     requires { Admitted edit.now r log.old s × (n ≡ count_of log.old - r) }
     ensures { Accepts edit.now r log.old out.old result log.new out.new }
 {
-    match in_short_buffers::<MEDIUM_EDIT, MEDIUM_STAGE, MEDIUM_PARTS>(edit, r, log, s, n, out, MEDIUM_OPS) {
+    match in_short_buffers::<MEDIUM_EDIT, MEDIUM_STAGE, MEDIUM_PARTS>(
+        edit, r, log, s, n, out, MEDIUM_OPS,
+    ) {
         Ok((k, l)) => Ok((k, l)),
         Err(Stop::Refused(x)) => Err(x),
         Err(Stop::Short) => in_large_buffers(edit, r, log, s, n, out),
@@ -179,7 +181,9 @@ pub fn in_small_buffers(
     requires { Admitted edit.now r log.old s × (n ≡ count_of log.old - r) }
     ensures { Accepts edit.now r log.old out.old result log.new out.new }
 {
-    match in_short_buffers::<SMALL_EDIT, SMALL_STAGE, SMALL_PARTS>(edit, r, log, s, n, out, SMALL_OPS) {
+    match in_short_buffers::<SMALL_EDIT, SMALL_STAGE, SMALL_PARTS>(
+        edit, r, log, s, n, out, SMALL_OPS,
+    ) {
         Ok((k, l)) => Ok((k, l)),
         Err(Stop::Refused(x)) => Err(x),
         Err(Stop::Short) => in_medium_buffers(edit, r, log, s, n, out),

@@ -1,19 +1,20 @@
 -- From what the code finds to the answer of play.
-use Rattle.std.specs.Prelude.{◌≡◌, ℕ, suc, ◌+◌, ◌<◌, ◌≤◌, true, T, List, [], ◌∷◌, ◌++◌, length, take, drop, Option, Some, None}
-use native.Mathlib.Nat.{zero-add}
+use Rattle.std.specs.Prelude.{◌≡◌, ℕ, suc, ◌≤◌, true, T, List, take, Result, Option, Some, None}
 use native.Mathlib.Omega.{arith}
-use mathlib.Core.Path.{sym, ap, ◌∙◌}
+use mathlib.Core.Path.{sym, ap, ◌∙◌, ap₂}
 use lib.Seq.{take_all}
 use borrow.Author.Tests.{eq-eqb, ne_eqb}
-use Rattle.buffers.specs.Buffers.{put_at_front}
 use Rattle.buffers.proofs.Tests.{holds}
 use Rattle.characters.specs.Form.{is_well_formed}
 use Rattle.characters.specs.InnerPassed.{form_of}
 use Rattle.characters.specs.Chars.{number_of_chars}
 use Rattle.characters.specs.Text.{chars, bytes}
 use Rattle.characters.proofs.Passed.{form_ill, form_well, form_num}
-use Rattle.answers.specs.Answer.{success, refused}
-use Rattle.answers.proofs.Outputs.{writing_stops, writing_short, writing_goes, untouched}
+use Rattle.answers.specs.declared.Refusal.{Refusal}
+use Rattle.answers.specs.Answer.{answer_of, refused}
+use Rattle.answers.specs.Output.{writing}
+use Rattle.answers.specs.InnerGiven.{Gives}
+use Rattle.answers.proofs.Outputs.{writing_stops, untouched}
 use Rattle.session_log.specs.declared.inner.Scan.{Scan}
 use Rattle.session_log.specs.Log.{count_of, start_of, readable, revisions}
 use Rattle.session_log.specs.InnerScan.{Found, Scans, ScansTo}
@@ -86,33 +87,18 @@ module _ (l t o : List ℕ) (a b : ℕ) where
                 unfolding played
                 text_is = ap (λ es. bytes (play_all es (chars t))) all_of_it
 
-                size_is : n ≡ length (played l t)
-                size_is = stands.size ∙ ap length text_is
-
                 no_fault : play_fault l t a b ≡ 0
                 unfolding play_fault
                 no_fault =
                     rw (well, reads, eq-eqb (number_of_chars t) (start_of l) play_agrees, ap (λ es. room a b (longest es (chars t))) (sym all_of_it) ∙ stands.has_room)
 
-                pub play_10 : length o < n → refused 10 ≡ (play_call l t a b o).answer
+                same : writing 0 (take n s') o ≡ play_call l t a b o
                 unfolding play_call
-                play_10 i = writing_short (play_fault l t a b) (played l t) o no_fault (omega (arith, size_is))
+                same = ap₂ (λ f r. writing f r o) (sym no_fault) (stands.text_is ∙ text_is)
 
-                module _ (i : n ≤ length o) where
-                  all : record { answer = success (length (played l t) ∷ []); out = put_at_front (played l t) o } ≡ play_call l t a b o
-                  unfolding play_call
-                  all = writing_goes (play_fault l t a b) (played l t) o no_fault (omega (arith, size_is))
+                module _ (w : Result ℕ Refusal) (o' : List ℕ) (i : Gives (writing 0 (take n s') o) w o') where
+                  pub play_answer : answer_of w ≡ (play_call l t a b o).answer
+                  play_answer = i.answer ∙ ap (λ z. z.answer) same
 
-                  pub play_0 : success (n ∷ []) ≡ (play_call l t a b o).answer
-                  play_0 = ap (λ k. success (k ∷ [])) size_is ∙ ap (λ z. z.answer) all
-
-                  pub play_room : 0 + length (take n s') ≤ length o
-                  play_room = omega (arith, ap length stands.text_is, stands.size)
-
-                  pub play_out : (o' : List ℕ) → o' ≡ take 0 o ++ take n s' ++ drop (0 + length (take n s')) o → o' ≡ (play_call l t a b o).out
-                  unfolding put_at_front
-                  play_out o' p =
-                      p
-                      ∙ ap (λ r. r ++ drop (0 + length r) o) (stands.text_is ∙ text_is)
-                      ∙ ap (λ k. played l t ++ drop k o) (zero-add (length (played l t)))
-                      ∙ ap (λ z. z.out) all
+                  pub play_out : o' ≡ (play_call l t a b o).out
+                  play_out = i.out ∙ ap (λ z. z.out) same

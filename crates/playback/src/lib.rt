@@ -34,9 +34,5 @@ pub fn play(
     ) else {
         return Err(Refusal::Room);
     };
-    if out.len() < n {
-        return Err(Refusal::Room);
-    }
-    buffers::inner::copy_into(out, 0, &scratch_a[..n]);
-    Ok(n)
+    answers::inner::deliver(&scratch_a[..n], out)
 }

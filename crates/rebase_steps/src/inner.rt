@@ -4,32 +4,11 @@ ghost use Rattle.characters.specs.Order.{order};
 ghost use Rattle.edits.specs.Transform.{transform_turn};
 ghost use Rattle.record.specs.InnerFront.{Cut};
 ghost use Rattle.emitter.specs.InnerEmit.{Under};
-ghost use Rattle.steps.specs.InnerBoth.{Fed, ReadyBoth, BegunBoth, FirstBoth, SecondBoth, Meets, TogetherBoth, WentBoth, Ends};
+ghost use Rattle.steps.specs.InnerBoth.{Fed, ReadyBoth, FirstBoth, SecondBoth, Meets, TogetherBoth, WentBoth, Ends};
 ghost use Rattle.steps.specs.InnerSteps.{Operands, live_is, Chooses};
 
 use record::inner::{AT_INSERT, AT_RETAIN};
 use steps::inner::{Both, Counts, Pair, Turn};
-
-// Before the first step past a revision: of the edit's side and of the counterpart nothing was emitted.
-pub fn begin(cur: &[u8], na: usize, rec: &[u8], nb: usize) -> Both
-    requires { Operands na nb cur.now rec.now }
-    ensures { BegunBoth cur.now rec.now result }
-{
-    let s = steps::inner::begin(cur, na, rec, nb);
-    let f = emitter::inner::new_emitter();
-    let x = s.x;
-    let y = s.y;
-    let e = s.e;
-    Both { x, y, e, f }
-}
-
-pub fn goes_on(b: Both) -> bool
-    ensures { result ≡ live_is b.x b.y }
-{
-    let x = b.x;
-    let y = b.y;
-    steps::inner::live(x, y)
-}
 
 // The edit's operation goes by itself: the counterpart retains what it gives.
 fn step_edit(cur: &[u8], na: usize, next: &mut [u8], slots: usize, b: Both) -> Both

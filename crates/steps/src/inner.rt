@@ -10,7 +10,7 @@ ghost use Rattle.places.specs.InnerOps.{relocated_ops};
 ghost use Rattle.emitter.specs.InnerEmit.{Under, headed};
 ghost use Rattle.steps.specs.InnerSteps.{Operands, live_is, Chooses, Begun};
 ghost use Rattle.steps.specs.InnerSides.{gives_of};
-ghost use Rattle.steps.specs.InnerBoth.{Counted, SizedBoth};
+ghost use Rattle.steps.specs.InnerBoth.{BegunBoth, Counted, SizedBoth};
 
 use emitter::inner::Emitter;
 use record::inner::{AT_DELETE, AT_END, AT_INSERT, Front};
@@ -180,4 +180,23 @@ pub fn goes_on(s: State) -> bool
     let x = s.x;
     let y = s.y;
     live(x, y)
+}
+
+// The same where both sides are emitted: nothing was emitted of either.
+pub fn begin_both(a: &[u8], na: usize, b: &[u8], nb: usize) -> Both
+    requires { Operands na nb a.now b.now }
+    ensures { BegunBoth a.now b.now result }
+{
+    let s = begin(a, na, b, nb);
+    let f = emitter::inner::new_emitter();
+    let x = s.x;
+    let y = s.y;
+    let e = s.e;
+    Both { x, y, e, f }
+}
+
+pub fn both_go_on(s: Both) -> bool
+    ensures { result ≡ live_is s.x s.y }
+{
+    live(s.x, s.y)
 }

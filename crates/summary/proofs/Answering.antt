@@ -1,18 +1,13 @@
--- What goes to the output, and the answers of the call.
-use Rattle.std.specs.Prelude.{◌≡◌, ℕ, ◌-◌, ◌<◌, ◌≤◌, false, T, List, [], ◌∷◌, length, take, drop, Result, Option, Ok, Err, Some, None}
-use mathlib.Core.Path.{refl, sym, ap, ◌∙◌}
+-- The answers of the call.
+use Rattle.std.specs.Prelude.{◌≡◌, ℕ, ◌≤◌, false, T, List, length, take, Result, Option, Ok, Err, Some, None}
+use mathlib.Core.Path.{refl, sym, ap}
 use native.Mathlib.Omega.{arith}
-use native.Mathlib.Nat.{sub-zero}
 use lib.Seq.{length-take-le}
-use Rattle.buffers.specs.InnerOver.{over}
 use Rattle.buffers.proofs.Tests.{holds}
-use Rattle.buffers.proofs.Over.{over_front}
 use Rattle.answers.specs.declared.Refusal.{Refusal}
-use Rattle.answers.specs.declared.Refusal.TheVariants.{Room}
-use Rattle.answers.specs.Answer.{success, refused}
+use Rattle.answers.specs.Answer.{refused}
 use Rattle.answers.specs.Output.{writing}
 use Rattle.answers.specs.InnerGiven.{Gives}
-use Rattle.answers.proofs.Outputs.{writing_goes, writing_short, untouched}
 use Rattle.record.specs.Layout.{max_size}
 use Rattle.record.specs.Record.{encode}
 use Rattle.emitter.proofs.Delivering.{writing_refused}
@@ -22,25 +17,6 @@ use Rattle.session_log.specs.declared.inner.Scan.{Scan}
 use Rattle.session.specs.Rows.{retain_whole, compose_all}
 use Rattle.session.specs.Session.{summary_fault, summary_call}
 use Rattle.partial.specs.InnerSumming.{Sums}
-
--- ---- what goes to the output
-
-module _ (c : List ℕ) (k : ℕ) (o : List ℕ) (h : k ≤ length c) where
-  taken : length (take k c) ≡ k
-  taken = length-take-le k c h
-
-  pub deliver_short : length o < k → Gives (writing 0 (take k c) o) (Err Room) o
-  deliver_short g =
-      let a = writing_short 0 (take k c) o refl (omega (arith, taken)) in
-      record { answer = a; out = untouched 0 (take k c) o 10 a }
-
-  pub deliver_whole : k ≤ length o → (o' : List ℕ) → o' ≡ over 0 (take (k - 0) (drop 0 c)) o → Gives (writing 0 (take k c) o) (Ok k) o'
-  deliver_whole g o' w =
-      let a = writing_goes 0 (take k c) o refl (omega (arith, taken)) in
-      record {
-        answer = ap (λ n. success (n ∷ [])) (sym taken) ∙ ap (λ y. y.answer) a;
-        out = w ∙ ap (λ n. over 0 (take n c) o) (sub-zero k) ∙ over_front (take k c) o (omega (arith, taken)) ∙ ap (λ y. y.out) a;
-      }
 
 -- ---- the answers
 
@@ -54,6 +30,9 @@ module _ (l o : List ℕ) (r : T (readable l)) (v : Result ℕ Refusal) (b : Lis
   module _ (k : ℕ) (q : v ≡ Ok k) where
     pub summed_room : k ≤ length b
     summed_room = (rw q at s).sums.1.room
+
+    pub summed_size : k ≡ length (take k b)
+    summed_size = sym (length-take-le k b summed_room)
 
     pub summed_whole : (w : Result ℕ Refusal) (o' : List ℕ) → Gives (writing 0 (take k b) o) w o' → Gives (summary_call l o) w o'
     unfolding summary_call summary_fault

@@ -1,10 +1,9 @@
 // The revisions of a log composed into one record.
 #![tactic(auto)]
 
-ghost use Rattle.std.specs.Prelude.{◌≡◌, ◌≤◌, T, length, take};
+ghost use Rattle.std.specs.Prelude.{◌≡◌, ◌≤◌, T};
 ghost use Rattle.answers.specs.Answer.{answer_of};
 ghost use Rattle.answers.specs.InnerGiven.{Gives};
-ghost use Rattle.answers.specs.Output.{writing};
 ghost use Rattle.record.specs.Layout.{max_size};
 ghost use Rattle.session_log.specs.Log.{count_of, start_of, readable};
 ghost use Rattle.session.specs.Session.{summary_call};
@@ -31,17 +30,5 @@ fn summed(log: &[u8], count: usize, start: usize, out: &mut [u8]) -> Result<usiz
     let mut cur = [0u8; MAX_RECORD];
     let mut next = [0u8; MAX_RECORD];
     let k = partial::inner::sum_up(log, count, start, &mut cur, &mut next)?;
-    delivered(&cur, k, out)
-}
-
-// The first k bytes, as a result.
-fn delivered(cur: &[u8], k: usize, out: &mut [u8]) -> Result<usize, Refusal>
-    requires { k ≤ length cur.now }
-    ensures { Gives (writing 0 (take k cur.now) out.old) result out.new }
-{
-    if out.len() < k {
-        return Err(Refusal::Room);
-    }
-    buffers::inner::copy(out, 0, cur, 0, k);
-    Ok(k)
+    answers::inner::deliver(&cur[..k], out)
 }

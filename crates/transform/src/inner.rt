@@ -5,34 +5,14 @@ ghost use Rattle.edits.specs.Transform.{transform as transformOf};
 ghost use Rattle.record.specs.Layout.{max_ops, start_of_text, base_of};
 ghost use Rattle.record.specs.Record.{record_fault, ops};
 ghost use Rattle.emitter.specs.InnerEmit.{Under, limits_then_room_both};
-ghost use Rattle.steps.specs.InnerBoth.{BegunBoth, MarkedBoth};
-ghost use Rattle.steps.specs.InnerSteps.{Operands, live_is};
+ghost use Rattle.steps.specs.InnerBoth.{MarkedBoth};
+ghost use Rattle.steps.specs.InnerSteps.{Operands};
 ghost use Rattle.transform.specs.InnerPairs.{Transforms};
 
 use answers::Refusal;
 use emitter::inner::Emitter;
 use record::inner::{HEADER, MAX_OPS, OP_BYTES};
-use steps::inner::{Both, Counts};
-
-fn begin(a: &[u8], na: usize, b: &[u8], nb: usize) -> Both
-    requires { Operands na nb a.now b.now }
-    ensures { BegunBoth a.now b.now result }
-{
-    let s = steps::inner::begin(a, na, b, nb);
-    let f = emitter::inner::new_emitter();
-    let x = s.x;
-    let y = s.y;
-    let e = s.e;
-    Both { x, y, e, f }
-}
-
-fn goes_on(s: Both) -> bool
-    ensures { result ≡ live_is s.x s.y }
-{
-    let x = s.x;
-    let y = s.y;
-    steps::inner::live(x, y)
-}
+use steps::inner::Counts;
 
 // All of both sides but the text, to stages with places for `slots` records and none for text.
 fn transform_into(
@@ -49,8 +29,8 @@ fn transform_into(
     ensures { MarkedBoth slots (transformOf order (ops a.now) (ops b.now)) result stage_a.new
         stage_b.new }
 {
-    let mut s = begin(a, na, b, nb);
-    while goes_on(s) {
+    let mut s = steps::inner::begin_both(a, na, b, nb);
+    while steps::inner::both_go_on(s) {
         s = transform_steps::inner::step(a, na, b, nb, stage_a, slots, stage_b, slots, s);
     }
     let d = s.e;

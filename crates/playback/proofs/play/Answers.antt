@@ -1,6 +1,6 @@
 use Rattle.characters.proofs.Passed.{form_holds}
 use Rattle.playback_steps.proofs.Stages.{stands_inside, stands_size}
-use Rattle.playback.proofs.Answers.{play_refused, play_3, play_6, play_8, play_short, play_10, play_0, play_out, play_reads, play_count, play_agrees, play_room}
+use Rattle.playback.proofs.Answers.{play_refused, play_3, play_6, play_8, play_short, play_answer, play_out, play_reads, play_count, play_agrees}
 use Rattle.playback.proofs.play.Goals as goal
 
 pub returns-in_default : goal.returns-in_default
@@ -18,17 +18,11 @@ play_first-requires c = (search play_reads, search play_count, search form_holds
 pub returns-in_default-play_first : goal.returns-in_default-play_first
 returns-in_default-play_first c = play_refused _ _ _ _ _ 10 (search play_short)
 
-pub returns-then-out-n : goal.returns-then-out-n
-returns-then-out-n c = play_refused _ _ _ _ _ 10 (search play_10)
+pub slice_bounds-deliver-end : goal.slice_bounds-deliver-end
+slice_bounds-deliver-end c = search stands_inside
 
-pub slice_bounds-copy_into-end : goal.slice_bounds-copy_into-end
-slice_bounds-copy_into-end c = search stands_inside
-
-pub slice_bounds-copy_into-end-2 : goal.slice_bounds-copy_into-end-2
-slice_bounds-copy_into-end-2 c = search stands_size
-
-pub copy_into-requires : goal.copy_into-requires
-copy_into-requires c = search play_room
+pub slice_bounds-deliver-end-2 : goal.slice_bounds-deliver-end-2
+slice_bounds-deliver-end-2 c = search stands_size
 
 pub returns : goal.returns
-returns c = (search play_0, search play_out)
+returns c = (search play_answer, search play_out)
