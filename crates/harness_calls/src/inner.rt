@@ -1,359 +1,184 @@
-// Calls on a log by their names, each with its answer printed: no contract states that.
-ghost use Rattle.std.specs.Prelude.{◌≡◌, ◌≤◌, length};
+// Calls on a log by their names, each with its answer told: no contract states that.
+use answers::Refusal;
+use harness::inner::line::{Line, MOST, untouched};
+use harness::inner::show::Refused;
+use harness::inner::words::Records;
+use harness::inner::{tell, words};
+use std::alloc::{AllocError, Global};
+use std::io::Write;
 
-use answers::WrittenPair;
-use harness::inner::line::State;
-use harness::inner::{line, show, tell, words};
-
-// A buffer before its first use. The `ensures` is what lending it needs.
-pub fn untouched() -> [u8; 40000]
-    ensures { 40000 ≡ length result }
-{
-    [0xEE; 40000]
-}
-
-// The name begins with the session's letter.
-pub fn is_b(buf: &[u8]) -> bool {
-    if buf.len() == 0 {
-        return false;
-    }
-    buf[0] == b'b'
-}
-
-fn verb(word: &[u8]) -> u8 {
-    if word.len() == 0 {
-        return 0;
-    }
-    let name = &word[1..];
-    if check::same(name, b".accept") {
-        return 1;
-    }
-    if check::same(name, b".newest") {
-        return 2;
-    }
-    if check::same(name, b".relay") {
-        return 3;
-    }
-    if check::same(name, b".open") {
-        return 4;
-    }
-    if check::same(name, b".put") {
-        return 5;
-    }
-    if check::same(name, b".show") {
-        return 6;
-    }
-    if check::same(name, b".summary") {
-        return 7;
-    }
-    if check::same(name, b".play") {
-        return 8;
-    }
-    if check::same(name, b".undo") {
-        return 9;
-    }
-    0
-}
-
-// The number of two bytes that stands here, or what holds where there is none.
-fn stated(y: &[u8], at: usize, otherwise: usize) -> usize {
-    if at < y.len() {
-        if 1 < y.len() - at {
-            return words::wide(y[at]) + 256 * words::wide(y[at + 1]);
-        }
-    }
-    otherwise
-}
-
-// The `ensures` is what lending a buffer's front needs.
-fn at_most(most: usize, n: usize) -> usize
-    ensures { result ≤ most }
-{
-    if n <= most { n } else { most }
-}
-
-pub fn answer(s: State, buf: &[u8], log: &mut [u8], kept: &mut [u8]) {
-    let p = line::ends(s, buf.len());
-    let w = p.name;
-    let f = p.first;
-    let e = p.second;
-    let name = verb(&buf[0..w]);
-    let room = s.room as usize;
-    let rooms = s.rooms as usize;
-    call(
-        name,
-        &buf[w..f],
-        &buf[f..e],
-        s.number,
-        room,
-        rooms,
-        log,
-        kept,
-    );
-}
-
-fn call(
-    name: u8,
-    x: &[u8],
-    y: &[u8],
-    number: u64,
-    room: usize,
-    rooms: usize,
+// The call behind the session's letter. What an edit or an undo gives that is accepted is kept for a relay.
+pub fn answer(
+    to: &mut impl Write,
+    alloc: Global,
+    line: &Line,
     log: &mut [u8],
-    kept: &mut [u8],
-) {
-    match name {
-        1 => repeat(x, number, false, stated(y, 0, 1), room, rooms, log, kept),
-        2 => repeat(x, 0, true, stated(y, 0, 1), room, rooms, log, kept),
-        3 => relay(kept, rooms, log),
-        4 => open(number, rooms, log),
-        5 => put(x, number as usize, log),
-        9 => undo(number, x, y, room, rooms, log, kept),
-        _ => ask(name, x, number, room, rooms, log),
+    kept: &mut Vec<u8>,
+) -> std::io::Result<()> {
+    match line.name().get(1..).unwrap_or(&[]) {
+        b".accept" => accept(to, alloc, line, Some(line.number), log, kept),
+        b".newest" => accept(to, alloc, line, None, log, kept),
+        b".undo" => undo(to, alloc, line, log, kept),
+        b".relay" => relay(to, line, kept.as_slice(), log),
+        b".open" => open(to, line, log),
+        b".put" => put(to, line, log),
+        b".show" => tell::log(to, log),
+        b".summary" => summary(to, alloc, line, log),
+        b".play" => play(to, alloc, line, log),
+        _ => write!(to, "no such call"),
     }
 }
 
-// Calls that leave the log alone.
-fn ask(name: u8, x: &[u8], number: u64, room: usize, rooms: usize, log: &[u8]) {
-    match name {
-        6 => tell::log(log),
-        7 => summary(log, rooms),
-        8 => play(log, x, room, second(number, room), rooms),
-        _ => show::text(b"no such call"),
+// The number of two bytes that stands here.
+fn stated(y: &[u8], at: usize) -> Option<usize> {
+    match y.get(at..)? {
+        [low, high, ..] => Some(usize::from(u16::from_le_bytes([*low, *high]))),
+        _ => None,
     }
 }
 
-fn open(start: u64, room: usize, log: &mut [u8]) {
-    if room <= log.len() {
-        let part = &mut log[0..room];
-        let w = session_log::open(start, part);
-        tell::opened(w, part);
-    }
+fn open(to: &mut impl Write, line: &Line, log: &mut [u8]) -> std::io::Result<()> {
+    let Some(log) = log.get_mut(..line.rooms) else {
+        return Ok(());
+    };
+    let w = session_log::open(line.number, log);
+    tell::opened(to, w, log)
 }
 
-fn put(x: &[u8], at: usize, log: &mut [u8]) {
-    if 1 <= x.len() {
-        if at < log.len() {
-            tell::byte(log[at]);
-            log[at] = x[0];
+fn put(to: &mut impl Write, line: &Line, log: &mut [u8]) -> std::io::Result<()> {
+    if let Some(new) = line.first().first() {
+        if let Some(byte) = log.get_mut(line.number as usize) {
+            write!(to, "was {byte:02x}")?;
+            *byte = *new;
         }
     }
+    Ok(())
 }
 
-fn repeat(
-    edit: &[u8],
-    r: u64,
-    newest: bool,
-    often: usize,
-    room: usize,
-    rooms: usize,
-    log: &mut [u8],
-    kept: &mut [u8],
-) {
-    if room <= log.len() {
-        let part = &mut log[0..room];
-        for _ in 1..often {
-            accept(edit, r, newest, rooms, part, kept, false);
-        }
-        accept(edit, r, newest, rooms, part, kept, true);
-    }
-}
-
-// One edit is accepted, and the answer is told if it is to be.
+// An edit against revision r, or against the newest, as often as the line says; the last answer is told.
 fn accept(
-    edit: &[u8],
-    r: u64,
-    newest: bool,
-    rooms: usize,
+    to: &mut impl Write,
+    alloc: Global,
+    line: &Line,
+    r: Option<u64>,
     log: &mut [u8],
-    kept: &mut [u8],
-    aloud: bool,
-) {
-    let mut out = untouched();
-    if rooms <= 40000 {
-        accept_in(
-            edit,
-            against(r, newest, log),
-            log,
-            &mut out[0..rooms],
-            kept,
-            aloud,
-        );
+    kept: &mut Vec<u8>,
+) -> std::io::Result<()> {
+    let Some(log) = log.get_mut(..line.room) else {
+        return Ok(());
+    };
+    if MOST < line.rooms {
+        return Ok(());
     }
-}
-
-fn against(r: u64, newest: bool, log: &[u8]) -> u64 {
-    if newest { words::count(log) } else { r }
-}
-
-fn accept_in(edit: &[u8], r: u64, log: &mut [u8], out: &mut [u8], kept: &mut [u8], aloud: bool) {
-    let w = accept::accept(edit, r, log, out);
-    if aloud {
-        tell::accepted(w, log, out);
+    let mut out = untouched(alloc, line.rooms)?;
+    for _ in 1..stated(line.second(), 0).unwrap_or(1) {
+        accept_once(line.first(), r, log, &mut out, kept)?;
+        out.fill(0xEE);
     }
-    keep_parts(w, out, kept);
+    let w = accept_once(line.first(), r, log, &mut out, kept)?;
+    tell::accepted(to, w, log, &out)
 }
 
-fn keep_parts(w: WrittenPair, out: &[u8], kept: &mut [u8]) {
-    match w {
-        WrittenPair::Bytes(_, m) => keep(out, m, kept),
-        WrittenPair::Refused(_) => (),
-    }
-}
-
-// The counterparts are kept for a relay, behind the number of their bytes.
-fn keep(out: &[u8], m: usize, kept: &mut [u8]) {
-    if m <= out.len() {
-        buffers::inner::put16(kept, 0, m);
-        buffers::inner::copy(kept, 2, out, 0, m);
-    }
-}
-
-fn relay(kept: &[u8], room: usize, log: &mut [u8]) {
-    let m = words::count(kept) as usize;
-    if 2 <= kept.len() {
-        if m <= kept.len() - 2 {
-            if room <= log.len() {
-                relay_in(&kept[2..m + 2], &mut log[0..room]);
-            }
-        }
-    }
-}
-
-fn relay_in(records: &[u8], log: &mut [u8]) {
-    let before = words::count(log);
-    pass_on(records, log);
-    tell::relayed(before, log);
-}
-
-// Records, oldest first, each accepted against the newest revision.
-pub fn pass_on(records: &[u8], log: &mut [u8]) {
-    let mut at = 0;
-    for _ in 0..256usize {
-        at = taken(records, at, log);
-    }
-}
-
-// The record that stands here is accepted against the newest revision; a refusal leads to the end of all.
-fn taken(records: &[u8], at: usize, log: &mut [u8]) -> usize {
-    let next = words::past(records, at);
-    if at < next {
-        if next <= records.len() {
-            if accepts(&records[at..next], log) {
-                return next;
-            }
-        }
-    }
-    records.len()
-}
-
-// One record against the newest revision.
-pub fn accepts(rec: &[u8], log: &mut [u8]) -> bool {
-    let mut none = [0u8; 0];
+fn accept_once(
+    edit: &[u8],
+    r: Option<u64>,
+    log: &mut [u8],
+    out: &mut [u8],
+    kept: &mut Vec<u8>,
+) -> Result<WrittenPair, AllocError> {
     let newest = words::count(log);
-    passed(accept::accept(rec, newest, log, &mut none))
+    let w = accept::accept(edit, r.unwrap_or(newest), log, out);
+    keep(w, out, kept)?;
+    Ok(w)
 }
 
-// Whether it was accepted; a refusal is told.
-fn passed(w: WrittenPair) -> bool {
+// The counterparts, which stand in front of the output.
+fn keep(w: Result<(usize, usize), Refusal>, out: &[u8], kept: &mut Vec<u8>) -> Result<(), AllocError> {
     match w {
-        WrittenPair::Bytes(_, _) => true,
-        WrittenPair::Refused(x) => {
-            show::refusal(x);
-            show::text(b" after ");
-            false
-        }
-    }
-}
-
-fn summary(log: &[u8], rooms: usize) {
-    let mut out = untouched();
-    if rooms <= 40000 {
-        summary_in(log, &mut out[0..rooms]);
-    }
-}
-
-fn summary_in(log: &[u8], out: &mut [u8]) {
-    let w = summary::summary(log, out);
-    tell::summed(w, out);
-}
-
-// How many bytes the second scratch buffer has: as many as the first, unless the line has a number for it.
-fn second(number: u64, room: usize) -> usize {
-    if number == 0 { room } else { number as usize }
-}
-
-fn play(log: &[u8], text: &[u8], room: usize, other: usize, rooms: usize) {
-    let mut out = untouched();
-    let mut x = untouched();
-    let mut y = untouched();
-    if rooms <= 40000 {
-        if room <= 40000 {
-            if other <= 40000 {
-                play_in(
-                    log,
-                    text,
-                    &mut x[0..room],
-                    &mut y[0..other],
-                    &mut out[0..rooms],
-                );
+        Ok((_, m)) => {
+            if let Some(counterparts) = out.get(..m) {
+                kept.clear();
+                kept.extend_from_slice(counterparts)?;
             }
         }
+        Err(_) => (),
+    }
+    Ok(())
+}
+
+fn relay(to: &mut impl Write, line: &Line, records: &[u8], log: &mut [u8]) -> std::io::Result<()> {
+    let Some(log) = log.get_mut(..line.rooms) else {
+        return Ok(());
+    };
+    let before = words::count(log);
+    pass_on(to, records, log)?;
+    tell::relayed(to, before, log)
+}
+
+// Records, oldest first, each accepted against the newest revision, up to the first that is refused.
+pub fn pass_on(to: &mut impl Write, records: &[u8], log: &mut [u8]) -> std::io::Result<()> {
+    for record in Records(records) {
+        if !accepts(to, record, log)? {
+            break;
+        }
+    }
+    Ok(())
+}
+
+// Whether a record is accepted against the newest revision; a refusal is told.
+pub fn accepts(to: &mut impl Write, rec: &[u8], log: &mut [u8]) -> std::io::Result<bool> {
+    let newest = words::count(log);
+    match accept::accept(rec, newest, log, &mut []) {
+        Ok((_, _)) => Ok(true),
+        Err(x) => {
+            write!(to, "{} after ", Refused(x))?;
+            Ok(false)
+        }
     }
 }
 
-fn play_in(log: &[u8], text: &[u8], x: &mut [u8], y: &mut [u8], out: &mut [u8]) {
-    let w = playback::play(log, text, x, y, out);
-    tell::played(w, out);
+fn summary(to: &mut impl Write, alloc: Global, line: &Line, log: &[u8]) -> std::io::Result<()> {
+    if MOST < line.rooms {
+        return Ok(());
+    }
+    let mut out = untouched(alloc, line.rooms)?;
+    let w = summary::summary(log, &mut out);
+    tell::summed(to, w, &out)
+}
+
+// The second scratch buffer has as many bytes as the first, unless the line has a number for it.
+fn play(to: &mut impl Write, alloc: Global, line: &Line, log: &[u8]) -> std::io::Result<()> {
+    let other = match line.number {
+        0 => line.room,
+        n => n as usize,
+    };
+    if MOST < line.rooms || MOST < line.room || MOST < other {
+        return Ok(());
+    }
+    let mut x = untouched(alloc, line.room)?;
+    let mut y = untouched(alloc, other)?;
+    let mut out = untouched(alloc, line.rooms)?;
+    let w = playback::play(log, line.first(), &mut x, &mut y, &mut out);
+    tell::played(to, w, &out)
 }
 
 // The second operand has the size of the second scratch buffer, and then that of the log's.
-fn undo(k: u64, text: &[u8], y: &[u8], room: usize, rooms: usize, log: &mut [u8], kept: &mut [u8]) {
-    let size = at_most(log.len(), stated(y, 2, log.len()));
-    undo_with(
-        k,
-        text,
-        room,
-        stated(y, 0, room),
-        rooms,
-        &mut log[0..size],
-        kept,
-    );
-}
-
-fn undo_with(
-    k: u64,
-    text: &[u8],
-    room: usize,
-    other: usize,
-    rooms: usize,
+fn undo(
+    to: &mut impl Write,
+    alloc: Global,
+    line: &Line,
     log: &mut [u8],
-    kept: &mut [u8],
-) {
-    let mut out = untouched();
-    let mut x = untouched();
-    let mut y = untouched();
-    undo_in(
-        k,
-        text,
-        &mut x[0..at_most(40000, room)],
-        &mut y[0..at_most(40000, other)],
-        log,
-        &mut out[0..at_most(40000, rooms)],
-        kept,
-    );
-}
-
-fn undo_in(
-    k: u64,
-    text: &[u8],
-    x: &mut [u8],
-    y: &mut [u8],
-    log: &mut [u8],
-    out: &mut [u8],
-    kept: &mut [u8],
-) {
-    let w = undo::undo(log, k, text, x, y, out);
-    tell::accepted(w, log, out);
-    keep_parts(w, out, kept);
+    kept: &mut Vec<u8>,
+) -> std::io::Result<()> {
+    let sizes = line.second();
+    let other = stated(sizes, 0).unwrap_or(line.room);
+    let size = stated(sizes, 2).unwrap_or(log.len()).min(log.len());
+    let log = &mut log[..size];
+    let mut x = untouched(alloc, line.room.min(MOST))?;
+    let mut y = untouched(alloc, other.min(MOST))?;
+    let mut out = untouched(alloc, line.rooms.min(MOST))?;
+    let w = undo::undo(log, line.number, line.first(), &mut x, &mut y, &mut out);
+    tell::accepted(to, w, log, &out)?;
+    keep(w, &out, kept)?;
+    Ok(())
 }

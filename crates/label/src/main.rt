@@ -4,9 +4,7 @@
 // for this edit, and the server's revisions from there on.
 #![tactic(auto)]
 
-use answers::{Written, WrittenPair};
 use harness::inner::{show, tell, words};
-use session_log::inner::Scanned;
 
 // Characters that are kept, those that are deleted behind them, what is typed there, and how many are kept behind that.
 fn edit(kept: u64, deleted: u64, typed: &[u8], behind: u64, out: &mut [u8]) {
@@ -30,8 +28,8 @@ fn arrives(edit: &[u8], server: &mut [u8], copy: &mut [u8]) {
     let mut parts = [0u8; 512];
     types(edit, copy);
     match accept::accept(edit, 0, server, &mut parts) {
-        WrittenPair::Bytes(_, n) => take(&parts, 0, n, copy),
-        WrittenPair::Refused(x) => tell::reason(x),
+        Ok((_, n)) => take(&parts, 0, n, copy),
+        Err(x) => tell::reason(x),
     }
 }
 
@@ -49,16 +47,16 @@ fn play(log: &[u8], label: &[u8], out: &mut [u8]) -> usize {
     let mut x = [0u8; 256];
     let mut y = [0u8; 256];
     match playback::play(log, label, &mut x, &mut y, out) {
-        Written::Bytes(n) => n,
-        Written::Refused(_) => 0,
+        Ok(n) => n,
+        Err(_) => 0,
     }
 }
 
 // The revisions that a copy hasn't got go out to it.
 fn catches_up(server: &[u8], copy: &mut [u8]) {
     match session_log::inner::read(server, words::count(copy)) {
-        Scanned::Unreadable => (),
-        Scanned::Of(s) => take(server, s.at, s.size, copy),
+        None => (),
+        Some(s) => take(server, s.at, s.size, copy),
     }
 }
 
@@ -142,8 +140,8 @@ fn own(name: &[u8], label: &[u8], edit: &[u8]) {
 fn comes(edit: &[u8], r: u64, server: &mut [u8]) {
     let mut parts = [0u8; 512];
     match accept::accept(edit, r, server, &mut parts) {
-        WrittenPair::Bytes(_, _) => (),
-        WrittenPair::Refused(x) => tell::reason(x),
+        Ok((_, _)) => (),
+        Err(x) => tell::reason(x),
     }
 }
 
@@ -173,8 +171,8 @@ fn take_back(k: u64, label: &[u8], log: &mut [u8], parts: &mut [u8]) -> usize {
     let mut x = [0u8; 256];
     let mut y = [0u8; 256];
     match undo::undo(log, k, label, &mut x, &mut y, parts) {
-        WrittenPair::Bytes(_, n) => n,
-        WrittenPair::Refused(x) => {
+        Ok((_, n)) => n,
+        Err(x) => {
             tell::reason(x);
             0
         }

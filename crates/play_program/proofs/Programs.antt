@@ -27,28 +27,20 @@ prefix = 0x72 ∷ 0x65 ∷ 0x66 ∷ 0x75 ∷ 0x73 ∷ 0x65 ∷ 0x64 ∷ 0x20 ∷
 stands : (w o c : List ℕ) → length w ≤ length o → c ≡ over 0 w o → Writes w o (length w) c
 stands w o c h e = record { size = refl; inside = omega (arith, ap length e, length_over 0 w o); out = e ∙ over_front w o h }
 
-module _ (o c₁ c₂ c₃ : List ℕ) (h : length o ≡ 65536) (k n : ℕ) (e : k ≡ n) (p₁ : c₁ ≡ over 0 prefix o) where
-  pub complain_short : k < 10 → c₂ ≡ over 8 ((48 + k) ∷ []) c₁ → c₃ ≡ over 9 (10 ∷ []) c₂ → Writes (complaint n) o 10 c₃
+module _ (o c₁ c₂ : List ℕ) (h : length o ≡ 65536) (k n : ℕ) (e : k ≡ n) (p₁ : c₁ ≡ over 0 prefix o) where
+  pub complain_short : k < 10 → c₂ ≡ over 8 ((48 + k) ∷ 10 ∷ []) c₁ → Writes (complaint n) o 10 c₂
   unfolding complaint
-  complain_short l p₂ p₃ =
-      let w = prefix ++ (48 + k) ∷ 10 ∷ [] in
-      let z : c₃ ≡ over 0 w o =
-      p₃
-      ∙ ap (over 9 (10 ∷ [])) (p₂ ∙ ap (over 8 ((48 + k) ∷ [])) p₁ ∙ over_join 0 prefix ((48 + k) ∷ []) o)
-      ∙ over_join 0 (prefix ++ (48 + k) ∷ []) (10 ∷ []) o in
-      rw (← e, lt-ltb k 10 l) (stands w o c₃ (omega arith) z)
+  complain_short l p₂ =
+      let x = (48 + k) ∷ 10 ∷ [] in
+      let z : c₂ ≡ over 0 (prefix ++ x) o = p₂ ∙ ap (over 8 x) p₁ ∙ over_join 0 prefix x o in
+      rw (← e, lt-ltb k 10 l) (stands (prefix ++ x) o c₂ (omega arith) z)
 
-  pub complain_long : (c₄ : List ℕ) → 10 ≤ k → c₂ ≡ over 8 ((48 + k / 10) ∷ []) c₁ → c₃ ≡ over 9 ((48 + k % 10) ∷ []) c₂ → c₄ ≡ over 10 (10 ∷ []) c₃ → Writes (complaint n) o 11 c₄
+  pub complain_long : 10 ≤ k → c₂ ≡ over 8 ((48 + k / 10) ∷ (48 + k % 10) ∷ 10 ∷ []) c₁ → Writes (complaint n) o 11 c₂
   unfolding complaint
-  complain_long c₄ l p₂ p₃ p₄ =
-      let x = (48 + k / 10) ∷ [] in
-      let y = (48 + k % 10) ∷ [] in
-      let w = prefix ++ (48 + k / 10) ∷ (48 + k % 10) ∷ 10 ∷ [] in
-      let z : c₄ ≡ over 0 w o =
-      p₄
-      ∙ ap (over 10 (10 ∷ [])) (p₃ ∙ ap (over 9 y) (p₂ ∙ ap (over 8 x) p₁ ∙ over_join 0 prefix x o) ∙ over_join 0 (prefix ++ x) y o)
-      ∙ over_join 0 (prefix ++ x ++ y) (10 ∷ []) o in
-      rw (← e, le-ltb k 10 l) (stands w o c₄ (omega arith) z)
+  complain_long l p₂ =
+      let x = (48 + k / 10) ∷ (48 + k % 10) ∷ 10 ∷ [] in
+      let z : c₂ ≡ over 0 (prefix ++ x) o = p₂ ∙ ap (over 8 x) p₁ ∙ over_join 0 prefix x o in
+      rw (← e, le-ltb k 10 l) (stands (prefix ++ x) o c₂ (omega arith) z)
 
 -- ---- the program
 

@@ -54,12 +54,10 @@ fn complain(out: &mut [u8], x: Refusal) -> usize
     let k = x.number();
     buffers::inner::copy(out, 0, b"refused ", 0, 8);
     if k < 10 {
-        buffers::inner::put(out, 8, 48 + k);
-        buffers::inner::put(out, 9, 10);
-        return 10;
+        buffers::inner::copy(out, 8, &[b'0' + k, b'\n'], 0, 2);
+        10
+    } else {
+        buffers::inner::copy(out, 8, &[b'0' + k / 10, b'0' + k % 10, b'\n'], 0, 3);
+        11
     }
-    buffers::inner::put(out, 8, 48 + k / 10);
-    buffers::inner::put(out, 9, 48 + k % 10);
-    buffers::inner::put(out, 10, 10);
-    11
 }

@@ -11,14 +11,18 @@
 // The calls 8 to 10 have no output: what would be written is the number asked for, in 2 bytes; 1 or 0 for is_noop.
 #![tactic(auto)]
 
-ghost use Rattle.std.specs.Prelude.{◌≡◌, ◌≤◌, length};
-
-use std::env;
+use call::name;
+use case::Case;
+use std::alloc::Global;
 use std::fs::File;
-use std::os::fd::AsRawFd;
+use std::io::{BufWriter, Read, Write};
+use std::{env, fmt};
 
-mod bytes;
-mod calls;
+mod call;
+mod case;
+
+// Of a part no more bytes are read.
+const PART: u64 = 131072;
 
 #[derive(Clone, Copy)]
 struct Tally {
@@ -26,91 +30,65 @@ struct Tally {
     differ: u64,
 }
 
-#[derive(Clone, Copy)]
-struct Seen {
-    size: usize,
-    agrees: bool,
-}
-
-fn space() -> [u8; 131072]
-    ensures { 131072 ≡ length result }
-{
-    [0; 131072]
-}
-
-// The case that these bytes begin with. One that is cut off takes all of them, and differs.
-fn one(s: &[u8]) -> Seen
-    requires { 1 ≤ length s.now }
-    ensures { (1 ≤ result.size) × (result.size ≤ length s.now) }
-{
-    let b = 14 + bytes::word(s, 2);
-    let x = b + bytes::word(s, 4);
-    let y = x + bytes::word(s, 10);
-    let end = y + bytes::word(s, 12);
-    if s.len() < end {
-        return Seen {
-            size: s.len(),
-            agrees: false,
-        };
-    }
-    let agrees = calls::agrees(&s[0..14], &s[14..b], &s[b..x], &s[x..y], &s[y..end]);
-    Seen { size: end, agrees }
-}
-
-// A case more. One that differs is named.
-fn counted(t: Tally, call: u8, agrees: bool) -> Tally {
-    let cases = std::num::wrapping_add_u64(t.cases, 1);
-    if agrees {
-        return Tally {
-            cases,
-            differ: t.differ,
-        };
-    }
-    calls::name(call);
-    io::write_all(1, b"case ");
-    io::print_decimal(1, cases);
-    io::write_all(1, b" differs\n");
-    Tally {
-        cases,
-        differ: std::num::wrapping_add_u64(t.differ, 1),
+impl fmt::Display for Tally {
+    fn fmt<W: fmt::Write>(&self, f: &mut fmt::Formatter<W>) -> fmt::Result {
+        let agree = self.cases.saturating_sub(self.differ);
+        write!(
+            f,
+            "{} cases: {agree} agree, {} differ",
+            self.cases, self.differ
+        )
     }
 }
 
-fn replay(list: &[u8], t: Tally) -> Tally {
-    let mut tally = t;
-    let mut at = 0;
-    while at < list.len() {
-        let seen = one(&list[at..]);
-        tally = counted(tally, list[at], seen.agrees);
-        at += seen.size;
+impl Tally {
+    // A case more. One that differs is named.
+    fn count(&mut self, to: &mut impl Write, call: u8, agrees: bool) -> std::io::Result<()> {
+        self.cases = self.cases.saturating_add(1);
+        if !agrees {
+            self.differ = self.differ.saturating_add(1);
+            if let Some(name) = name(call) {
+                write!(to, "{name:<11}")?;
+            }
+            writeln!(to, "case {} differs", self.cases)?;
+        }
+        Ok(())
     }
-    tally
-}
 
-fn part(rt: &HostRuntime, name: &str, t: Tally) -> std::io::Result<Tally> {
-    let file = File::open(rt, name)?;
-    let mut list = space();
-    let n = io::read_full(file.as_raw_fd(), &mut list);
-    Ok(replay(&list[..n], t))
-}
-
-fn print(t: Tally) {
-    io::print_decimal(1, t.cases);
-    io::write_all(1, b" cases: ");
-    io::print_decimal(1, std::num::wrapping_sub_u64(t.cases, t.differ));
-    io::write_all(1, b" agree, ");
-    io::print_decimal(1, t.differ);
-    io::write_all(1, b" differ\n");
+    // A case that is cut off takes all that is left, and differs.
+    fn replay(&mut self, to: &mut impl Write, alloc: Global, list: &[u8]) -> std::io::Result<()> {
+        let mut rest = list;
+        while let Some(call) = rest.first() {
+            let agrees = match Case::split(rest) {
+                Some((case, behind)) => {
+                    rest = behind;
+                    case.agrees(alloc)?
+                }
+                None => {
+                    rest = &[];
+                    false
+                }
+            };
+            self.count(to, *call, agrees)?;
+        }
+        Ok(())
+    }
 }
 
 fn main(rt: HostRuntime) -> std::io::Result<()> {
-    let mut t = Tally {
+    let alloc = rt.alloc();
+    let mut to = BufWriter::new(alloc, std::io::writer(&rt))?;
+    let mut tally = Tally {
         cases: 0,
         differ: 0,
     };
     for name in env::args(&rt)?.skip(1) {
-        t = part(&rt, name.as_str(), t)?;
+        let mut list = Vec::new(alloc);
+        File::open(&rt, name.as_str())?
+            .take(PART)
+            .read_to_end(&mut list)?;
+        tally.replay(&mut to, alloc, &list)?;
     }
-    print(t);
-    Ok(())
+    writeln!(to, "{tally}")?;
+    to.flush()
 }

@@ -1,162 +1,145 @@
-// Answers in words on standard output.
+// Answers of the calls on a log, with what the log has then.
+use crate::inner::show::{Bytes, Refused};
 use crate::inner::{show, words};
-use answers::{Refusal, Written, WrittenPair};
-use session_log::inner::{Scan, Scanned};
+use answers::Refusal;
+use session_log::inner::Scan;
+use std::fmt;
+use std::io::Write;
 
-fn revisions(n: u64) {
-    show::number(n);
-    if n == 1 {
-        show::text(b" revision");
-    } else {
-        show::text(b" revisions");
+// How many revisions there are.
+#[derive(Clone, Copy)]
+struct Revisions(u64);
+
+impl fmt::Display for Revisions {
+    fn fmt<W: fmt::Write>(&self, f: &mut fmt::Formatter<W>) -> fmt::Result {
+        match self.0 {
+            1 => f.write_str("1 revision"),
+            n => write!(f, "{n} revisions"),
+        }
     }
 }
 
 // A refusal with its reason.
-pub fn reason(x: Refusal) {
-    show::refusal(x);
-    match x {
-        Refusal::Size => show::text(b": a buffer is too short, or a size passes its limit"),
-        Refusal::Entry => show::text(
-            b": an unknown kind, a count of 0, or insert counts that don't add up",
-        ),
-        Refusal::Utf8 => show::text(b": a text that isn't well-formed UTF-8"),
-        Refusal::Neighbours => show::text(
-            b": two neighbours of one kind, or an insert directly behind a delete",
-        ),
-        Refusal::Sums => show::text(b": a stated base or target that isn't the sum"),
-        Refusal::Log => show::text(b": a log that can't be read"),
-        Refusal::Revision => show::text(b": a revision that the log doesn't have"),
-        Refusal::IncompatibleLengths => show::text(b": two lengths that have to agree and differ"),
-        Refusal::Limit => show::text(b": a result that would pass a limit"),
-        Refusal::Room => show::text(b": a buffer too short for what goes into it"),
-        Refusal::Json => show::text(
-            b": not a JSON list of positive and negative whole numbers and strings",
-        ),
+#[derive(Clone, Copy)]
+pub struct Reason(pub Refusal);
+
+impl fmt::Display for Reason {
+    fn fmt<W: fmt::Write>(&self, f: &mut fmt::Formatter<W>) -> fmt::Result {
+        let reason = match self.0 {
+            Refusal::Size => "a buffer is too short, or a size passes its limit",
+            Refusal::Entry => "an unknown kind, a count of 0, or insert counts that don't add up",
+            Refusal::Utf8 => "a text that isn't well-formed UTF-8",
+            Refusal::Neighbours => {
+                "two neighbours of one kind, or an insert directly behind a delete"
+            }
+            Refusal::Sums => "a stated base or target that isn't the sum",
+            Refusal::Log => "a log that can't be read",
+            Refusal::Revision => "a revision that the log doesn't have",
+            Refusal::IncompatibleLengths => "two lengths that have to agree and differ",
+            Refusal::Limit => "a result that would pass a limit",
+            Refusal::Room => "a buffer too short for what goes into it",
+            Refusal::Json => "not a JSON list of positive and negative whole numbers and strings",
+        };
+        write!(f, "{}: {reason}", Refused(self.0))
     }
 }
 
 // The answer, what the log has then, and the counterparts with the whole output.
-pub fn accepted(w: WrittenPair, log: &[u8], out: &[u8]) {
+pub fn accepted(
+    to: &mut impl Write,
+    w: Result<(usize, usize), Refusal>,
+    log: &[u8],
+    out: &[u8],
+) -> std::io::Result<()> {
     match w {
-        WrittenPair::Bytes(n, m) => {
-            show::number(n as u64);
-            show::text(b" ");
-            show::number(m as u64);
-            newest(log);
-            show::text(b"; counterparts ");
-            front(out, m);
+        Ok((n, m)) => {
+            write!(to, "{n} {m}; ")?;
+            newest(to, log)?;
+            write!(to, "; counterparts ")?;
+            part(to, out, 0, m)?;
         }
-        WrittenPair::Refused(x) => {
-            show::refusal(x);
-            show::text(b"; ");
-            revisions(words::count(log));
+        Err(x) => {
+            write!(to, "{}; {}", Refused(x), Revisions(words::count(log)))?;
         }
     }
-    show::text(b"; output ");
-    show::bytes(out);
-}
-
-fn front(out: &[u8], m: usize) {
-    if m <= out.len() {
-        words::records(&out[0..m]);
-    }
+    write!(to, "; output {}", Bytes(out))
 }
 
 // The newest revision.
-fn newest(log: &[u8]) {
+fn newest(to: &mut impl Write, log: &[u8]) -> std::io::Result<()> {
     let count = words::count(log);
-    show::text(b"; revision ");
-    show::number(count);
-    show::text(b" is ");
+    write!(to, "revision {count} is ")?;
     if 1 <= count {
         match session_log::inner::read(log, count - 1) {
-            Scanned::Unreadable => show::text(b"unreadable"),
-            Scanned::Of(s) => part(log, s.at, s.size),
+            None => write!(to, "unreadable")?,
+            Some(s) => part(to, log, s.at, s.size)?,
         }
+    }
+    Ok(())
+}
+
+// The records that stand there.
+fn part(to: &mut impl Write, bytes: &[u8], from: usize, end: usize) -> std::io::Result<()> {
+    match bytes.get(from..end) {
+        Some(records) => words::ends(to, records),
+        None => Ok(()),
     }
 }
 
-fn part(log: &[u8], from: usize, to: usize) {
-    if from <= to {
-        if to <= log.len() {
-            words::records(&log[from..to]);
-        }
-    }
-}
-
-pub fn relayed(before: u64, log: &[u8]) {
+pub fn relayed(to: &mut impl Write, before: u64, log: &[u8]) -> std::io::Result<()> {
     let count = words::count(log);
     if before <= count {
-        show::number(count - before);
-        show::text(b" accepted; ");
+        write!(to, "{} accepted; ", count - before)?;
     }
-    revisions(count);
+    write!(to, "{}", Revisions(count))
 }
 
-pub fn opened(w: Written, log: &[u8]) {
-    number(w);
-    show::text(b"; ");
-    revisions(words::count(log));
+pub fn opened(to: &mut impl Write, w: Result<usize, Refusal>, log: &[u8]) -> std::io::Result<()> {
+    let revisions = Revisions(words::count(log));
+    write!(to, "{}; {revisions}", show::Answer(w))
 }
 
-fn number(w: Written) {
+pub fn summed(to: &mut impl Write, w: Result<usize, Refusal>, out: &[u8]) -> std::io::Result<()> {
+    write!(to, "{}", show::Answer(w))?;
     match w {
-        Written::Bytes(n) => show::number(n as u64),
-        Written::Refused(x) => show::refusal(x),
-    }
-}
-
-pub fn byte(old: u8) {
-    show::text(b"was ");
-    io::print_hex(1, words::wide(old) as u64, 2);
-}
-
-pub fn summed(w: Written, out: &[u8]) {
-    number(w);
-    match w {
-        Written::Bytes(n) => {
-            show::text(b"; ");
-            front(out, n);
+        Ok(n) => {
+            write!(to, "; ")?;
+            part(to, out, 0, n)?;
         }
-        Written::Refused(_) => (),
+        Err(_) => (),
     }
-    show::text(b"; output ");
-    show::bytes(out);
+    write!(to, "; output {}", Bytes(out))
 }
 
-pub fn played(w: Written, out: &[u8]) {
-    number(w);
+pub fn played(to: &mut impl Write, w: Result<usize, Refusal>, out: &[u8]) -> std::io::Result<()> {
+    write!(to, "{}", show::Answer(w))?;
     match w {
-        Written::Bytes(n) => {
-            show::text(b"; ");
-            if n <= out.len() {
-                words::text(&out[0..n]);
+        Ok(n) => {
+            write!(to, "; ")?;
+            if let Some(text) = out.get(..n) {
+                words::text(to, text)?;
             }
         }
-        Written::Refused(_) => (),
+        Err(_) => (),
     }
+    Ok(())
 }
 
 // The contents, and the whole buffer.
-pub fn log(log: &[u8]) {
+pub fn log(to: &mut impl Write, log: &[u8]) -> std::io::Result<()> {
     match session_log::inner::read(log, 0) {
-        Scanned::Unreadable => show::text(b"unreadable"),
-        Scanned::Of(s) => contents(log, s),
+        None => write!(to, "unreadable")?,
+        Some(s) => contents(to, log, s)?,
     }
-    show::text(b"; buffer ");
-    show::bytes(log);
+    write!(to, "; buffer {}", Bytes(log))
 }
 
-fn contents(log: &[u8], s: Scan) {
-    let size = s.size;
-    revisions(s.count as u64);
-    show::text(b" from length ");
-    show::number(s.start as u64);
-    show::text(b": ");
-    part(log, 4, size);
-    if size <= log.len() {
-        show::text(b"; contents ");
-        show::bytes(&log[0..size]);
+fn contents(to: &mut impl Write, log: &[u8], s: Scan) -> std::io::Result<()> {
+    let revisions = Revisions(s.count as u64);
+    write!(to, "{revisions} from length {}: ", s.start)?;
+    part(to, log, session_log::inner::LOG_HEADER, s.size)?;
+    if let Some(written) = log.get(..s.size) {
+        write!(to, "; contents {}", Bytes(written))?;
     }
+    Ok(())
 }

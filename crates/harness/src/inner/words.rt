@@ -1,130 +1,102 @@
 // Records in words: R, I and D with their counts and texts.
-ghost use Rattle.std.specs.Prelude.{◌<◌};
+ghost use Rattle.std.specs.Prelude.{length};
+ghost use Rattle.std.specs.Iterator.{at_most};
 
-use crate::inner::show;
-use answers::Fact;
-use walker::{Found, Kind};
+use crate::inner::show::Bytes;
+use std::io::Write;
+use walker::{Kind, Op};
 
-pub fn wide(x: u8) -> usize
-    ensures { result < 256 }
-{
-    x as usize
-}
+// So many operations of a record are told.
+const SHOWN: usize = 8;
 
 // The number of revisions that a log states.
 pub fn count(log: &[u8]) -> u64 {
-    if log.len() < 2 {
-        return 0;
-    }
-    (wide(log[0]) + 256 * wide(log[1])) as u64
-}
-
-// Where the record that stands here ends; where there is none, the end of all.
-pub fn past(buf: &[u8], at: usize) -> usize {
-    if buf.len() <= at {
-        return buf.len();
-    }
-    match operation::check(&buf[at..]) {
-        Fact::Is(n) => {
-            if buf.len() - at < n {
-                buf.len()
-            } else {
-                at + n
-            }
-        }
-        Fact::Refused(_) => buf.len(),
+    match log {
+        [low, high, ..] => u64::from(u16::from_le_bytes([*low, *high])),
+        _ => 0,
     }
 }
 
-// Where the last of the records begins that fill the buffer.
-fn last(buf: &[u8]) -> usize {
-    let mut at = 0;
-    for _ in 0..256usize {
-        let next = past(buf, at);
-        if next < buf.len() {
-            at = next;
+// The records that fill these bytes; what is no record goes on to the end.
+#[derive(Clone, Copy)]
+pub struct Records<'a>(pub &'a [u8]);
+
+impl<'a> Iterator for Records<'a> {
+    type Item = &'a [u8];
+
+    ghost remaining = { λ s. at_most (length s.0.now) };
+
+    fn next(&mut self) -> Option<&'a [u8]> {
+        if self.0.is_empty() {
+            return None;
         }
+        let size = match operation::check(self.0) {
+            Ok(n) if 0 < n && n < self.0.len() => n,
+            _ => self.0.len(),
+        };
+        let (record, rest) = self.0.split_at(size);
+        self.0 = rest;
+        Some(record)
     }
-    at
 }
 
-// The records that fill the buffer: the first and the last.
-pub fn records(buf: &[u8]) {
-    if buf.len() == 0 {
-        show::text(b"none");
-        return;
-    }
-    record(buf);
-    let end = last(buf);
-    if 0 < end {
-        if past(buf, 0) < end {
-            show::text(b", ..");
+// The first and the last.
+pub fn ends(to: &mut impl Write, bytes: &[u8]) -> std::io::Result<()> {
+    let mut all = Records(bytes);
+    let Some(first) = all.next() else {
+        return write!(to, "none");
+    };
+    record(to, first)?;
+    let Some(second) = all.next() else {
+        return Ok(());
+    };
+    match all.last() {
+        None => {
+            write!(to, ", ")?;
+            record(to, second)
         }
-        if end <= buf.len() {
-            show::text(b", ");
-            record(&buf[end..]);
+        Some(last) => {
+            write!(to, ", .., ")?;
+            record(to, last)
         }
     }
 }
 
 // At most its first eight operations.
-fn record(rec: &[u8]) {
-    if !there(walker::step(rec, 0)) {
-        show::text(b"empty");
-    }
-    for k in 0..8 {
-        operation(rec, k);
-    }
-    if there(walker::step(rec, 8)) {
-        show::text(b" ..");
-    }
-}
-
-fn there(f: Found) -> bool {
-    match f {
-        Found::Op { kind: _, count: _ } => true,
-        Found::End => false,
-    }
-}
-
-fn operation(rec: &[u8], k: usize) {
-    match walker::step(rec, k) {
-        Found::Op { kind, count } => {
-            if 0 < k {
-                show::text(b" ");
-            }
-            named(kind, count as u64, operation::insert_text(rec, k));
+fn record(to: &mut impl Write, rec: &[u8]) -> std::io::Result<()> {
+    for k in 0..SHOWN {
+        let Some(op) = walker::step(rec, k) else {
+            return if k == 0 { write!(to, "empty") } else { Ok(()) };
+        };
+        if 0 < k {
+            write!(to, " ")?;
         }
-        Found::End => (),
+        named(to, op, operation::insert_text(rec, k))?;
+    }
+    match walker::step(rec, SHOWN) {
+        Some(_) => write!(to, " .."),
+        None => Ok(()),
     }
 }
 
-fn named(kind: Kind, count: u64, inserted: &[u8]) {
-    match kind {
-        Kind::Retain => {
-            show::text(b"R");
-            show::number(count);
-        }
+fn named(to: &mut impl Write, op: Op, inserted: &[u8]) -> std::io::Result<()> {
+    match op.kind {
+        Kind::Retain => write!(to, "R{}", op.count),
         Kind::Insert => {
-            show::text(b"I");
-            text(inserted);
+            write!(to, "I")?;
+            text(to, inserted)
         }
-        Kind::Delete => {
-            show::text(b"D");
-            show::number(count);
-        }
+        Kind::Delete => write!(to, "D{}", op.count),
     }
 }
 
 // Short ones in quotes; of long ones the length and a sum.
-pub fn text(t: &[u8]) {
+pub fn text(to: &mut impl Write, t: &[u8]) -> std::io::Result<()> {
     if t.len() <= 64 {
-        show::text(b"\"");
-        show::text(t);
-        show::text(b"\"");
+        write!(to, "\"")?;
+        to.write_all(t)?;
+        write!(to, "\"")
     } else {
-        show::text(b"(");
-        show::bytes(t);
-        show::text(b")");
+        write!(to, "({})", Bytes(t))
     }
 }

@@ -4,5 +4,5 @@ use Rattle.play_program.proofs.complain.Goals as goal
 pub returns-then-k-lt10 : goal.returns-then-k-lt10
 returns-then-k-lt10 c = search complain_short
 
-pub returns : goal.returns
-returns c = search complain_long
+pub returns-else-k-lt10 : goal.returns-else-k-lt10
+returns-else-k-lt10 c = search complain_long
