@@ -3,8 +3,7 @@
 ghost use Rattle.std.specs.Prelude.{◌≡◌, ◌^◌, ◌<◌, ◌≤◌, ◌&&◌, length, drop};
 ghost use Rattle.characters.specs.Form.{is_well_formed};
 ghost use Rattle.edits.specs.Op.{retain, delete};
-ghost use Rattle.record.specs.Layout.{start_of_text, max_size};
-ghost use Rattle.emitter.specs.InnerEmit.{Under, within_limits};
+ghost use Rattle.record.specs.Layout.{start_of_text};
 ghost use Rattle.json_lists.specs.Form.{after_comma, at_start, at_end, reached, is_end};
 ghost use Rattle.json_values.specs.InnerValues.{NoSpace};
 ghost use Rattle.json_read.specs.InnerReading.{Holds, Feeds, FeedsRetain, FeedsText, Sized, FeedsValue, over_text};
