@@ -5,7 +5,6 @@ use harness::inner::show;
 use harness::inner::show::{Bytes, Step, YesOrNo};
 use std::alloc::Global;
 use std::io::Write;
-use walker::Found;
 
 pub(crate) fn answer(to: &mut impl Write, alloc: Global, line: &Line) -> std::io::Result<()> {
     let (a, b, n) = (line.first(), line.second(), line.number);
@@ -37,7 +36,7 @@ fn walk(to: &mut impl Write, rec: &[u8]) -> std::io::Result<()> {
     for at in 0..1025 {
         let step = walker::step(rec, at);
         write!(to, "{}", Step(step))?;
-        if let Found::End = step {
+        if step.is_none() {
             break;
         }
         write!(to, ", ")?;

@@ -85,7 +85,7 @@ fn accept_once(
     log: &mut [u8],
     out: &mut [u8],
     kept: &mut Vec<u8>,
-) -> Result<WrittenPair, AllocError> {
+) -> Result<Result<(usize, usize), Refusal>, AllocError> {
     let newest = words::count(log);
     let w = accept::accept(edit, r.unwrap_or(newest), log, out);
     keep(w, out, kept)?;
