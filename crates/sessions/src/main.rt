@@ -21,62 +21,23 @@
 // last are printed, and of a record its first eight operations.
 #![tactic(auto)]
 
-ghost use Rattle.std.specs.Prelude.{◌≤◌};
+use harness::inner::line;
+use harness_calls::inner::answer;
+use std::io::{BufWriter, Write};
 
-use harness::inner::line::State;
-use harness::inner::{line, show};
-
-// A session's log has this many bytes, and that of `b` stands behind that of `a`.
-const LOG: usize = 40000;
-
-// Where the log stands that a line is about: the line begins with the session's letter. The `ensures` is what taking it out needs.
-fn log_of(buf: &[u8]) -> usize
-    ensures { result ≤ 40000 }
-{
-    if harness_calls::inner::is_b(buf) {
-        LOG
-    } else {
-        0
-    }
-}
-
-// A line's answer is printed behind it.
-fn run(s: State, buf: &[u8], logs: &mut [u8], kept: &mut [u8]) {
-    if s.mode == 6 {
-        return;
-    }
-    show::text(b" -> ");
-    let from = log_of(buf);
-    if from + LOG <= logs.len() {
-        harness_calls::inner::answer(s, buf, &mut logs[from..from + LOG], kept);
-    }
-}
-
-// The line that begins at `from`; where the next one begins.
-fn one(input: &[u8], from: usize, buf: &mut [u8], logs: &mut [u8], kept: &mut [u8]) -> usize {
-    let s = line::read(input, from, buf);
-    show::line(input, s);
-    run(s, buf, logs, kept);
-    show::text(b"\n");
-    s.next
-}
-
-// There are no more lines than bytes.
-fn lines(input: &[u8], buf: &mut [u8], logs: &mut [u8], kept: &mut [u8]) {
-    let mut at = 0;
-    for _ in 0..input.len() {
-        if input.len() <= at {
-            return;
+fn main(rt: HostRuntime) -> std::io::Result<()> {
+    let alloc = rt.alloc();
+    let input = line::input(&rt)?;
+    let mut to = BufWriter::new(alloc, std::io::writer(&rt))?;
+    let mut a = line::untouched(alloc, line::MOST)?;
+    let mut b = line::untouched(alloc, line::MOST)?;
+    let mut kept = Vec::new(alloc);
+    line::answered(&mut to, alloc, &input, |to, line| {
+        // The session's letter begins the line.
+        match line.name() {
+            [b'b', ..] => answer(to, alloc, line, &mut b, &mut kept),
+            _ => answer(to, alloc, line, &mut a, &mut kept),
         }
-        at = one(input, at, buf, logs, kept);
-    }
-}
-
-fn main() {
-    let mut input = io::large_buffer();
-    let n = io::read_full(0, &mut input);
-    let mut buf = [0u8; 131072];
-    let mut logs = [0xEEu8; 80000];
-    let mut kept = [0u8; 40002];
-    lines(&input[..n], &mut buf, &mut logs, &mut kept);
+    })?;
+    to.flush()
 }

@@ -1,8 +1,0 @@
-use Rattle.std.specs.Prelude.{◌≡◌, ◌-◌, ◌≤◌, length}
-use Rattle.sessions.proofs.lines.Given as goal
-
-abbrev pub invariant-loop : goal.invariant-loop
-invariant-loop l = (l.counter ≤ l.end) × (length l.buf ≡ length l.initial.buf) × (length l.logs ≡ length l.initial.logs) × (length l.kept ≡ length l.initial.kept)
-
-abbrev pub decreases-loop : goal.decreases-loop
-decreases-loop l = l.end - l.counter
