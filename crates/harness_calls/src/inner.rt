@@ -72,7 +72,7 @@ fn accept(
     }
     let mut out = untouched(alloc, line.rooms)?;
     for _ in 1..stated(line.second(), 0).unwrap_or(1) {
-        accept_once(line.first(), r, log, &mut out, kept)?;
+        let _ = accept_once(line.first(), r, log, &mut out, kept)?;
         out.fill(0xEE);
     }
     let w = accept_once(line.first(), r, log, &mut out, kept)?;

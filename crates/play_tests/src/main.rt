@@ -5,18 +5,12 @@ use std::env;
 use std::fs::File;
 use std::os::fd::AsRawFd;
 
-fn case(rt: &HostRuntime, name: &str) -> std::io::Result<()> {
-    io::write_all(1, name.as_bytes());
-    io::write_all(1, b": ");
-    let file = File::open(rt, name)?;
-    play_program::inner::serve(file.as_raw_fd());
-    io::write_all(1, b"\n");
-    Ok(())
-}
-
 fn main(rt: HostRuntime) -> std::io::Result<()> {
     for name in env::args(&rt)?.skip(1) {
-        case(&rt, name.as_str())?;
+        print!(rt; "{name}: ")?;
+        let file = File::open(&rt, name.as_str())?;
+        play_program::inner::serve(file.as_raw_fd());
+        println!(rt)?;
     }
     Ok(())
 }
