@@ -11,6 +11,7 @@ ghost use Rattle.json_read.specs.InnerReading.{Holds, Feeds, FeedsRetain, FeedsT
 ghost use Rattle.json_read.specs.InnerReading.{FollowsAt, ItemFollowed, ValuesRead, OpeningAt, FinishedBy, ListRead};
 
 use emitter::inner::Emitter;
+use json_lists::inner::{BEGIN_ARRAY, COMMA, END_ARRAY};
 use json_values::inner::Value;
 use record::inner::MAX_SIZE;
 
@@ -83,12 +84,6 @@ fn add_value(out: &mut [u8], n: usize, e: Emitter, v: Value) -> Emitter
         } => add_insert(out, n, e, bytes, chars),
     }
 }
-
-const COMMA: u8 = 0x2C;
-
-const BEGIN_ARRAY: u8 = 0x5B;
-
-const END_ARRAY: u8 = 0x5D;
 
 // What follows a value: a comma, with the place of the next value; the end of the list, with the place behind it; or neither.
 #[derive(Clone, Copy)]
