@@ -4,9 +4,7 @@ ghost use Rattle.json_lists.specs.Form.{after_escape, after_high};
 ghost use Rattle.json_lists.specs.InnerRuns.{width as width_of};
 ghost use Rattle.json_escapes.specs.InnerEscapes.{hex_or_none, short_or_none, Hex4At, after_u, EscapeAt, StringScanned};
 
-const QUOTATION_MARK: u8 = 0x22;
-
-const BACKSLASH: u8 = 0x5C;
+use json_lists::inner::{BACKSLASH, QUOTATION_MARK};
 
 // The letter behind a backslash that four hexadecimal digits follow.
 const LETTER_U: u8 = 0x75;

@@ -10,6 +10,7 @@ ghost use Rattle.json_read.specs.InnerReading.{Holds, Feeds, FeedsRetain, FeedsT
 ghost use Rattle.json_read.specs.InnerReading.{FollowsAt, ValuesRead, OpeningAt, FinishedBy, ListRead};
 
 use emitter::inner::Emitter;
+use json_lists::inner::{BEGIN_ARRAY, COMMA, END_ARRAY};
 use json_values::inner::Value;
 use record::inner::MAX_SIZE;
 
@@ -72,12 +73,6 @@ fn add_value(out: &mut [u8], n: usize, e: Emitter, v: Value) -> Emitter
         Value::Insert { bytes, chars } => add_insert(out, n, e, bytes, chars),
     }
 }
-
-const COMMA: u8 = 0x2C;
-
-const BEGIN_ARRAY: u8 = 0x5B;
-
-const END_ARRAY: u8 = 0x5D;
 
 // What comes next in a list: a value, with its place, or the end of the list, with the place behind its bracket.
 #[derive(Clone, Copy, Debug, PartialEq, Eq)]

@@ -7,9 +7,7 @@ ghost use Rattle.characters.specs.Scalar.{encode_scalar};
 ghost use Rattle.json_lists.specs.Form.{in_string, after_escape, after_value, at_start, items, in_form};
 ghost use Rattle.json_texts.specs.InnerTexts.{texts, Ready, Moved};
 
-const QUOTATION_MARK: u8 = 0x22;
-
-const BACKSLASH: u8 = 0x5C;
+use json_lists::inner::{BACKSLASH, QUOTATION_MARK};
 
 // Each of these writes a scalar value that has so many bytes.
 fn two(out: &mut [u8], at: usize, code: usize)
