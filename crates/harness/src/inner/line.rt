@@ -1,5 +1,5 @@
 // A list of calls, one on a line: a call's name, then its operands as bytes.
-ghost use Rattle.std.specs.Prelude.{◌≤◌, length, IfOk};
+ghost use Rattle.std.specs.Prelude.{◌≡◌, ◌≤◌, length, replicate, IfOk};
 
 use std::alloc::{AllocError, Global};
 use std::io::{Read, Write};
@@ -42,7 +42,9 @@ pub fn answered<W: Write, F: FnMut(&mut W, &Line) -> std::io::Result<()>>(
 pub const MOST: usize = 40000;
 
 // Such a buffer before its first use.
-pub fn untouched(alloc: Global, len: usize) -> Result<Vec<u8>, AllocError> {
+pub fn untouched(alloc: Global, len: usize) -> Result<Vec<u8>, AllocError>
+    ensures { IfOk result (λ out. out.items ≡ replicate len 0xEE) }
+{
     vec![in alloc; 0xEE; len]
 }
 
