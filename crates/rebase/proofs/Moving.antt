@@ -1,5 +1,5 @@
 -- The run past the revisions: what was moved already, and what is still to come, is the whole.
-use Rattle.std.specs.Prelude.{◌≡◌, ℕ, suc, ◌+◌, ◌-◌, ◌*◌, ◌^◌, ◌<◌, ◌≤◌, Bool, true, false, not, ◌&&◌, T, leb, List, [], ◌∷◌, ◌++◌, map, length, take, drop, Ok, Err}
+use Rattle.std.specs.Prelude.{◌≡◌, ℕ, suc, ◌+◌, ◌-◌, ◌*◌, ◌^◌, ◌≤◌, Bool, true, false, not, ◌&&◌, T, leb, List, [], ◌∷◌, ◌++◌, map, length, take, drop, Ok, Err}
 use mathlib.Core.Path.{refl, sym, ap, ◌∙◌, subst, ap₂, subst₂}
 use mathlib.Core.List.{append_assoc, append-nil}
 use lib.ListN.{length-append, length-drop}
@@ -43,10 +43,6 @@ within_fits s e d w = known (sym (sized_fits s e d) ∙ w)
 -- ---- what was moved past already
 abbrev pub behind : List Seq → Moved → Moved
 behind done m = record { edit = m.edit; counterparts = done ++ m.counterparts; kept = m.kept }
-
--- before revision k of n, one is left
-pub some_left : (k n : ℕ) → k < n → n - k ≡ 0 → ⊥
-some_left k n h z = absurd (omega arith)
 
 -- of n revisions that begin at `from`, `left` are still to come; the counterparts so far stand in `parts`, if they have room there
 pub record Moving (e : Seq) (l : List ℕ) (from n left : ℕ) (spot : Progress) (cur parts₀ parts : List ℕ) : Type 0 where

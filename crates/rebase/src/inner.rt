@@ -30,26 +30,33 @@ pub fn rebase(
 {
     let ne = reader::inner::op_count(edit);
     let mut spot = Progress { at: from, bytes: 0 };
-    for _k in 0..n {
+    let mut left = n;
+    'run: loop {
+        if left == 0 {
+            break 'run Ok(spot.bytes);
+        }
         let at = spot.at;
         let rec = &log[at..];
         let na = reader::inner::op_count(cur);
         let nb = reader::inner::op_count(rec);
         let mut b = steps::inner::begin_both(cur, na, rec, nb);
-        while steps::inner::both_go_on(b) {
+        let p = loop {
+            if !steps::inner::both_go_on(b) {
+                let c = rebase_steps::inner::finish_both(next, side, slots, b);
+                let p = steps::inner::sizes(cur, rec, c);
+                if !counterparts::inner::keep_limits(p) {
+                    break 'run Err(Stop::Refused(Refusal::Limit));
+                }
+                if !counterparts::inner::have_places(p, slots, cur.len()) {
+                    break 'run Err(Stop::Short);
+                }
+                break p;
+            }
             b = rebase_steps::inner::step(cur, na, rec, nb, next, side, slots, b);
-        }
-        let c = rebase_steps::inner::finish_both(next, side, slots, b);
-        let p = steps::inner::sizes(cur, rec, c);
-        if !counterparts::inner::keep_limits(p) {
-            return Err(Stop::Refused(Refusal::Limit));
-        }
-        if !counterparts::inner::have_places(p, slots, cur.len()) {
-            return Err(Stop::Short);
-        }
+        };
         spot = counterparts::inner::replace_edit(
             edit, ne, cur, rec, nb, next, side, parts, slots, p, spot,
         );
+        left -= 1;
     }
-    Ok(spot.bytes)
 }
