@@ -93,7 +93,11 @@ fn accept_once(
 }
 
 // The counterparts, which stand in front of the output.
-fn keep(w: Result<(usize, usize), Refusal>, out: &[u8], kept: &mut Vec<u8>) -> Result<(), AllocError> {
+fn keep(
+    w: Result<(usize, usize), Refusal>,
+    out: &[u8],
+    kept: &mut Vec<u8>,
+) -> Result<(), AllocError> {
     match w {
         Ok((_, m)) => {
             if let Some(counterparts) = out.get(..m) {

@@ -113,7 +113,11 @@ impl Log {
 }
 
 // The counterparts, which stand in front of the output. A refusal is told; then there are none.
-fn counterparts(to: &mut impl Write, w: Result<(usize, usize), Refusal>, out: Vec<u8>) -> std::io::Result<Vec<u8>> {
+fn counterparts(
+    to: &mut impl Write,
+    w: Result<(usize, usize), Refusal>,
+    out: Vec<u8>,
+) -> std::io::Result<Vec<u8>> {
     let mut parts = out;
     match w {
         Ok((_, n)) => parts.truncate(n),

@@ -73,7 +73,9 @@ impl<'a> Case<'a> {
             Call::Transform => self.transforms(alloc),
             Call::BaseLen => Ok(numbered(operation::base_len(a)) == self.wants(short(self.x))),
             Call::TargetLen => Ok(numbered(operation::target_len(a)) == self.wants(short(self.x))),
-            Call::IsNoop => Ok(numbered(operation::is_noop(a).map(usize::from)) == self.wants(short(self.x))),
+            Call::IsNoop => Ok(
+                numbered(operation::is_noop(a).map(usize::from)) == self.wants(short(self.x)),
+            ),
         }
     }
 
