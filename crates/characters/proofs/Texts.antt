@@ -13,7 +13,7 @@ use Rattle.buffers.proofs.Tests.{holds, known, both}
 use Rattle.characters.specs.Form.{well_char, is_well_formed, within, rows, lead_in, lead_from}
 use Rattle.characters.specs.Text.{Char, keep, bytes, well_of, chars}
 use Rattle.characters.specs.Chars.{chars_of, number_of_chars}
-use Rattle.core.specs.declared.cmp.Ordering.TheVariants.{Less, Equal, Greater}
+use Rattle.std.specs.declared.cmp.Ordering.TheVariants.{Less, Equal, Greater}
 use Rattle.characters.specs.Order.{byte_order, order}
 use Rattle.characters.proofs.Chars.{is_char, well_is_char, chars_concat, concat_chars, well_all, well_concat, length_chars}
 

@@ -1,7 +1,7 @@
 -- The byte order of texts: "the lesser by byte order .., a prefix being lesser than what continues it".
 use Rattle.std.specs.Prelude.{ℕ, cond, List, [], ◌∷◌, ltb}
-use Rattle.core.specs.declared.cmp.Ordering.{Ordering}
-use Rattle.core.specs.declared.cmp.Ordering.TheVariants.{Less, Equal, Greater}
+use Rattle.std.specs.declared.cmp.Ordering.{Ordering}
+use Rattle.std.specs.declared.cmp.Ordering.TheVariants.{Less, Equal, Greater}
 use Rattle.characters.specs.Text.{Char, bytes}
 
 abbrev pub byte_order : List ℕ → List ℕ → Ordering

@@ -6,8 +6,8 @@ use mathlib.Core.List.{List, [], ◌∷◌, ◌++◌, reverse, reverse-cons, rev
 use lib.ListN.{length, drop, length-drop}
 use lib.Seq.{length-take-le}
 use mathlib.Core.Logic.{◌≢◌}
-use Rattle.core.specs.declared.cmp.Ordering.{Ordering}
-use Rattle.core.specs.declared.cmp.Ordering.TheVariants.{Equal}
+use Rattle.std.specs.declared.cmp.Ordering.{Ordering}
+use Rattle.std.specs.declared.cmp.Ordering.TheVariants.{Equal}
 use Rattle.edits.specs.Op.{Op, retain, insert, delete, base, target}
 use Rattle.edits.specs.Built.{Built}
 use Rattle.edits.specs.Build.{extend, build}

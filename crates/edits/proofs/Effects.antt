@@ -6,8 +6,8 @@ use mathlib.Core.List.{List, [], ◌∷◌, ◌++◌}
 use lib.ListN.{length, take, length-take, replicate, drop, length-drop, take-append-drop}
 use mathlib.Core.Bool.{true}
 use lib.Seq.{take_at, drop_at, length-take-le}
-use Rattle.core.specs.declared.cmp.Ordering.{Ordering}
-use Rattle.core.specs.declared.cmp.Ordering.TheVariants.{Less, Equal, Greater}
+use Rattle.std.specs.declared.cmp.Ordering.{Ordering}
+use Rattle.std.specs.declared.cmp.Ordering.TheVariants.{Less, Equal, Greater}
 use Rattle.edits.specs.Op.{Op, retain, insert, delete, gives, base, target, takes}
 use Rattle.edits.specs.Align.{Step, step, steps, each, one, two, both}
 use Rattle.edits.specs.Compose.{compose_turn, made, compose}

@@ -2,8 +2,8 @@
 use native.Mathlib.Nat.{suc-ne-zero}
 use mathlib.Core.Path.{◌≡◌, refl, sym, ap, ap₂, ◌∙◌}
 use mathlib.Core.List.{List, [], ◌∷◌, ◌++◌, map, append_assoc}
-use Rattle.core.specs.declared.cmp.Ordering.{Ordering}
-use Rattle.core.specs.declared.cmp.Ordering.TheVariants.{Less, Equal, Greater}
+use Rattle.std.specs.declared.cmp.Ordering.{Ordering}
+use Rattle.std.specs.declared.cmp.Ordering.TheVariants.{Less, Equal, Greater}
 use Rattle.edits.specs.Op.{Op, retain, insert, delete, size}
 use Rattle.edits.specs.Align.{Step, one, two, step, steps, each}
 use Rattle.edits.specs.Transform.{lesser, transform_turn, lefts, rights, keep_both, transform_by, transform}

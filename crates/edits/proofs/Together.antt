@@ -5,8 +5,8 @@ use mathlib.Core.Bool.{Bool, ◌&&◌, true, false}
 use native.Mathlib.Omega.{arith}
 use mathlib.Core.Path.{◌≡◌, refl, ap, sym, ap₂, ◌∙◌, subst₃}
 use Prim.Native.Nat.{ℕ, zero, suc, min}
-use Rattle.core.specs.declared.cmp.Ordering.{Ordering}
-use Rattle.core.specs.declared.cmp.Ordering.TheVariants.{Less, Equal, Greater}
+use Rattle.std.specs.declared.cmp.Ordering.{Ordering}
+use Rattle.std.specs.declared.cmp.Ordering.TheVariants.{Less, Equal, Greater}
 use Rattle.edits.specs.Op.{Op, retain, insert, delete, base, takes}
 use Rattle.edits.specs.Apply.{apply}
 use Rattle.edits.specs.Trace.{typed, stays, marked}

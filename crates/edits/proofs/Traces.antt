@@ -7,8 +7,8 @@ use lib.ListN.{take, replicate, length-replicate, length}
 use lib.Seq.{take_at}
 use native.Mathlib.Omega.{arith}
 use native.Mathlib.Nat.{suc-ne-zero}
-use Rattle.core.specs.declared.cmp.Ordering.{Ordering}
-use Rattle.core.specs.declared.cmp.Ordering.TheVariants.{Less, Equal, Greater}
+use Rattle.std.specs.declared.cmp.Ordering.{Ordering}
+use Rattle.std.specs.declared.cmp.Ordering.TheVariants.{Less, Equal, Greater}
 use Rattle.edits.specs.Op.{Op, base, retain, insert, delete, takes, gives}
 use Rattle.edits.specs.Trace.{stays, carry}
 use Rattle.edits.specs.Align.{Step, one, two, step, steps, each}

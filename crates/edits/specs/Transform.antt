@@ -1,7 +1,7 @@
 -- Document 01, "Transform". How texts are ordered, and the rule for equal inserts (`tie`), are parameters.
 use Rattle.std.specs.Prelude.{List, [], ◌∷◌, length}
-use Rattle.core.specs.declared.cmp.Ordering.{Ordering}
-use Rattle.core.specs.declared.cmp.Ordering.TheVariants.{Less, Equal, Greater}
+use Rattle.std.specs.declared.cmp.Ordering.{Ordering}
+use Rattle.std.specs.declared.cmp.Ordering.TheVariants.{Less, Equal, Greater}
 use Rattle.edits.specs.Op.{Op, retain, insert, delete, gives}
 use Rattle.edits.specs.Align.{Turn, first, second, together, Step, one, two, both, steps, each}
 use Rattle.edits.specs.Build.{build}

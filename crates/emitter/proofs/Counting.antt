@@ -3,8 +3,8 @@ use Rattle.std.specs.Prelude.{◌≡◌, ℕ, ◌+◌, ◌≤◌, List, [], ◌�
 use native.Mathlib.Omega.{arith}
 use lib.ListN.{length-append, length-reverse}
 use mathlib.Core.Path.{refl, ap, sym, ◌∙◌}
-use Rattle.core.specs.declared.cmp.Ordering.{Ordering}
-use Rattle.core.specs.declared.cmp.Ordering.TheVariants.{Less, Equal, Greater}
+use Rattle.std.specs.declared.cmp.Ordering.{Ordering}
+use Rattle.std.specs.declared.cmp.Ordering.TheVariants.{Less, Equal, Greater}
 use Rattle.characters.specs.Text.{Char, bytes}
 use Rattle.characters.specs.Order.{order}
 use Rattle.characters.proofs.Texts.{order_equal, bytes_append}

@@ -3,7 +3,7 @@ use Rattle.std.specs.Prelude.{◌≡◌, ℕ, ◌+◌, List, [], ◌∷◌, ◌+
 use mathlib.Core.Path.{refl, ap, ◌∙◌, ap₂, sym}
 use mathlib.Core.List.{reverse-cons, append-nil}
 use native.Mathlib.Omega.{arith}
-use Rattle.core.specs.declared.cmp.Ordering.{Ordering}
+use Rattle.std.specs.declared.cmp.Ordering.{Ordering}
 use Rattle.characters.specs.Text.{Char, bytes}
 use Rattle.characters.proofs.Texts.{bytes_append}
 use Rattle.edits.specs.Op.{Op, takes, gives, base, target, retain, insert, delete, size, if_zero}

@@ -8,8 +8,8 @@ use borrow.Author.Tests.{eq-eqb, eqb-false, ne_eqb, eqb-true}
 use lib.Seq.{length-take-le}
 use Rattle.characters.specs.Text.{Char, chars}
 use Rattle.characters.specs.Order.{order, byte_order}
-use Rattle.core.specs.declared.cmp.Ordering.{Ordering}
-use Rattle.core.specs.declared.cmp.Ordering.TheVariants.{Less, Equal, Greater}
+use Rattle.std.specs.declared.cmp.Ordering.{Ordering}
+use Rattle.std.specs.declared.cmp.Ordering.TheVariants.{Less, Equal, Greater}
 use Rattle.characters.proofs.Texts.{order_chars, chars_length, order_equal}
 use Rattle.characters.proofs.Leads.{within_bounds}
 use Rattle.edits.specs.Op.{Op, retain, delete, gives, insert, cut}
