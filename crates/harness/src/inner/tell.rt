@@ -81,7 +81,7 @@ fn newest(to: &mut impl Write, log: &[u8]) -> std::io::Result<()> {
 // The records that stand there.
 fn part(to: &mut impl Write, bytes: &[u8], from: usize, end: usize) -> std::io::Result<()> {
     match bytes.get(from..end) {
-        Some(records) => words::ends(to, records),
+        Some(records) => words::first_and_last(to, records),
         None => Ok(()),
     }
 }

@@ -40,8 +40,8 @@ impl<'a> Iterator for Records<'a> {
     }
 }
 
-// The first and the last.
-pub fn ends(to: &mut impl Write, bytes: &[u8]) -> std::io::Result<()> {
+// The first record and the last.
+pub fn first_and_last(to: &mut impl Write, bytes: &[u8]) -> std::io::Result<()> {
     let mut all = Records(bytes);
     let Some(first) = all.next() else {
         return write!(to, "none");
