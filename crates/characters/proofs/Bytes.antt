@@ -1,4 +1,5 @@
 -- Bytes told by bits and masks, and facts that are had by trying each byte.
+use Rattle.std.specs.Prelude.{Some, None}
 use Prim.Native.Nat.{ℕ, zero, suc, ◌+◌, ◌≤◌, ◌<◌, ◌-◌, ◌/◌}
 use mathlib.Core.Bool.{Bool, true, ◌&&◌, beq, false, not, ◌||◌, false≢true}
 use native.Mathlib.Omega.{arith}
@@ -8,11 +9,9 @@ use lib.Dec.{eqb, ltb, leb}
 use lib.Bits.{bit_and, bit_or}
 use borrow.Author.Tests.{eqb-true, not-true, eq-eqb, lt-ltb, le-ltb, ne_eqb, leb-false}
 use Rattle.buffers.proofs.Tests.{beq_true, known, or_split}
-use Rattle.characters.specs.Form.{within, lead_from, rows, lead_in}
+use Rattle.characters.specs.Form.{within, lead_from, rows, lead_in, Lead}
 use Rattle.characters.specs.Chars.{is_continuation}
 use Rattle.characters.specs.InnerBlock.{bit_of, Tells, mask_of, due_of, invalid_byte_of, outside_of, misplaced_of}
-use Rattle.characters.specs.declared.Lead.TheVariants.{Of, Bad}
-use Rattle.characters.specs.declared.Lead.{Lead}
 use Rattle.characters.proofs.Leads.{le_or_lt, within_bounds}
 use Rattle.characters.proofs.Chars.{split}
 use Rattle.characters.proofs.Bits.{or_zero}
@@ -119,12 +118,12 @@ module _ (p b : ℕ) where
 pub record Opened (p b : ℕ) : Type 0 where
   pub lo : ℕ
   pub hi : ℕ
-  pub lead : lead_from p ≡ Of (suc (bit_of (leb 0xE0 p) + bit_of (leb 0xF0 p))) lo hi
+  pub lead : lead_from p ≡ Some (suc (bit_of (leb 0xE0 p) + bit_of (leb 0xF0 p)), lo, hi)
   pub fits : within lo hi b ≡ true
 
 opens : ℕ → ℕ → Lead → Bool
-opens p b Bad = false
-opens p b (Of n lo hi) = eqb n (suc (bit_of (leb 0xE0 p) + bit_of (leb 0xF0 p))) && within lo hi b
+opens p b None = false
+opens p b (Some (n, lo, hi)) = eqb n (suc (bit_of (leb 0xE0 p) + bit_of (leb 0xF0 p))) && within lo hi b
 
 fits : ℕ → ℕ → Bool
 fits p b = invalid_byte_of p || outside_of p b || opens p b (lead_from p)
@@ -142,7 +141,7 @@ opened p b c o e h =
     go (lead_from p) refl (rw (e, o) at test)
   where
     go : (x : Lead) → lead_from p ≡ x → opens p b x ≡ true → Opened p b
-    go Bad f t = absurd (false≢true t)
-    go (Of n lo hi) f t =
+    go None f t = absurd (false≢true t)
+    go (Some (n, lo, hi)) f t =
         let (q, r) = split (eqb n (suc (bit_of (leb 0xE0 p) + bit_of (leb 0xF0 p)))) (within lo hi b) t in
-        record { lo = lo; hi = hi; lead = f ∙ ap (λ k. Of k lo hi) (eqb-true n _ q); fits = r }
+        record { lo = lo; hi = hi; lead = f ∙ ap (λ k. Some (k, lo, hi)) (eqb-true n _ q); fits = r }

@@ -1,4 +1,5 @@
 -- What the characters of a list of bytes are, and how they go with well-formed text.
+use Rattle.std.specs.Prelude.{Some, None}
 use mathlib.Core.Path.{◌≡◌, refl, ap, sym, ◌∙◌}
 use mathlib.Core.Bool.{Bool, true, ◌&&◌, and-eq-true_iff, and_assoc, false, cond, not, false≢true}
 use Prim.Native.Nat.{ℕ, zero, suc, ◌+◌, ◌≤◌, zero-le}
@@ -10,9 +11,7 @@ use borrow.Author.Tests.{not-true}
 use lib.Dec.{T}
 use Rattle.buffers.specs.Lists.{all_of, concat}
 use Rattle.characters.specs.Chars.{is_continuation, loose, chars_of, number_of_chars}
-use Rattle.characters.specs.declared.Lead.TheVariants.{Bad, Of}
-use Rattle.characters.specs.Form.{well_formed_from, is_well_formed, within, lead_from, whole, well_char}
-use Rattle.characters.specs.declared.Lead.{Lead}
+use Rattle.characters.specs.Form.{well_formed_from, is_well_formed, within, lead_from, whole, well_char, Lead}
 use Rattle.characters.proofs.Leads.{sane, sane_lead, in_range, cont_bad}
 
 pub both : (a b : Bool) → a ≡ true → b ≡ true → (a && b) ≡ true
@@ -128,61 +127,61 @@ concat_append (a ∷ xs) bs = rw (concat_append xs bs, append_assoc)
 
 -- ---- well-formed text
 
-pub rest_bad : (bs : List ℕ) → well_formed_from bs Bad ≡ false
+pub rest_bad : (bs : List ℕ) → well_formed_from bs None ≡ false
 rest_bad [] = refl
 rest_bad (b ∷ bs) = refl
 
-pub any_range : (bs : List ℕ) (lo hi : ℕ) → well_formed_from bs (Of 0 lo hi) ≡ is_well_formed bs
+pub any_range : (bs : List ℕ) (lo hi : ℕ) → well_formed_from bs (Some (0, lo, hi)) ≡ is_well_formed bs
 any_range [] lo hi = refl
 any_range (b ∷ bs) lo hi = refl
 
 rest_append : (xs bs : List ℕ) (x : Lead) → well_formed_from xs x ≡ true → well_formed_from (xs ++ bs) x ≡ is_well_formed bs
-rest_append [] bs Bad e = absurd (false≢true e)
-rest_append [] bs (Of zero lo hi) e = any_range bs lo hi
-rest_append [] bs (Of (suc n) lo hi) e = absurd (false≢true e)
-rest_append (a ∷ xs) bs Bad e = absurd (false≢true e)
-rest_append (a ∷ xs) bs (Of zero lo hi) e = rest_append xs bs (lead_from a) e
-rest_append (a ∷ xs) bs (Of (suc n) lo hi) e =
-    let h = split (within lo hi a) (well_formed_from xs (Of n 0x80 0xBF)) e in rw h.0 (rest_append xs bs (Of n 0x80 0xBF) h.1)
+rest_append [] bs None e = absurd (false≢true e)
+rest_append [] bs (Some (zero, lo, hi)) e = any_range bs lo hi
+rest_append [] bs (Some (suc n, lo, hi)) e = absurd (false≢true e)
+rest_append (a ∷ xs) bs None e = absurd (false≢true e)
+rest_append (a ∷ xs) bs (Some (zero, lo, hi)) e = rest_append xs bs (lead_from a) e
+rest_append (a ∷ xs) bs (Some (suc n, lo, hi)) e =
+    let h = split (within lo hi a) (well_formed_from xs (Some (n, 0x80, 0xBF))) e in rw h.0 (rest_append xs bs (Some (n, 0x80, 0xBF)) h.1)
 
 -- behind a well-formed text, all is as well-formed as what follows
 pub well_append : (xs bs : List ℕ) → is_well_formed xs ≡ true → is_well_formed (xs ++ bs) ≡ is_well_formed bs
-well_append xs bs e = rest_append xs bs (Of 0 0x80 0xBF) e
+well_append xs bs e = rest_append xs bs (Some (0, 0x80, 0xBF)) e
 
 rest_chars : (bs : List ℕ) (x : Lead) → T (sane x) → well_formed_from bs x ≡ (whole (loose bs) x && all_of well_char (chars_of bs))
-rest_chars [] Bad s = refl
-rest_chars [] (Of zero lo hi) s = refl
-rest_chars [] (Of (suc n) lo hi) s = refl
+rest_chars [] None s = refl
+rest_chars [] (Some (zero, lo, hi)) s = refl
+rest_chars [] (Some (suc n, lo, hi)) s = refl
 rest_chars (b ∷ bs) x s = go (is_continuation b) refl x s (rest_chars bs)
   where
     go : (t : Bool) → is_continuation b ≡ t → (x : Lead) → T (sane x) → ((y : Lead) → T (sane y) → well_formed_from bs y ≡ (whole (loose bs) y && all_of well_char (chars_of bs)))
         → well_formed_from (b ∷ bs) x ≡ (whole (cond t (b ∷ loose bs) []) x && all_of well_char (cond t (chars_of bs) ((b ∷ loose bs) ∷ chars_of bs)))
-    go true e Bad s ih = refl
-    go true e (Of zero lo hi) s ih = rw (cont_bad b e) (rest_bad bs)
-    go true e (Of (suc n) lo hi) s ih = rw (ih (Of n 0x80 0xBF) tt, and_assoc)
-    go false e Bad s ih = refl
-    go false e (Of zero lo hi) s ih = ih (lead_from b) (sane_lead b)
-    go false e (Of (suc n) lo hi) s ih = rw (in_range lo hi b s e)
+    go true e None s ih = refl
+    go true e (Some (zero, lo, hi)) s ih = rw (cont_bad b e) (rest_bad bs)
+    go true e (Some (suc n, lo, hi)) s ih = rw (ih (Some (n, 0x80, 0xBF)) tt, and_assoc)
+    go false e None s ih = refl
+    go false e (Some (zero, lo, hi)) s ih = ih (lead_from b) (sane_lead b)
+    go false e (Some (suc n, lo, hi)) s ih = rw (in_range lo hi b s e)
 
 -- a text is well-formed where nothing stands loose and each character is well-formed
-pub well_chars : (bs : List ℕ) → is_well_formed bs ≡ (whole (loose bs) (Of 0 0x80 0xBF) && all_of well_char (chars_of bs))
-well_chars bs = rest_chars bs (Of 0 0x80 0xBF) tt
+pub well_chars : (bs : List ℕ) → is_well_formed bs ≡ (whole (loose bs) (Some (0, 0x80, 0xBF)) && all_of well_char (chars_of bs))
+well_chars bs = rest_chars bs (Some (0, 0x80, 0xBF)) tt
 
 pub well_all : (bs : List ℕ) → is_well_formed bs ≡ true → (loose bs ≡ []) × (all_of well_char (chars_of bs) ≡ true)
-well_all bs e = let h = split (whole (loose bs) (Of 0 0x80 0xBF)) (all_of well_char (chars_of bs)) (sym (well_chars bs) ∙ e) in (none (loose bs) h.0, h.1)
+well_all bs e = let h = split (whole (loose bs) (Some (0, 0x80, 0xBF))) (all_of well_char (chars_of bs)) (sym (well_chars bs) ∙ e) in (none (loose bs) h.0, h.1)
   where
-    none : (l : List ℕ) → whole l (Of 0 0x80 0xBF) ≡ true → l ≡ []
+    none : (l : List ℕ) → whole l (Some (0, 0x80, 0xBF)) ≡ true → l ≡ []
     none [] h = refl
     none (x ∷ l) h = absurd (false≢true h)
 
 whole_rest : (bs : List ℕ) (x : Lead) → whole bs x ≡ true → well_formed_from bs x ≡ true
-whole_rest [] Bad e = e
-whole_rest [] (Of zero lo hi) e = e
-whole_rest [] (Of (suc n) lo hi) e = e
-whole_rest (b ∷ bs) Bad e = e
-whole_rest (b ∷ bs) (Of zero lo hi) e = absurd (false≢true e)
-whole_rest (b ∷ bs) (Of (suc n) lo hi) e =
-    let h = split (within lo hi b) (whole bs (Of n 0x80 0xBF)) e in both (within lo hi b) (well_formed_from bs (Of n 0x80 0xBF)) h.0 (whole_rest bs (Of n 0x80 0xBF) h.1)
+whole_rest [] None e = e
+whole_rest [] (Some (zero, lo, hi)) e = e
+whole_rest [] (Some (suc n, lo, hi)) e = e
+whole_rest (b ∷ bs) None e = e
+whole_rest (b ∷ bs) (Some (zero, lo, hi)) e = absurd (false≢true e)
+whole_rest (b ∷ bs) (Some (suc n, lo, hi)) e =
+    let h = split (within lo hi b) (whole bs (Some (n, 0x80, 0xBF))) e in both (within lo hi b) (well_formed_from bs (Some (n, 0x80, 0xBF))) h.0 (whole_rest bs (Some (n, 0x80, 0xBF)) h.1)
 
 -- RFC 3629's UTF8-octets = *( UTF8-char )
 pub well_concat : (cs : List (List ℕ)) → all_of well_char cs ≡ true → is_well_formed (concat cs) ≡ true
@@ -197,11 +196,11 @@ well_concat (c ∷ cs) e =
 -- one well-formed character is one character
 pub whole_conts : (bs : List ℕ) (x : Lead) → T (sane x) → whole bs x ≡ true → all_of is_continuation bs ≡ true
 whole_conts [] x s e = refl
-whole_conts (b ∷ bs) Bad s e = absurd (false≢true e)
-whole_conts (b ∷ bs) (Of zero lo hi) s e = absurd (false≢true e)
-whole_conts (b ∷ bs) (Of (suc n) lo hi) s e =
-    let (w, r) = split (within lo hi b) (whole bs (Of n 0x80 0xBF)) e in
-    both (is_continuation b) (all_of is_continuation bs) (go (is_continuation b) refl w) (whole_conts bs (Of n 0x80 0xBF) tt r)
+whole_conts (b ∷ bs) None s e = absurd (false≢true e)
+whole_conts (b ∷ bs) (Some (zero, lo, hi)) s e = absurd (false≢true e)
+whole_conts (b ∷ bs) (Some (suc n, lo, hi)) s e =
+    let (w, r) = split (within lo hi b) (whole bs (Some (n, 0x80, 0xBF))) e in
+    both (is_continuation b) (all_of is_continuation bs) (go (is_continuation b) refl w) (whole_conts bs (Some (n, 0x80, 0xBF)) tt r)
   where
     go : (t : Bool) → is_continuation b ≡ t → within lo hi b ≡ true → is_continuation b ≡ true
     go true p w = p
@@ -214,7 +213,7 @@ well_is_char (b ∷ bs) e = go (is_continuation b) refl
     go : (t : Bool) → is_continuation b ≡ t → (not t && all_of is_continuation bs) ≡ true
     go true p = absurd (false≢true (none bs ∙ rw (cont_bad b p) at e))
       where
-        none : (l : List ℕ) → false ≡ whole l Bad
+        none : (l : List ℕ) → false ≡ whole l None
         none [] = refl
         none (x ∷ l) = refl
     go false p = whole_conts bs (lead_from b) (sane_lead b) e

@@ -1,4 +1,5 @@
 -- Cutting between characters, and joining.
+use Rattle.std.specs.Prelude.{Some}
 use Prim.Native.Nat.{ℕ, min, zero, suc, ◌≤◌}
 use mathlib.Core.Path.{◌≡◌, ◌∙◌, refl, ap, ap₂, sym}
 use mathlib.Core.List.{List, ◌++◌, append_assoc, [], ◌∷◌}
@@ -8,7 +9,6 @@ use native.Mathlib.Omega.{arith}
 use Rattle.buffers.specs.Lists.{all_of}
 use Rattle.characters.specs.Chars.{loose, chars_of, take_chars, drop_chars, number_of_chars, is_continuation}
 use Rattle.characters.specs.Form.{is_well_formed, whole, well_char}
-use Rattle.characters.specs.declared.Lead.TheVariants.{Of}
 use Rattle.characters.proofs.Chars.{all_take, is_char, loose_conts, chars_are, conts_chars, chars_concat, concat_chars, concat_append, length_chars, all_append, well_chars, well_all, num_le}
 
 pub chars_take : (k : ℕ) (bs : List ℕ) → chars_of (take_chars k bs) ≡ take k (chars_of bs)
@@ -36,11 +36,11 @@ chars_append (x ∷ xs) bs e = go (is_continuation x) (chars_append xs bs e) (lo
 
 pub well_join : (xs bs : List ℕ) → loose bs ≡ [] → is_well_formed (xs ++ bs) ≡ (is_well_formed xs && is_well_formed bs)
 well_join xs bs e =
-    let second : is_well_formed bs ≡ all_of well_char (chars_of bs) = well_chars bs ∙ ap (λ l. whole l (Of 0 0x80 0xBF) && all_of well_char (chars_of bs)) e in
+    let second : is_well_formed bs ≡ all_of well_char (chars_of bs) = well_chars bs ∙ ap (λ l. whole l (Some (0, 0x80, 0xBF)) && all_of well_char (chars_of bs)) e in
     well_chars (xs ++ bs)
-    ∙ ap₂ (λ l c. whole l (Of 0 0x80 0xBF) && all_of well_char c) (loose_append xs bs e) (chars_append xs bs e)
-    ∙ ap (λ b. whole (loose xs) (Of 0 0x80 0xBF) && b) (all_append well_char (chars_of xs) (chars_of bs))
-    ∙ sym (and_assoc (whole (loose xs) (Of 0 0x80 0xBF)) (all_of well_char (chars_of xs)) (all_of well_char (chars_of bs)))
+    ∙ ap₂ (λ l c. whole l (Some (0, 0x80, 0xBF)) && all_of well_char c) (loose_append xs bs e) (chars_append xs bs e)
+    ∙ ap (λ b. whole (loose xs) (Some (0, 0x80, 0xBF)) && b) (all_append well_char (chars_of xs) (chars_of bs))
+    ∙ sym (and_assoc (whole (loose xs) (Some (0, 0x80, 0xBF))) (all_of well_char (chars_of xs)) (all_of well_char (chars_of bs)))
     ∙ ap₂ ◌&&◌ (sym (well_chars xs)) (sym second)
 
 -- what begins with no continuation

@@ -1,4 +1,5 @@
 -- First bytes: which row of the table a byte is in, and what every row has in common.
+use Rattle.std.specs.Prelude.{Some, None}
 use Prim.Native.Nat.{ℕ, ◌≤◌, ◌<◌, zero, suc}
 use mathlib.Core.Path.{◌≡◌, refl, sym, ◌∙◌}
 use mathlib.Core.Logic.{◌⊎◌, inl, inr}
@@ -10,10 +11,8 @@ use native.Mathlib.Omega.{arith}
 use lib.ListN.{get_or}
 use Rattle.buffers.specs.Lists.{all_of}
 use Rattle.buffers.proofs.Tests.{le_and, both, known}
-use Rattle.characters.specs.Form.{within, Row, lead_in, rows, lead_from}
-use Rattle.characters.specs.declared.Lead.TheVariants.{Bad, Of}
+use Rattle.characters.specs.Form.{within, Row, lead_in, rows, lead_from, Lead}
 use Rattle.characters.specs.InnerPassed.{spans}
-use Rattle.characters.specs.declared.Lead.{Lead}
 use Rattle.characters.specs.Chars.{is_continuation}
 
 pub le_or_lt : (a b : ℕ) → (a ≤ b) ⊎ (b < a)
@@ -47,7 +46,7 @@ in_row zero lo hi (r ∷ rs) = leb r.first lo && leb hi r.last
 in_row (suc k) lo hi (r ∷ rs) = (ltb hi r.first || ltb r.last lo) && in_row k lo hi rs
 
 abbrev none : Row
-none = record { first = 0; last = 0; lead = Bad }
+none = record { first = 0; last = 0; lead = None }
 
 outside : (a z lo hi b : ℕ) → T (ltb hi a || ltb z lo) → lo ≤ b → b ≤ hi → within a z b ≡ false
 outside a z lo hi b t l h = go (ltb hi a) refl t
@@ -93,16 +92,16 @@ spans_row lo hi n {b} t l h = spans_in rows lo hi n b t l h
 
 -- a range of second bytes holds continuations only
 abbrev pub sane : Lead → Bool
-sane Bad = true
-sane (Of n lo hi) = leb 0x80 lo && leb hi 0xBF
+sane None = true
+sane (Some (n, lo, hi)) = leb 0x80 lo && leb hi 0xBF
 
 -- at most three bytes follow
 abbrev pub short : Lead → Bool
-short Bad = true
-short (Of n lo hi) = leb n 3
+short None = true
+short (Some (n, lo, hi)) = leb n 3
 
 -- what holds of each row, and of a byte in none
-every : (p : Lead → Bool) (rs : List Row) (b : ℕ) → T (p Bad) → T (all_of (λ r. p r.lead) rs) → T (p (lead_in rs b))
+every : (p : Lead → Bool) (rs : List Row) (b : ℕ) → T (p None) → T (all_of (λ r. p r.lead) rs) → T (p (lead_in rs b))
 unfolding lead_in
 every p [] b z t = z
 every p (r ∷ rs) b z t = let (f, g) = (both (p r.lead) (all_of (λ r. p r.lead) rs)).0 t in go (within r.first r.last b) f (every p rs b z g)
@@ -120,7 +119,7 @@ unfolding lead_from rows
 short_lead b = every short rows b tt tt
 
 -- so what is no continuation is in none
-pub in_range : (lo hi b : ℕ) → T (sane (Of 0 lo hi)) → is_continuation b ≡ false → within lo hi b ≡ false
+pub in_range : (lo hi b : ℕ) → T (sane (Some (0, lo, hi))) → is_continuation b ≡ false → within lo hi b ≡ false
 unfolding is_continuation
 in_range lo hi b s e = go (within lo hi b) refl
   where
@@ -131,6 +130,6 @@ in_range lo hi b s e = go (within lo hi b) refl
         sym (inside 0x80 0xBF b (omega arith) (omega (arith, leb→le hi 0xBF y))) ∙ e
     go false p = refl
 
-pub cont_bad : (b : ℕ) → is_continuation b ≡ true → lead_from b ≡ Bad
+pub cont_bad : (b : ℕ) → is_continuation b ≡ true → lead_from b ≡ None
 unfolding is_continuation rows
 cont_bad b e = let (l, h) = within_bounds 0x80 0xBF b (rw e tt) in sym (lead_row 9 0x80 0xBF tt l h)

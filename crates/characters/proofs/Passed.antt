@@ -10,12 +10,10 @@ use lib.ListN.{length, get_or, drop_of_length-le, take, drop, length-append, len
 use borrow.Author.Tests.{not-true, not-false}
 use Rattle.buffers.specs.Lists.{concat}
 use Rattle.buffers.proofs.Tests.{known, holds}
-use Rattle.characters.specs.Form.{is_well_formed, lead_from, well_formed_from, whole}
+use Rattle.characters.specs.Form.{is_well_formed, lead_from, well_formed_from, whole, Lead}
 use Rattle.characters.specs.Chars.{number_of_chars, take_chars, chars_of}
 use Rattle.characters.specs.InnerPassed.{form_of, Passed, spans}
 use Rattle.characters.specs.InnerAscii.{Runs}
-use Rattle.characters.specs.declared.Lead.{Lead}
-use Rattle.characters.specs.declared.Lead.TheVariants.{Bad, Of}
 use Rattle.characters.proofs.Runs.{runs_well, runs_num, runs_one}
 use Rattle.characters.proofs.Leads.{short_lead}
 use Rattle.characters.proofs.Chars.{rest_bad, well_all, split}
@@ -88,14 +86,14 @@ pub well_ascii : (t : List ℕ) (i : ℕ) → Runs t 0 i → i ≡ length t → 
 well_ascii t i r e = form_well t (Some i) (all_ascii t i r e) refl
 
 module _ (t : List ℕ) (i conts : ℕ) (x : Lead) (s : Passed t i conts) (h : i < length t) (e : x ≡ lead_from (get_or t i 0)) where
-  pub lead_bad : x ≡ Bad → None ≡ form_of t
+  pub lead_bad : x ≡ None → None ≡ form_of t
   lead_bad f = is_ill t (sym s.well ∙ rest_lead t i h 0 0x80 0xBF refl ∙ ap (well_formed_from (drop (i + 1) t)) (sym e ∙ f) ∙ rest_bad (drop (i + 1) t))
 
-  module _ {more lo hi : ℕ} (f : x ≡ Of more lo hi) where
+  module _ {more lo hi : ℕ} (f : x ≡ Some (more, lo, hi)) where
     pub lead_few : more ≤ 3
     lead_few = leb→le more 3 (rw (sym e ∙ f) at (short_lead (get_or t i 0)))
 
-    module _ (d : Bool) (g : d ≡ whole (take more (drop (i + 1) t)) (Of more lo hi)) where
+    module _ (d : Bool) (g : d ≡ whole (take more (drop (i + 1) t)) (Some (more, lo, hi))) where
       pub not_due : not d ≡ true → None ≡ form_of t
       not_due k = is_ill t (sym s.well ∙ first_due t i h (sym e ∙ f) ∙ ap (λ z. z && is_well_formed (drop (i + 1 + more) t)) (sym g ∙ not-true d k))
 
@@ -122,7 +120,7 @@ pub record Skips (t : List ℕ) (i k to : ℕ) : Type 0 where
 pub skip_none : (t : List ℕ) (i k : ℕ) → T (is_well_formed (drop i t)) → k ≡ 0 → i ≡ i + length (take_chars k (drop i t))
 skip_none t i k w z = rw (z, (well_all (drop i t) (holds (is_well_formed (drop i t)) w)).0) (omega arith)
 
-skip_first : (t : List ℕ) (i k : ℕ) {more lo hi : ℕ} → i < length t → T (is_well_formed (drop i t)) → lead_from (get_or t i 0) ≡ Of more lo hi → 0 < k → Skips t i k (i + suc more)
+skip_first : (t : List ℕ) (i k : ℕ) {more lo hi : ℕ} → i < length t → T (is_well_formed (drop i t)) → lead_from (get_or t i 0) ≡ Some (more, lo, hi) → 0 < k → Skips t i k (i + suc more)
 skip_first t i zero h w f l = absurd (omega arith)
 skip_first t i (suc k) {more} h w f l =
     let y = holds (is_well_formed (drop i t)) w in
@@ -146,5 +144,5 @@ pub skip_char : (t : List ℕ) (i k n : ℕ) → i < length t → T (is_well_for
 skip_char t i k n h w v l = go (lead_from (get_or t i 0)) refl v
   where
     go : (x : Lead) → lead_from (get_or t i 0) ≡ x → T (spans x n) → Skips t i k (i + n)
-    go Bad f v = absurd (false≢true (sym (rest_lead t i h 0 0x80 0xBF refl ∙ ap (well_formed_from (drop (i + 1) t)) f ∙ rest_bad (drop (i + 1) t)) ∙ holds (is_well_formed (drop i t)) w))
-    go (Of more lo hi) f v = rw (eqb→eq n (suc more) v) (skip_first t i k h w f l)
+    go None f v = absurd (false≢true (sym (rest_lead t i h 0 0x80 0xBF refl ∙ ap (well_formed_from (drop (i + 1) t)) f ∙ rest_bad (drop (i + 1) t)) ∙ holds (is_well_formed (drop i t)) w))
+    go (Some (more, lo, hi)) f v = rw (eqb→eq n (suc more) v) (skip_first t i k h w f l)

@@ -1,4 +1,5 @@
 -- ASCII bytes: eight seen at once, and a run of them passed.
+use Rattle.std.specs.Prelude.{Some}
 use Prim.Native.Nat.{ℕ, ◌<◌, zero, suc, ◌+◌, ◌*◌, ◌^◌, ◌≤◌, ◌%◌, ◌-◌}
 use mathlib.Core.Path.{◌≡◌, refl, sym, ap, ◌∙◌, ap₂}
 use mathlib.Core.Bool.{true, beq, ◌&&◌, Bool, false, not}
@@ -18,7 +19,6 @@ use Rattle.buffers.specs.Lists.{all_of}
 use Rattle.buffers.proofs.Fronts.{all_front}
 use Rattle.buffers.proofs.Tests.{beq_true, holds, known}
 use Rattle.characters.specs.InnerAscii.{is_ascii, word_of, Tops, ahead_of, Runs}
-use Rattle.characters.specs.declared.Lead.TheVariants.{Of}
 use Rattle.characters.specs.Form.{rows, lead_from, is_well_formed}
 use Rattle.characters.specs.Chars.{is_continuation, number_of_chars}
 use Rattle.characters.proofs.Bytes.{each_at}
@@ -172,7 +172,7 @@ module _ (t : List ℕ) (at : ℕ) where
       let u : (is_ascii (get_or t k 0) && all_of is_ascii (take m (drop (k + 1) t))) ≡ true = sym (ap (λ z. all_of is_ascii (take (suc m) z)) (ap (λ j. drop j t) y ∙ next t k (omega arith))) ∙ s in
       ltb-true (get_or t k 0) 0x80 (split (is_ascii (get_or t k 0)) (all_of is_ascii (take m (drop (k + 1) t))) u).0
 
-lead_ascii : (b : ℕ) → is_ascii b ≡ true → lead_from b ≡ Of 0 0x80 0xBF
+lead_ascii : (b : ℕ) → is_ascii b ≡ true → lead_from b ≡ Some (0, 0x80, 0xBF)
 unfolding is_ascii rows
 lead_ascii b e = let l = ltb-true b 0x80 e in sym (lead_row 0 0x00 0x7F {b = b} tt (omega arith) (omega arith))
 

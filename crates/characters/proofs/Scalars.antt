@@ -1,4 +1,5 @@
 -- One well-formed character is the encoding of one scalar value, and a text is well-formed where it is encodings put end to end.
+use Rattle.std.specs.Prelude.{Some, None}
 use Prim.Native.Nat.{ℕ, ◌+◌, ◌*◌, ◌-◌, ◌/◌, ◌≤◌}
 use native.Mathlib.Omega.{arith}
 use mathlib.Core.Path.{◌≡◌, refl, sym, ap, ap₂, ◌∙◌}
@@ -6,9 +7,7 @@ use mathlib.Core.Logic.{◌⊎◌, inl, inr, ⊎_elim, ◌↔◌}
 use mathlib.Core.Bool.{Bool, true, false, cond}
 use mathlib.Core.List.{List, [], ◌∷◌, ◌++◌, map}
 use lib.Dec.{T}
-use Rattle.characters.specs.declared.Lead.{Lead}
-use Rattle.characters.specs.declared.Lead.TheVariants.{Bad, Of}
-use Rattle.characters.specs.Form.{within, Row, rows, lead_in, lead_from, whole, is_well_formed, well_char}
+use Rattle.characters.specs.Form.{within, Row, rows, lead_in, lead_from, whole, is_well_formed, well_char, Lead}
 use Rattle.buffers.specs.Lists.{concat, all_of}
 use Rattle.characters.specs.Text.{Char, chars, bytes}
 use Rattle.characters.proofs.Leads.{le_or_lt, inside, within_bounds, lead_row}
@@ -20,13 +19,13 @@ use Rattle.characters.proofs.Codes.{encode_1, encode_2, encode_3, encode_4, deco
 -- ---- a scalar value's bytes are one well-formed character
 
 -- the bytes behind a first byte of a row
-more_1 : (lo hi b : ℕ) → lo ≤ b → b ≤ hi → T (whole (b ∷ []) (Of 1 lo hi))
+more_1 : (lo hi b : ℕ) → lo ≤ b → b ≤ hi → T (whole (b ∷ []) (Some (1, lo, hi)))
 more_1 lo hi b l h = rw (inside lo hi b l h) tt
 
-more_2 : (lo hi b v : ℕ) → lo ≤ b → b ≤ hi → T (whole (b ∷ tail_byte v ∷ []) (Of 2 lo hi))
+more_2 : (lo hi b v : ℕ) → lo ≤ b → b ≤ hi → T (whole (b ∷ tail_byte v ∷ []) (Some (2, lo, hi)))
 more_2 lo hi b v l h = rw (inside lo hi b l h, inside 0x80 0xBF (tail_byte v) (omega arith) (omega arith)) tt
 
-more_3 : (lo hi b v w : ℕ) → lo ≤ b → b ≤ hi → T (whole (b ∷ tail_byte v ∷ tail_byte w ∷ []) (Of 3 lo hi))
+more_3 : (lo hi b v w : ℕ) → lo ≤ b → b ≤ hi → T (whole (b ∷ tail_byte v ∷ tail_byte w ∷ []) (Some (3, lo, hi)))
 more_3 lo hi b v w l h = rw (inside lo hi b l h, inside 0x80 0xBF (tail_byte v) (omega arith) (omega arith), inside 0x80 0xBF (tail_byte w) (omega arith) (omega arith)) tt
 
 module _ (v : ℕ) where
@@ -41,7 +40,7 @@ module _ (v : ℕ) where
   abbrev Three : Type 0
   Three = T (well_char ((0xE0 + v / 4096) ∷ tail_byte (v / 64) ∷ tail_byte v ∷ []))
 
-  row_3 : (lo hi : ℕ) → Of 2 lo hi ≡ lead_from (0xE0 + v / 4096) → lo ≤ tail_byte (v / 64) → tail_byte (v / 64) ≤ hi → Three
+  row_3 : (lo hi : ℕ) → Some (2, lo, hi) ≡ lead_from (0xE0 + v / 4096) → lo ≤ tail_byte (v / 64) → tail_byte (v / 64) ≤ hi → Three
   row_3 lo hi e l h = rw (← e) (more_2 lo hi (tail_byte (v / 64)) v l h)
 
   well_3 : 0x800 ≤ v → v ≤ 0xFFFF → (v ≤ 0xD7FF) ⊎ (0xE000 ≤ v) → Three
@@ -59,7 +58,7 @@ module _ (v : ℕ) where
   abbrev Four : Type 0
   Four = T (well_char ((0xF0 + v / 262144) ∷ tail_byte (v / 4096) ∷ tail_byte (v / 64) ∷ tail_byte v ∷ []))
 
-  row_4 : (lo hi : ℕ) → Of 3 lo hi ≡ lead_from (0xF0 + v / 262144) → lo ≤ tail_byte (v / 4096) → tail_byte (v / 4096) ≤ hi → Four
+  row_4 : (lo hi : ℕ) → Some (3, lo, hi) ≡ lead_from (0xF0 + v / 262144) → lo ≤ tail_byte (v / 4096) → tail_byte (v / 4096) ≤ hi → Four
   row_4 lo hi e l h = rw (← e) (more_3 lo hi (tail_byte (v / 4096)) (v / 64) v l h)
 
   well_4 : 0x10000 ≤ v → v ≤ 0x10FFFF → Four
@@ -97,7 +96,7 @@ pub record Encoded (c : List ℕ) : Type 0 where
 module _ (P : Lead → Type 0) (b : ℕ) where
   -- an argument for each row
   abbrev EachRow : List Row → Type 0
-  EachRow [] = P Bad
+  EachRow [] = P None
   EachRow (r ∷ rs) = (r.first ≤ b → b ≤ r.last → P r.lead) × EachRow rs
 
   in_rows : (rs : List Row) → EachRow rs → P (lead_in rs b)
@@ -113,11 +112,11 @@ module _ (P : Lead → Type 0) (b : ℕ) where
 encoded : (v : ℕ) {c d : List ℕ} → T (is_scalar v) → encode_scalar v ≡ d → d ≡ c → Encoded c
 encoded v s e f = record { value = v; scalar = s; is = e ∙ f }
 
-one_byte : (a : ℕ) (bs : List ℕ) (lo hi : ℕ) → a ≤ 0x7F → T (whole bs (Of 0 lo hi)) → Encoded (a ∷ bs)
+one_byte : (a : ℕ) (bs : List ℕ) (lo hi : ℕ) → a ≤ 0x7F → T (whole bs (Some (0, lo, hi))) → Encoded (a ∷ bs)
 one_byte a [] lo hi h w = encoded a (scalar_low a (omega arith)) (encode_1 a h) refl
 one_byte a (b ∷ bs) lo hi h w = absurd w
 
-two_bytes : (a : ℕ) (bs : List ℕ) → 0xC2 ≤ a → a ≤ 0xDF → T (whole bs (Of 1 0x80 0xBF)) → Encoded (a ∷ bs)
+two_bytes : (a : ℕ) (bs : List ℕ) → 0xC2 ≤ a → a ≤ 0xDF → T (whole bs (Some (1, 0x80, 0xBF))) → Encoded (a ∷ bs)
 two_bytes a [] l h w = absurd w
 two_bytes a (b ∷ []) l h w =
     let (x, y) = within_bounds 0x80 0xBF b ((both (within 0x80 0xBF b) true).0 w).0 in
@@ -132,11 +131,11 @@ two_bytes a (b ∷ c ∷ bs) l h w = absurd ((both (within 0x80 0xBF b) false).0
 module _ (a lo hi : ℕ) where
   three_bytes : (bs : List ℕ)
       → ((b c : ℕ) → lo ≤ b → b ≤ hi → 0x80 ≤ c → c ≤ 0xBF → let v = (a - 0xE0) * 4096 + (b - 0x80) * 64 + (c - 0x80) in (0x800 ≤ v) × ((v ≤ 0xD7FF) ⊎ (0xE000 ≤ v)))
-      → 0xE0 ≤ a → a ≤ 0xEF → 0x80 ≤ lo → hi ≤ 0xBF → T (whole bs (Of 2 lo hi)) → Encoded (a ∷ bs)
+      → 0xE0 ≤ a → a ≤ 0xEF → 0x80 ≤ lo → hi ≤ 0xBF → T (whole bs (Some (2, lo, hi))) → Encoded (a ∷ bs)
   three_bytes [] f l h m n w = absurd w
   three_bytes (b ∷ []) f l h m n w = absurd ((both (within lo hi b) false).0 w).1
   three_bytes (b ∷ c ∷ []) f l h m n w =
-      let (s, t) = (both (within lo hi b) (whole (c ∷ []) (Of 1 0x80 0xBF))).0 w in
+      let (s, t) = (both (within lo hi b) (whole (c ∷ []) (Some (1, 0x80, 0xBF)))).0 w in
       let (x, y) = within_bounds lo hi b s in
       let (z, u) = within_bounds 0x80 0xBF c ((both (within 0x80 0xBF c) true).0 t).0 in
       let v = (a - 0xE0) * 4096 + (b - 0x80) * 64 + (c - 0x80) in
@@ -147,19 +146,19 @@ module _ (a lo hi : ℕ) where
       let third : tail_byte v ≡ c = omega arith in
       encoded v (⊎_elim (scalar_low v) (λ k. scalar_high v k (omega arith)) r) (encode_3 v p q) (λ i. first i ∷ second i ∷ third i ∷ [])
   three_bytes (b ∷ c ∷ d ∷ bs) f l h m n w =
-      absurd ((both (within 0x80 0xBF c) false).0 ((both (within lo hi b) (whole (c ∷ d ∷ bs) (Of 1 0x80 0xBF))).0 w).1).1
+      absurd ((both (within 0x80 0xBF c) false).0 ((both (within lo hi b) (whole (c ∷ d ∷ bs) (Some (1, 0x80, 0xBF)))).0 w).1).1
 
   four_bytes : (bs : List ℕ)
       → ((b c d : ℕ) → lo ≤ b → b ≤ hi → 0x80 ≤ c → c ≤ 0xBF → 0x80 ≤ d → d ≤ 0xBF
       → let v = (a - 0xF0) * 262144 + (b - 0x80) * 4096 + (c - 0x80) * 64 + (d - 0x80) in (0x10000 ≤ v) × (v ≤ 0x10FFFF))
-      → 0xF0 ≤ a → 0x80 ≤ lo → hi ≤ 0xBF → T (whole bs (Of 3 lo hi)) → Encoded (a ∷ bs)
+      → 0xF0 ≤ a → 0x80 ≤ lo → hi ≤ 0xBF → T (whole bs (Some (3, lo, hi))) → Encoded (a ∷ bs)
   four_bytes [] f l m n w = absurd w
   four_bytes (b ∷ []) f l m n w = absurd ((both (within lo hi b) false).0 w).1
-  four_bytes (b ∷ c ∷ []) f l m n w = absurd ((both (within 0x80 0xBF c) false).0 ((both (within lo hi b) (whole (c ∷ []) (Of 2 0x80 0xBF))).0 w).1).1
+  four_bytes (b ∷ c ∷ []) f l m n w = absurd ((both (within 0x80 0xBF c) false).0 ((both (within lo hi b) (whole (c ∷ []) (Some (2, 0x80, 0xBF)))).0 w).1).1
   four_bytes (b ∷ c ∷ d ∷ []) f l m n w =
-      let (s, t) = (both (within lo hi b) (whole (c ∷ d ∷ []) (Of 2 0x80 0xBF))).0 w in
+      let (s, t) = (both (within lo hi b) (whole (c ∷ d ∷ []) (Some (2, 0x80, 0xBF)))).0 w in
       let (x, y) = within_bounds lo hi b s in
-      let (g, j) = (both (within 0x80 0xBF c) (whole (d ∷ []) (Of 1 0x80 0xBF))).0 t in
+      let (g, j) = (both (within 0x80 0xBF c) (whole (d ∷ []) (Some (1, 0x80, 0xBF)))).0 t in
       let (z, u) = within_bounds 0x80 0xBF c g in
       let (e, k) = within_bounds 0x80 0xBF d ((both (within 0x80 0xBF d) true).0 j).0 in
       let v = (a - 0xF0) * 262144 + (b - 0x80) * 4096 + (c - 0x80) * 64 + (d - 0x80) in
@@ -170,7 +169,7 @@ module _ (a lo hi : ℕ) where
       let fourth : tail_byte v ≡ d = omega arith in
       encoded v (scalar_high v (omega arith) q) (encode_4 v p) (λ i. first i ∷ second i ∷ third i ∷ fourth i ∷ [])
   four_bytes (b ∷ c ∷ d ∷ e ∷ bs) f l m n w =
-      absurd ((both (within 0x80 0xBF d) false).0 ((both (within 0x80 0xBF c) (whole (d ∷ e ∷ bs) (Of 1 0x80 0xBF))).0 ((both (within lo hi b) (whole (c ∷ d ∷ e ∷ bs) (Of 2 0x80 0xBF))).0 w).1).1).1
+      absurd ((both (within 0x80 0xBF d) false).0 ((both (within 0x80 0xBF c) (whole (d ∷ e ∷ bs) (Some (1, 0x80, 0xBF)))).0 ((both (within lo hi b) (whole (c ∷ d ∷ e ∷ bs) (Some (2, 0x80, 0xBF)))).0 w).1).1).1
 
 -- each row of the table
 by_row : (a : ℕ) (bs : List ℕ) → EachRow (λ x. T (whole bs x) → Encoded (a ∷ bs)) a rows
@@ -204,7 +203,7 @@ by_row a bs = (
   ),
 )
   where
-    none : (bs : List ℕ) → T (whole bs Bad) → Encoded (a ∷ bs)
+    none : (bs : List ℕ) → T (whole bs None) → Encoded (a ∷ bs)
     none [] w = absurd w
     none (b ∷ bs) w = absurd w
 

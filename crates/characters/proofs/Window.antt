@@ -1,4 +1,5 @@
 -- Bytes gone through by what may stand behind the three before each.
+use Rattle.std.specs.Prelude.{Some}
 use mathlib.Core.Bool.{false, false≢true, Bool, true, ◌||◌, not, beq, ◌&&◌}
 use Prim.Native.Nat.{ℕ, ◌≤◌, ◌<◌, ◌+◌, suc, ◌-◌, zero}
 use mathlib.Core.Path.{◌≡◌, sym, ◌∙◌, ap, refl}
@@ -12,7 +13,6 @@ use lib.Bits.{bit_or}
 use Rattle.buffers.proofs.Tests.{beq_true, or_split, known}
 use Rattle.characters.specs.InnerBlock.{OnlyIf, bit_of, invalid_byte_of, outside_of, due_of, asking, misplaced_of, pending_of, asked, before, Window, Tells, StandWell, Goes}
 use Rattle.characters.specs.Chars.{is_continuation, number_of_chars}
-use Rattle.characters.specs.declared.Lead.TheVariants.{Of}
 use Rattle.characters.specs.Form.{lead_from, rows, well_formed_from, is_well_formed}
 use Rattle.characters.specs.InnerPassed.{Passed}
 use Rattle.characters.specs.InnerAscii.{Runs}
@@ -90,11 +90,11 @@ module _ (p3 p2 p1 : ℕ) where
   unfolding asked
   asked_lead h = rw (le-leb 0xC0 p1 h)
 
-  asked_some : p1 < 0xC0 → (n : ℕ) → bit_of (leb 0xE0 p2) + bit_of (leb 0xF0 p2) + bit_of (leb 0xF0 p3) ≡ n → asked p3 p2 p1 ≡ Of n 0x80 0xBF
+  asked_some : p1 < 0xC0 → (n : ℕ) → bit_of (leb 0xE0 p2) + bit_of (leb 0xF0 p2) + bit_of (leb 0xF0 p3) ≡ n → asked p3 p2 p1 ≡ Some (n, 0x80, 0xBF)
   unfolding asked
   asked_some h n e = rw (lt-leb 0xC0 p1 h, e)
 
-  asked_none : pending_of p3 p2 p1 ≡ 0 → asked p3 p2 p1 ≡ Of 0 0x80 0xBF
+  asked_none : pending_of p3 p2 p1 ≡ 0 → asked p3 p2 p1 ≡ Some (0, 0x80, 0xBF)
   unfolding pending_of
   asked_none e = asked_some (bit_under 0xC0 p1 (omega arith)) 0 (omega (arith, bit_mono 0xF0 p2 0xE0 (omega arith)))
 
@@ -113,12 +113,12 @@ module _ (p3 p2 p1 b : ℕ) (f : Fine p3 p2 p1 b) where
       let o = opened p1 b c f.fits g h in
       let n = bit_of (leb 0xE0 p1) + bit_of (leb 0xF0 p1) in
       ap (well_formed_from (b ∷ l)) (asked_lead p3 p2 p1 h ∙ o.lead)
-      ∙ ap (λ v. v && well_formed_from l (Of n 0x80 0xBF)) o.fits
+      ∙ ap (λ v. v && well_formed_from l (Some (n, 0x80, 0xBF))) o.fits
       ∙ ap (well_formed_from l) (sym (asked_some p2 p1 b (omega arith) n (omega (arith, bit_yes 0xC0 p1 h)))))
       (λ h.
       let n = bit_of (leb 0xF0 p2) in
       ap (well_formed_from (b ∷ l)) (asked_some p3 p2 p1 h (suc n) (omega (arith, bit_no 0xC0 p1 h)))
-      ∙ ap (λ v. v && well_formed_from l (Of n 0x80 0xBF)) c
+      ∙ ap (λ v. v && well_formed_from l (Some (n, 0x80, 0xBF))) c
       ∙ ap (well_formed_from l) (sym (asked_some p2 p1 b (omega arith) n (omega (arith, bit_no 0xE0 p1 (omega arith), bit_no 0xF0 p1 (omega arith))))))
       (le_or_lt 0xC0 p1)
 

@@ -1,10 +1,8 @@
 -- Only contracts of inner functions cite this. What may stand behind three bytes.
-use Rattle.std.specs.Prelude.{ℕ, ◌+◌, ◌*◌, ◌-◌, ◌≤◌, ◌<◌, Bool, true, false, not, ◌||◌, ◌&&◌, cond, ◌≡◌, eqb, leb, List, get_or, length, drop}
+use Rattle.std.specs.Prelude.{ℕ, ◌+◌, ◌*◌, ◌-◌, ◌≤◌, ◌<◌, Bool, true, false, not, ◌||◌, ◌&&◌, cond, ◌≡◌, eqb, leb, List, get_or, length, drop, Some}
 use Rattle.std.specs.Bool.{beq}
-use Rattle.characters.specs.Form.{within, lead_from, well_formed_from, is_well_formed}
+use Rattle.characters.specs.Form.{within, lead_from, well_formed_from, is_well_formed, Lead}
 use Rattle.characters.specs.Chars.{is_continuation, number_of_chars}
-use Rattle.characters.specs.declared.Lead.{Lead}
-use Rattle.characters.specs.declared.Lead.TheVariants.{Of}
 use Rattle.characters.specs.InnerPassed.{Passed}
 
 abbrev pub bit_of : Bool → ℕ
@@ -51,7 +49,7 @@ misplaced_of p3 p2 p1 b = not (beq (is_continuation b) (due_of p3 p2 p1)) || inv
 -- what p3 p2 p1 ask for
 unfoldable pub asked : ℕ → ℕ → ℕ → Lead
 asked p3 p2 p1 =
-    cond (leb 0xC0 p1) (lead_from p1) (Of (bit_of (leb 0xE0 p2) + bit_of (leb 0xF0 p2) + bit_of (leb 0xF0 p3)) 0x80 0xBF)
+    cond (leb 0xC0 p1) (lead_from p1) (Some ((bit_of (leb 0xE0 p2) + bit_of (leb 0xF0 p2) + bit_of (leb 0xF0 p3)), 0x80, 0xBF))
 
 -- what a function of three bytes is of those before i
 abbrev pub before : {A : Type 0} → (ℕ → ℕ → ℕ → A) → List ℕ → ℕ → A

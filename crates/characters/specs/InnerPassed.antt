@@ -1,9 +1,7 @@
 -- How far a text was gone through, and what it is found to be. Only contracts of inner functions cite this.
 use Rattle.std.specs.Prelude.{ℕ, ◌+◌, ◌≤◌, suc, cond, Bool, true, List, ◌≡◌, length, drop, eqb, Option, Some, None}
-use Rattle.characters.specs.Form.{is_well_formed}
+use Rattle.characters.specs.Form.{is_well_formed, Lead}
 use Rattle.characters.specs.Chars.{number_of_chars}
-use Rattle.characters.specs.declared.Lead.{Lead}
-use Rattle.characters.specs.declared.Lead.TheVariants.{Bad, Of}
 
 unfoldable pub form_of : List ℕ → Option ℕ
 form_of t = cond (is_well_formed t) (Some (number_of_chars t)) None
@@ -17,5 +15,5 @@ pub record Passed (t : List ℕ) (at conts : ℕ) : Type 0 where
 
 -- a character of n bytes, where such a first byte begins one
 abbrev pub spans : Lead → ℕ → Bool
-spans Bad n = true
-spans (Of more lo hi) n = eqb n (suc more)
+spans None n = true
+spans (Some (more, lo, hi)) n = eqb n (suc more)

@@ -27,7 +27,7 @@ fn delete_first(a: &[u8], na: usize, b: &[u8], out: &mut [u8], n: usize, s: Stat
     State { x: g, y, e: f }
 }
 
-// The first k characters of an insert of the second, or of the first, whose text ends at `mid`: `part` for what inserts few bytes.
+// The first k characters of an insert of the second, or of the first, whose text ends at `mid`: `push` for what inserts few bytes.
 fn text_of_second(
     out: &mut [u8],
     n: usize,

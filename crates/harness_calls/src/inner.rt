@@ -98,14 +98,11 @@ fn keep(
     out: &[u8],
     kept: &mut Vec<u8>,
 ) -> Result<(), AllocError> {
-    match w {
-        Ok((_, m)) => {
-            if let Some(counterparts) = out.get(..m) {
-                kept.clear();
-                kept.extend_from_slice(counterparts)?;
-            }
+    if let Ok((_, m)) = w {
+        if let Some(counterparts) = out.get(..m) {
+            kept.clear();
+            kept.extend_from_slice(counterparts)?;
         }
-        Err(_) => (),
     }
     Ok(())
 }

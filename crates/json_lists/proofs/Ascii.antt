@@ -1,4 +1,5 @@
 -- Bytes below 80: each is a character by itself, and white space, digits and the letters of escapes are such bytes.
+use Rattle.std.specs.Prelude.{Some}
 use Prim.Native.Nat.{ℕ, ◌≤◌, ◌<◌}
 use native.Mathlib.Omega.{arith}
 use mathlib.Core.Path.{◌≡◌, sym, ap, ◌∙◌}
@@ -7,14 +8,13 @@ use mathlib.Core.Bool.{Bool, true, false, ◌||◌, false≢true}
 use mathlib.Core.List.{List, [], ◌∷◌}
 use lib.Dec.{T, eqb}
 use borrow.Author.Tests.{eqb-true, ne_eqb}
-use Rattle.characters.specs.declared.Lead.TheVariants.{Of}
 use Rattle.characters.specs.Form.{rows, lead_from, well_formed_from, is_well_formed}
 use Rattle.buffers.proofs.Tests.{known}
 use Rattle.characters.proofs.Leads.{le_or_lt, over, lead_row}
 use Rattle.json_lists.specs.Form.{is_white_space, is_digit, is_digit1_9, is_hex}
 
 module _ (b : ℕ) where
-  pub lead_ascii : b < 0x80 → lead_from b ≡ Of 0 0x80 0xBF
+  pub lead_ascii : b < 0x80 → lead_from b ≡ Some (0, 0x80, 0xBF)
   unfolding rows
   lead_ascii h = sym (lead_row 0 0x00 0x7F tt (omega arith) (omega arith))
 

@@ -1,4 +1,5 @@
 -- Every string of a list is well-formed text.
+use Rattle.std.specs.Prelude.{Some, None}
 use Prim.Native.Nat.{ℕ, zero, suc, ◌+◌, ◌*◌, ◌<◌, ◌≤◌}
 use native.Mathlib.Omega.{arith}
 use mathlib.Core.Path.{◌≡◌, refl, sym, ap, ◌∙◌}
@@ -7,10 +8,8 @@ use mathlib.Core.List.{List, [], ◌∷◌, ◌++◌, append_assoc, append-nil}
 use mathlib.Core.Option.{Option, none, some}
 use lib.Dec.{T, ltb, eqb, leb}
 use borrow.Author.Tests.{ltb-true, ne_eqb, le-ltb}
-use Rattle.characters.specs.declared.Lead.{Lead}
-use Rattle.characters.specs.declared.Lead.TheVariants.{Bad, Of}
 use Rattle.characters.specs.Scalar.{encode_scalar}
-use Rattle.characters.specs.Form.{within, lead_from, well_formed_from, is_well_formed}
+use Rattle.characters.specs.Form.{within, lead_from, well_formed_from, is_well_formed, Lead}
 use Rattle.buffers.specs.Lists.{all_of}
 use Rattle.buffers.proofs.Tests.{holds, known, le_and}
 use Rattle.buffers.proofs.Tests as tests
@@ -23,9 +22,9 @@ use Rattle.json_lists.proofs.Scalars.{named_scalar, encode_text, paired_scalar}
 
 -- no byte is due
 abbrev pub Clear : Lead → Type 0
-Clear Bad = ⊥
-Clear (Of zero lo hi) = Unit {0}
-Clear (Of (suc n) lo hi) = ⊥
+Clear None = ⊥
+Clear (Some (zero, lo, hi)) = Unit {0}
+Clear (Some (suc n, lo, hi)) = ⊥
 
 -- what is left of a text, where t was read of it
 pub record Leads (t : List ℕ) (x : Lead) : Type 0 where
@@ -108,7 +107,7 @@ module _ (b : ℕ) where
       (λ _. cond_elim Then (eqb b 0x2C) (λ e. clear (low_eq b 0x2C (omega arith) e))
       (λ _. cond_elim Then (eqb b 0x5D) (λ e. clear (low_eq b 0x5D (omega arith) e)) (λ _. tt)))
 
-  sound_text : (t : List ℕ) (lo hi : ℕ) → Leads t (Of zero lo hi) → Then (in_text t b)
+  sound_text : (t : List ℕ) (lo hi : ℕ) → Leads t (Some (zero, lo, hi)) → Then (in_text t b)
   sound_text t lo hi h =
       cond_elim Then (eqb b 0x22) (λ e. clear (low_eq b 0x22 (omega arith) e))
       (λ _. cond_elim Then (eqb b 0x5C) (λ e. (clear (low_eq b 0x5C (omega arith) e), known (ap is_well_formed (sym (append-nil t)) ∙ h.goes_on [])))
@@ -141,7 +140,7 @@ module _ (b : ℕ) where
   sound_counted high (suc (suc (suc zero))) v d t l w h m k = (clear l, w, omega arith, k)
   sound_counted high (suc (suc (suc (suc n)))) v d t l w h m k = absurd (omega arith)
 
-  sound_next : (p : Place) (lo hi : ℕ) → Sound p (Of zero lo hi) → Then (next p b)
+  sound_next : (p : Place) (lo hi : ℕ) → Sound p (Some (zero, lo, hi)) → Then (next p b)
   unfolding next
   sound_next at_start lo hi h = cond_elim Then (is_white_space b) (λ e. clear (low_space b e)) (λ _. cond_elim Then (eqb b 0x5B) (λ e. clear (low_eq b 0x5B (omega arith) e)) (λ _. tt))
   sound_next after_bracket lo hi h = cond_elim Then (is_white_space b) (λ e. clear (low_space b e)) (λ _. cond_elim Then (eqb b 0x5D) (λ e. clear (low_eq b 0x5D (omega arith) e)) (λ _. sound_begins))
@@ -164,7 +163,7 @@ well_item (number s n) = true
 well_item (string t) = is_well_formed t
 
 -- a string ends with a whole character
-sound_ends : (p : Place) (b : ℕ) (lo hi : ℕ) → Sound p (Of zero lo hi) → T (all_of well_item (ends p b))
+sound_ends : (p : Place) (b : ℕ) (lo hi : ℕ) → Sound p (Some (zero, lo, hi)) → T (all_of well_item (ends p b))
 unfolding ends
 sound_ends at_start b lo hi h = tt
 sound_ends after_bracket b lo hi h = tt
@@ -186,7 +185,7 @@ all_join [] m h k = k
 all_join (x ∷ l) m h k = let (f, g) = (tests.both (well_item x) (all_of well_item l)).0 h in (tests.both (well_item x) (all_of well_item (l ++ m))).1 (f, all_join l m g k)
 
 -- a byte within a character stands in a string
-inner_next : (p : Place) (b n lo hi : ℕ) → 0x80 ≤ b → within lo hi b ≡ true → Sound p (Of (suc n) lo hi) → Sound (next p b) (Of n 0x80 0xBF) × (ends p b ≡ [])
+inner_next : (p : Place) (b n lo hi : ℕ) → 0x80 ≤ b → within lo hi b ≡ true → Sound p (Some (suc n, lo, hi)) → Sound (next p b) (Some (n, 0x80, 0xBF)) × (ends p b ≡ [])
 unfolding next ends
 inner_next at_start b n lo hi k w h = absurd h
 inner_next after_bracket b n lo hi k w h = absurd h
@@ -207,14 +206,14 @@ inner_next outside b n lo hi k w h = (tt, refl)
 pub items_well : (bs : List ℕ) (p : Place) (x : Lead) → T (sane x) → well_formed_from bs x ≡ true → Sound p x → T (all_of well_item (items p bs))
 unfolding items
 items_well [] p x s e h = tt
-items_well (b ∷ bs) p Bad s e h = absurd (false≢true e)
-items_well (b ∷ bs) p (Of zero lo hi) s e h = all_join (ends p b) (items (next p b) bs) (sound_ends p b lo hi h) (items_well bs (next p b) (lead_from b) (sane_lead b) e (sound_next b p lo hi h))
-items_well (b ∷ bs) p (Of (suc n) lo hi) s e h =
-    let (w, r) = split (within lo hi b) (well_formed_from bs (Of n 0x80 0xBF)) e in
+items_well (b ∷ bs) p None s e h = absurd (false≢true e)
+items_well (b ∷ bs) p (Some (zero, lo, hi)) s e h = all_join (ends p b) (items (next p b) bs) (sound_ends p b lo hi h) (items_well bs (next p b) (lead_from b) (sane_lead b) e (sound_next b p lo hi h))
+items_well (b ∷ bs) p (Some (suc n, lo, hi)) s e h =
+    let (w, r) = split (within lo hi b) (well_formed_from bs (Some (n, 0x80, 0xBF))) e in
     let (l, _) = within_bounds lo hi b (known w) in
     let (x, y) = (le_and 0x80 lo (leb hi 0xBF)).0 s in
     let (f, g) = inner_next p b n lo hi (omega arith) w h in
-    all_join (ends p b) (items (next p b) bs) (rw g tt) (items_well bs (next p b) (Of n 0x80 0xBF) tt r f)
+    all_join (ends p b) (items (next p b) bs) (rw g tt) (items_well bs (next p b) (Some (n, 0x80, 0xBF)) tt r f)
 
 -- so the characters of a string are all its bytes
 pub strings_well : (list : List ℕ) (l : List Item) → read list ≡ some l → T (all_of well_item l)
@@ -224,5 +223,5 @@ strings_well list l e = go (in_form list) refl e
     go : (t : Bool) → in_form list ≡ t → cond t (some (items at_start list)) none ≡ some l → T (all_of well_item l)
     go true h e =
         let z : items at_start list ≡ l = cc e in
-        rw (← z) (items_well list at_start (Of 0 0x80 0xBF) tt (split (is_well_formed list) _ h).0 tt)
+        rw (← z) (items_well list at_start (Some (0, 0x80, 0xBF)) tt (split (is_well_formed list) _ h).0 tt)
     go false h e = absurd (let z : ◌≡◌ {A = ℕ} 0 1 = cc e in omega arith)

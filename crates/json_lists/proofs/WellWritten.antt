@@ -1,4 +1,5 @@
 -- What is written is well-formed UTF-8.
+use Rattle.std.specs.Prelude.{Some, None}
 use Prim.Native.Nat.{ℕ, zero, suc, ◌+◌, ◌/◌, ◌%◌, ◌<◌, ◌≤◌}
 use native.Mathlib.Omega.{arith}
 use mathlib.Core.Path.{◌≡◌, refl, ◌∙◌}
@@ -6,9 +7,7 @@ use mathlib.Core.Bool.{Bool, true, false, cond, false≢true}
 use mathlib.Core.List.{List, [], ◌∷◌, ◌++◌}
 use lib.Dec.{T, ltb, leb}
 use borrow.Author.Tests.{ltb-true, ltb-false, ne_eqb, le-ltb}
-use Rattle.characters.specs.declared.Lead.{Lead}
-use Rattle.characters.specs.declared.Lead.TheVariants.{Bad, Of}
-use Rattle.characters.specs.Form.{within, lead_from, well_formed_from, is_well_formed}
+use Rattle.characters.specs.Form.{within, lead_from, well_formed_from, is_well_formed, Lead}
 use Rattle.characters.specs.Text.{Char, bytes}
 use Rattle.buffers.proofs.Tests.{holds, known, le_and}
 use Rattle.characters.proofs.Leads.{within_bounds, sane, sane_lead}
@@ -50,18 +49,18 @@ high_raw b h = escaped_raw b (ne_eqb b 0x22 (λ e. omega arith)) (ne_eqb b 0x5C 
 -- escaping changes nothing but ASCII
 well_escaped : (u : List ℕ) (x : Lead) → T (sane x) → well_formed_from u x ≡ true → well_formed_from (escaped_all u) x ≡ true
 well_escaped [] x s e = e
-well_escaped (b ∷ u) Bad s e = absurd (false≢true e)
-well_escaped (b ∷ u) (Of zero lo hi) s e = go (ltb b 0x80) refl (well_escaped u (lead_from b) (sane_lead b) e)
+well_escaped (b ∷ u) None s e = absurd (false≢true e)
+well_escaped (b ∷ u) (Some (zero, lo, hi)) s e = go (ltb b 0x80) refl (well_escaped u (lead_from b) (sane_lead b) e)
   where
-    go : (t : Bool) → ltb b 0x80 ≡ t → well_formed_from (escaped_all u) (lead_from b) ≡ true → well_formed_from (escaped_all (b ∷ u)) (Of zero lo hi) ≡ true
+    go : (t : Bool) → ltb b 0x80 ≡ t → well_formed_from (escaped_all u) (lead_from b) ≡ true → well_formed_from (escaped_all (b ∷ u)) (Some (zero, lo, hi)) ≡ true
     go true p ih =
         any_range (escaped_all (b ∷ u)) lo hi ∙ well_append (escaped b) (escaped_all u) (well_ascii b (ltb-true b 0x80 p)) ∙ rw (lead_ascii b (ltb-true b 0x80 p)) at ih
     go false p ih = rw (high_raw b (ltb-false b 0x80 p)) ih
-well_escaped (b ∷ u) (Of (suc n) lo hi) s e =
-    let (w, r) = split (within lo hi b) (well_formed_from u (Of n 0x80 0xBF)) e in
+well_escaped (b ∷ u) (Some (suc n, lo, hi)) s e =
+    let (w, r) = split (within lo hi b) (well_formed_from u (Some (n, 0x80, 0xBF))) e in
     let (l, h) = within_bounds lo hi b (known w) in
     let (x, y) = (le_and 0x80 lo (leb hi 0xBF)).0 s in
-    rw (high_raw b (omega arith)) (both (within lo hi b) (well_formed_from (escaped_all u) (Of n 0x80 0xBF)) w (well_escaped u (Of n 0x80 0xBF) tt r))
+    rw (high_raw b (omega arith)) (both (within lo hi b) (well_formed_from (escaped_all u) (Some (n, 0x80, 0xBF))) w (well_escaped u (Some (n, 0x80, 0xBF)) tt r))
 
 -- ---- the list
 
@@ -70,7 +69,7 @@ unfolding value decimal lead_from
 well_value (retain n) = well_decimal (suc n) n
 well_value (insert s) =
     well_append (0x22 ∷ []) (escaped_all (bytes s) ++ (0x22 ∷ [])) refl
-    ∙ well_append (escaped_all (bytes s)) (0x22 ∷ []) (well_escaped (bytes s) (Of 0 0x80 0xBF) tt (holds (is_well_formed (bytes s)) (bytes_well s)))
+    ∙ well_append (escaped_all (bytes s)) (0x22 ∷ []) (well_escaped (bytes s) (Some (0, 0x80, 0xBF)) tt (holds (is_well_formed (bytes s)) (bytes_well s)))
 well_value (delete n) = well_append (0x2D ∷ []) (decimal_in (suc n) n) refl ∙ well_decimal (suc n) n
 
 well_others : (s : Seq) → is_well_formed (others s) ≡ true

@@ -11,7 +11,6 @@ use Rattle.buffers.specs.Lists.{all_of}
 use Rattle.buffers.specs.InnerOver.{over}
 use Rattle.buffers.proofs.Over.{length_over, over_nil, over_join, over_at, put_in}
 use Rattle.buffers.proofs.Tests.{both, holds, known}
-use Rattle.characters.specs.declared.Lead.TheVariants.{Of}
 use Rattle.characters.specs.Form.{is_well_formed}
 use Rattle.characters.specs.Scalar.{encode_scalar}
 use Rattle.json_lists.specs.Form.{Place, at_start, in_string, after_escape, after_value, is_end, next, reached, items, in_form}
@@ -166,7 +165,7 @@ module _ {list : List ℕ} {at : ℕ} {out : List ℕ} {to : ℕ} (r : Ready (in
         (sym (ascii_on 0x5C (drop (at + 1) list) (omega arith))
         ∙ ap (λ b. is_well_formed (b ∷ drop (at + 1) list)) (sym s)
         ∙ ap is_well_formed (sym (at_byte list at h))
-        ∙ starts list at (Of 0 0x80 0xBF) tt (holds (is_well_formed list) r.well) h (omega arith))
+        ∙ starts list at (Some (0, 0x80, 0xBF)) tt (holds (is_well_formed list) r.well) h (omega arith))
 
     module _ {i j : ℕ} {o : List ℕ} (m : Moved (after_escape []) (in_string []) list (at + 1) out to i j o) where
       pub escape_then : Moved (in_string []) (in_string []) list at out to i j o

@@ -1,5 +1,5 @@
 -- The texts that are still to be copied, from one position of a list to another.
-use Rattle.std.specs.Prelude.{◌≡◌, ℕ, zero, suc, ◌+◌, ◌<◌, ◌≤◌, true, T, leb, List, [], ◌∷◌, ◌++◌, length, get_or, drop}
+use Rattle.std.specs.Prelude.{◌≡◌, ℕ, zero, suc, ◌+◌, ◌<◌, ◌≤◌, true, T, leb, List, [], ◌∷◌, ◌++◌, length, get_or, drop, Some, None}
 use native.Mathlib.Omega.{arith}
 use mathlib.Core.Path.{refl, sym, ap, ◌∙◌}
 use mathlib.Core.Logic.{⊎_elim}
@@ -7,9 +7,7 @@ use mathlib.Core.Bool.{false≢true}
 use lib.ListN.{drop_of_length-le}
 use Rattle.buffers.specs.Lists.{all_of}
 use Rattle.buffers.proofs.Tests.{both, known, le_and}
-use Rattle.characters.specs.declared.Lead.{Lead}
-use Rattle.characters.specs.declared.Lead.TheVariants.{Bad, Of}
-use Rattle.characters.specs.Form.{within, lead_from, well_formed_from, is_well_formed}
+use Rattle.characters.specs.Form.{within, lead_from, well_formed_from, is_well_formed, Lead}
 use Rattle.characters.proofs.Leads.{le_or_lt, within_bounds, sane, sane_lead}
 use Rattle.characters.proofs.Chars.{split}
 use Rattle.json_lists.specs.Form.{Place, in_string, after_escape, after_value, is_end, reached, items}
@@ -25,15 +23,15 @@ use Rattle.json_texts.proofs.Texts.{raw_byte, quotation_mark, backslash}
 pub starts : (t : List ℕ) (i : ℕ) (x : Lead) → T (sane x) → well_formed_from t x ≡ true → i < length t → get_or t i 0 < 0x80
     → is_well_formed (drop i t) ≡ true
 starts [] i x s e h l = absurd (omega arith)
-starts (b ∷ t) i Bad s e h l = absurd (false≢true e)
-starts (b ∷ t) zero (Of zero lo hi) s e h l = e
-starts (b ∷ t) (suc i) (Of zero lo hi) s e h l = starts t i (lead_from b) (sane_lead b) e (omega arith) l
-starts (b ∷ t) zero (Of (suc n) lo hi) s e h l =
-    let (k, _) = within_bounds lo hi b (known (split (within lo hi b) (well_formed_from t (Of n 0x80 0xBF)) e).0) in
+starts (b ∷ t) i None s e h l = absurd (false≢true e)
+starts (b ∷ t) zero (Some (zero, lo, hi)) s e h l = e
+starts (b ∷ t) (suc i) (Some (zero, lo, hi)) s e h l = starts t i (lead_from b) (sane_lead b) e (omega arith) l
+starts (b ∷ t) zero (Some (suc n, lo, hi)) s e h l =
+    let (k, _) = within_bounds lo hi b (known (split (within lo hi b) (well_formed_from t (Some (n, 0x80, 0xBF))) e).0) in
     let (m, _) = (le_and 0x80 lo (leb hi 0xBF)).0 s in
     absurd (omega arith)
-starts (b ∷ t) (suc i) (Of (suc n) lo hi) s e h l =
-    starts t i (Of n 0x80 0xBF) tt (split (within lo hi b) (well_formed_from t (Of n 0x80 0xBF)) e).1 (omega arith) l
+starts (b ∷ t) (suc i) (Some (suc n, lo, hi)) s e h l =
+    starts t i (Some (n, 0x80, 0xBF)) tt (split (within lo hi b) (well_formed_from t (Some (n, 0x80, 0xBF))) e).1 (omega arith) l
 
 -- ---- positions of the list
 

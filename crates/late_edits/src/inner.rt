@@ -161,6 +161,7 @@ pub fn in_medium_buffers(
     requires { Admitted edit.now r log.old s × (n ≡ count_of log.old - r) }
     ensures { Accepts edit.now r log.old out.old result log.new out.new }
 {
+    // the answer is taken apart because one that is handed on whole is copied
     match in_short_buffers::<MEDIUM_EDIT, MEDIUM_STAGE, MEDIUM_PARTS>(
         edit, r, log, s, n, out, MEDIUM_OPS,
     ) {
@@ -181,6 +182,7 @@ pub fn in_small_buffers(
     requires { Admitted edit.now r log.old s × (n ≡ count_of log.old - r) }
     ensures { Accepts edit.now r log.old out.old result log.new out.new }
 {
+    // the answer is taken apart because one that is handed on whole is copied
     match in_short_buffers::<SMALL_EDIT, SMALL_STAGE, SMALL_PARTS>(
         edit, r, log, s, n, out, SMALL_OPS,
     ) {

@@ -6,7 +6,6 @@ ghost use Rattle.characters.specs.Form.{is_well_formed};
 ghost use Rattle.characters.specs.Order.{byte_order};
 ghost use Rattle.utf8.specs.InnerChars.{CharAt};
 
-use characters::Lead;
 use std::cmp::Ordering;
 
 pub fn continues(b: u8) -> bool
@@ -37,7 +36,7 @@ pub fn continuations(text: &[u8], at: usize) -> usize
     requires { at < length text.now }
     ensures { CharAt text.now at result }
 {
-    let Lead::Of { more, lo, hi } = crate::lead_of(text[at]) else {
+    let Some((more, lo, hi)) = crate::lead_of(text[at]) else {
         return 0;
     };
     if !crate::due(text, at + 1, more, lo, hi) {
@@ -64,24 +63,5 @@ pub fn skip(bytes: &[u8], at: usize, k: usize) -> usize
 pub fn compare(a: &[u8], b: &[u8]) -> Ordering
     ensures { result ≡ byte_order a.now b.now }
 {
-    let mut i = 0;
-    while i < a.len() {
-        if b.len() <= i {
-            return Ordering::Greater;
-        }
-        let x = a[i];
-        let y = b[i];
-        if x < y {
-            return Ordering::Less;
-        }
-        if y < x {
-            return Ordering::Greater;
-        }
-        i += 1;
-    }
-    if i < b.len() {
-        Ordering::Less
-    } else {
-        Ordering::Equal
-    }
+    a.cmp(b)
 }

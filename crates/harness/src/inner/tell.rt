@@ -101,26 +101,20 @@ pub fn opened(to: &mut impl Write, w: Result<usize, Refusal>, log: &[u8]) -> std
 
 pub fn summed(to: &mut impl Write, w: Result<usize, Refusal>, out: &[u8]) -> std::io::Result<()> {
     write!(to, "{}", show::Answer(w))?;
-    match w {
-        Ok(n) => {
-            write!(to, "; ")?;
-            part(to, out, 0, n)?;
-        }
-        Err(_) => (),
+    if let Ok(n) = w {
+        write!(to, "; ")?;
+        part(to, out, 0, n)?;
     }
     write!(to, "; output {}", Bytes(out))
 }
 
 pub fn played(to: &mut impl Write, w: Result<usize, Refusal>, out: &[u8]) -> std::io::Result<()> {
     write!(to, "{}", show::Answer(w))?;
-    match w {
-        Ok(n) => {
-            write!(to, "; ")?;
-            if let Some(text) = out.get(..n) {
-                words::text(to, text)?;
-            }
+    if let Ok(n) = w {
+        write!(to, "; ")?;
+        if let Some(text) = out.get(..n) {
+            words::text(to, text)?;
         }
-        Err(_) => (),
     }
     Ok(())
 }

@@ -10,20 +10,20 @@ loop-i-preserved-then-b-lt128 c = let h : c.loop-i.i < length c.args.text.now = 
 
 pub tail_ok-requires : goal.tail_ok-requires
 tail_ok-requires c = let h : c.loop-i.i < length c.args.text.now = omega arith in
-    let few : c.in-Of.more ≤ 3 = search lead_few in
+    let few : c.in-Some.more ≤ 3 = search lead_few in
     (omega arith, few)
 
 pub returns-then-not-tail_ok : goal.returns-then-not-tail_ok
 returns-then-not-tail_ok c = search rules
 
 pub overflow_add-i-else-b-lt128 : goal.overflow_add-i-else-b-lt128
-overflow_add-i-else-b-lt128 c = let lt : c.loop-i.i < length c.args.text.now = omega arith in let h : Passed c.args.text.now (c.loop-i.i + 1 + c.in-Of.more) (c.loop-i.conts + c.in-Of.more) = search past_due in omega arith
+overflow_add-i-else-b-lt128 c = let lt : c.loop-i.i < length c.args.text.now = omega arith in let h : Passed c.args.text.now (c.loop-i.i + 1 + c.in-Some.more) (c.loop-i.conts + c.in-Some.more) = search past_due in omega arith
 
 pub overflow_add-conts : goal.overflow_add-conts
-overflow_add-conts c = let lt : c.loop-i.i < length c.args.text.now = omega arith in let h : Passed c.args.text.now (c.loop-i.i + 1 + c.in-Of.more) (c.loop-i.conts + c.in-Of.more) = search past_due in omega arith
+overflow_add-conts c = let lt : c.loop-i.i < length c.args.text.now = omega arith in let h : Passed c.args.text.now (c.loop-i.i + 1 + c.in-Some.more) (c.loop-i.conts + c.in-Some.more) = search past_due in omega arith
 
 pub loop-i-smaller : goal.loop-i-smaller
-loop-i-smaller c = let lt : c.loop-i.i < length c.args.text.now = omega arith in let h : Passed c.args.text.now (c.loop-i.i + 1 + c.in-Of.more) (c.loop-i.conts + c.in-Of.more) = search past_due in omega arith
+loop-i-smaller c = let lt : c.loop-i.i < length c.args.text.now = omega arith in let h : Passed c.args.text.now (c.loop-i.i + 1 + c.in-Some.more) (c.loop-i.conts + c.in-Some.more) = search past_due in omega arith
 
 pub loop-i-preserved : goal.loop-i-preserved
 loop-i-preserved c = let lt : c.loop-i.i < length c.args.text.now = omega arith in search past_due

@@ -19,13 +19,13 @@ pub returns-then-not-due : goal.returns-then-not-due
 returns-then-not-due c = search not_due
 
 pub overflow_add-i-else-b-lt128 : goal.overflow_add-i-else-b-lt128
-overflow_add-i-else-b-lt128 c = let h : Passed c.args.text.now (c.loop-i.i + 1 + c.in-Of.more) (c.loop-i.conts + c.in-Of.more) = search past_due in omega arith
+overflow_add-i-else-b-lt128 c = let h : Passed c.args.text.now (c.loop-i.i + 1 + c.in-Some.more) (c.loop-i.conts + c.in-Some.more) = search past_due in omega arith
 
 pub overflow_add-conts : goal.overflow_add-conts
-overflow_add-conts c = let h : Passed c.args.text.now (c.loop-i.i + 1 + c.in-Of.more) (c.loop-i.conts + c.in-Of.more) = search past_due in omega arith
+overflow_add-conts c = let h : Passed c.args.text.now (c.loop-i.i + 1 + c.in-Some.more) (c.loop-i.conts + c.in-Some.more) = search past_due in omega arith
 
 pub loop-i-smaller : goal.loop-i-smaller
-loop-i-smaller c = let h : Passed c.args.text.now (c.loop-i.i + 1 + c.in-Of.more) (c.loop-i.conts + c.in-Of.more) = search past_due in omega arith
+loop-i-smaller c = let h : Passed c.args.text.now (c.loop-i.i + 1 + c.in-Some.more) (c.loop-i.conts + c.in-Some.more) = search past_due in omega arith
 
 pub loop-i-preserved : goal.loop-i-preserved
 loop-i-preserved c = search past_due

@@ -1,5 +1,5 @@
+use Rattle.std.specs.Prelude.{Some}
 use Rattle.std.proofs.Common.{◌≡◌, ◌+◌, ◌-◌, suc, refl, take, drop, false, arith}
-use Rattle.characters.specs.declared.Lead.TheVariants.{Of}
 use Rattle.characters.specs.Chars.{is_continuation}
 use Rattle.characters.specs.Form.{whole}
 use Rattle.characters.proofs.Steps.{due_none, first_out, first_in, only}
@@ -22,7 +22,7 @@ unfolding is_continuation
 returns-then-not-is_cont c = let a = c.args in let t = a.text.now in
     let e : suc (a.more - 1) ≡ a.more = omega arith in
     let f : suc (a.more - 2) ≡ a.more - 1 = omega arith in
-    let y : false ≡ whole (take (a.more - 1) (drop (a.at + 1) t)) (Of (a.more - 1) 0x80 0xBF) = rw f at (first_out t (a.at + 1) 0x80 0xBF _ c.is_cont.ensures (a.more - 2) c.if-not-is_cont.true (omega arith)) in
+    let y : false ≡ whole (take (a.more - 1) (drop (a.at + 1) t)) (Some (a.more - 1, 0x80, 0xBF)) = rw f at (first_out t (a.at + 1) 0x80 0xBF _ c.is_cont.ensures (a.more - 2) c.if-not-is_cont.true (omega arith)) in
     rw e at (first_in t a.at a.lo a.hi _ c.in_range.ensures (a.more - 1) c.if-not-in_range.false (omega arith) y)
 
 pub returns-then-more-eq2 : goal.returns-then-more-eq2
