@@ -1,4 +1,4 @@
-// The calls for C: include/ot.h declares them, `rt staticlib c_api` makes the library.
+// The calls for C: include/ot.h declares them, `tools/archive` makes the library.
 #![tactic(auto)]
 
 ghost use Rattle.std.specs.Prelude.{◌≡◌, length, if◌then◌else◌};
