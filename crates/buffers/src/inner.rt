@@ -68,12 +68,15 @@ pub fn lesser(a: usize, b: usize) -> usize
     a.min(b)
 }
 
+// By a loop: `copy_from_slice` of a length that isn't known is a call of memmove, which the library for C asks nobody for.
 pub fn copy_into(dst: &mut [u8], at: usize, src: &[u8])
     requires { at + length src.now ≤ length dst.old }
     ensures { dst.new ≡ take at dst.old ++ src.now ++ drop (at + length src.now)
         dst.old }
 {
-    dst[at..at + src.len()].copy_from_slice(src);
+    for j in 0..src.len() {
+        dst[at + j] = src[j];
+    }
 }
 
 // N bytes, read before any is written: one move, where N is 1, 2, 4 or 8.

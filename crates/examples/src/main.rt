@@ -15,16 +15,20 @@
 #![tactic(auto)]
 
 use harness::inner::line;
-use std::io::{BufWriter, Write};
+use harness::inner::printer::Printer;
+use std::io::BufWriter;
 
 mod calls;
 
 fn main(rt: HostRuntime) -> std::io::Result<()> {
     let alloc = rt.alloc();
     let input = line::input(&rt)?;
-    let mut to = BufWriter::new(alloc, std::io::writer(&rt))?;
+    let mut to = Printer {
+        to: BufWriter::new(alloc, std::io::writer(&rt))?,
+    };
     line::answered(&mut to, alloc, &input, |to, line| {
-        calls::answer(to, alloc, line)
+        calls::answer(to, alloc, line);
     })?;
-    to.flush()
+    to.flush();
+    Ok(())
 }

@@ -7,7 +7,6 @@ use mathlib.Core.Logic.{⊎_elim}
 use lib.ListN.{length-take, length-drop}
 use lib.Seq.{take-add, drop-drop}
 use borrow.Author.Tests.{not-true, not-false, ne_eqb, le-ltb, ltb-true, ltb-false}
-use Rattle.std.specs.List.{prefix_len}
 use Rattle.buffers.specs.Lists.{all_of}
 use Rattle.buffers.proofs.Tests.{both, holds, known}
 use Rattle.characters.specs.Form.{is_well_formed, well_char, lead_from}
@@ -19,7 +18,6 @@ use Rattle.utf8.specs.InnerChars.{CharAt}
 use Rattle.json_lists.specs.Grammar.{is_raw}
 use Rattle.json_lists.specs.InnerRuns.{Run, Plain}
 use Rattle.json_lists.proofs.Ascii.{lead_ascii, ascii_on}
-use Rattle.json_lists.proofs.Fronts.{run_front}
 use Rattle.json_lists.proofs.Scalars.{one_char}
 use Rattle.json_strings.specs.InnerStrings.{is_plain, Plains}
 
@@ -57,11 +55,16 @@ module _ (t : List ℕ) (at : ℕ) where
       let k = p.below in
       plains_join i (i + 8) p (omega arith) (omega arith) (known (ap (λ n. all_of is_plain (take n (drop i t))) (sym z) ∙ sym e ∙ not-false b n))
 
-  pub run_on : (i : ℕ) → Plains t at i → Run is_plain t at (i + prefix_len is_plain (drop i t))
-  run_on i p =
-      let r = run_front is_plain t i p.below in
-      let q = plains_join i (i + prefix_len is_plain (drop i t)) p r.above r.below r.all in
-      record { above = q.above; below = q.below; all = q.all; stops = r.stops }
+  module _ (i : ℕ) (p : Plains t at i) where
+    pub run_whole : length t ≤ i → Run is_plain t at i
+    run_whole h = record { above = p.above; below = p.below; all = p.all; stops = λ l. absurd (omega arith) }
+
+    module _ (h : i < length t) {b : Bool} (e : b ≡ is_plain (get_or t i 0)) where
+      pub run_stop : not b ≡ true → Run is_plain t at i
+      run_stop n = record { above = p.above; below = p.below; all = p.all; stops = λ _. sym e ∙ not-true b n }
+
+      pub plains_byte : not b ≡ false → Plains t at (i + 1)
+      plains_byte n = plains_join i (i + 1) p (omega arith) (omega arith) (rw (one t i h, ← e, not-false b n) tt)
 
 -- ---- what a stretch is
 

@@ -1,6 +1,6 @@
 // The answers of the calls, as one number of 64 bits each.
-ghost use Rattle.std.specs.Prelude.{◌≡◌, cond, ◌+◌, ◌^◌, T};
-ghost use Rattle.answers.specs.Answer.{number, answer_of, noop_of, pair_of};
+ghost use Rattle.std.specs.Prelude.{◌≡◌, cond, ◌+◌, ◌^◌, T, [], ◌∷◌};
+ghost use Rattle.answers.specs.Answer.{success, number, answer_of, noop_of, pair_of};
 ghost use Rattle.walker.specs.Walk.{found_of};
 ghost use Rattle.packing.specs.Numbers.{packed, small, step_number};
 
@@ -49,11 +49,18 @@ pub fn pair(x: Result<(usize, usize), Refusal>) -> u64
     }
 }
 
+// What a step gives, by the kind's number, whatever that is.
+pub fn kind_and_count(kind: u8, count: u16) -> u64
+    ensures { result ≡ step_number (success (kind ∷ count ∷ [])) }
+{
+    kind as u64 + 256 * (count as u64)
+}
+
 pub fn step(x: Option<Op>) -> u64
     ensures { result ≡ step_number (found_of x) }
 {
     match x {
-        Some(Op { kind, count }) => u8::from(kind) as u64 + 256 * (count as u64),
+        Some(Op { kind, count }) => kind_and_count(u8::from(kind), count),
         None => 0,
     }
 }

@@ -22,13 +22,16 @@
 #![tactic(auto)]
 
 use harness::inner::line;
+use harness::inner::printer::Printer;
 use harness_calls::inner::answer;
-use std::io::{BufWriter, Write};
+use std::io::BufWriter;
 
 fn main(rt: HostRuntime) -> std::io::Result<()> {
     let alloc = rt.alloc();
     let input = line::input(&rt)?;
-    let mut to = BufWriter::new(alloc, std::io::writer(&rt))?;
+    let mut to = Printer {
+        to: BufWriter::new(alloc, std::io::writer(&rt))?,
+    };
     let mut a = line::untouched(alloc, line::MOST)?;
     let mut b = line::untouched(alloc, line::MOST)?;
     let mut kept = Vec::new(alloc);
@@ -39,5 +42,6 @@ fn main(rt: HostRuntime) -> std::io::Result<()> {
             _ => answer(to, alloc, line, &mut a, &mut kept),
         }
     })?;
-    to.flush()
+    to.flush();
+    Ok(())
 }

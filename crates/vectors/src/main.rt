@@ -13,8 +13,8 @@
 
 use call::name;
 use case::Case;
-use std::alloc::Global;
-use std::fs::File;
+use std::alloc::{AllocError, Global};
+use std::fs::{File, Files};
 use std::io::{BufWriter, Read, Write};
 use std::{env, fmt};
 
@@ -43,20 +43,24 @@ impl fmt::Display for Tally {
 
 impl Tally {
     // A case more. One that differs is named.
-    fn count(&mut self, to: &mut impl Write, call: u8, agrees: bool) -> std::io::Result<()> {
+    fn count(&mut self, to: &mut impl Write, call: u8, agrees: bool) {
         self.cases = self.cases.saturating_add(1);
         if !agrees {
             self.differ = self.differ.saturating_add(1);
             if let Some(name) = name(call) {
-                write!(to, "{name:<11}")?;
+                let _ = write!(to, "{name:<11}");
             }
-            writeln!(to, "case {} differs", self.cases)?;
+            let _ = writeln!(to, "case {} differs", self.cases);
         }
-        Ok(())
     }
 
     // A case that is cut off takes all that is left, and differs.
-    fn replay(&mut self, to: &mut impl Write, alloc: Global, list: &[u8]) -> std::io::Result<()> {
+    fn replay(
+        &mut self,
+        to: &mut impl Write,
+        alloc: Global,
+        list: &[u8],
+    ) -> Result<(), AllocError> {
         let mut rest = list;
         while let Some(call) = rest.first() {
             let agrees = match Case::split(rest) {
@@ -69,12 +73,22 @@ impl Tally {
                     false
                 }
             };
-            self.count(to, *call, agrees)?;
+            self.count(to, *call, agrees);
         }
         Ok(())
     }
 }
 
+// What a part's file has. A read that the system refuses ends it.
+fn part(rt: &(impl Files + AllocGlobal), name: &str) -> std::io::Result<Vec<u8>> {
+    let mut list = Vec::new(rt.alloc());
+    match File::open(rt, name)?.take(PART).read_to_end(&mut list) {
+        Err(e) if e.raw_os_error().is_none() => Err(e),
+        _ => Ok(list),
+    }
+}
+
+// What can't be written is left out. All of a part's cases are written before the next part is opened.
 fn main(rt: HostRuntime) -> std::io::Result<()> {
     let alloc = rt.alloc();
     let mut to = BufWriter::new(alloc, std::io::writer(&rt))?;
@@ -83,12 +97,11 @@ fn main(rt: HostRuntime) -> std::io::Result<()> {
         differ: 0,
     };
     for name in env::args(&rt)?.skip(1) {
-        let mut list = Vec::new(alloc);
-        File::open(&rt, name.as_str())?
-            .take(PART)
-            .read_to_end(&mut list)?;
+        let list = part(&rt, name.as_str())?;
         tally.replay(&mut to, alloc, &list)?;
+        let _ = to.flush();
     }
-    writeln!(to, "{tally}")?;
-    to.flush()
+    let _ = writeln!(to, "{tally}");
+    let _ = to.flush();
+    Ok(())
 }

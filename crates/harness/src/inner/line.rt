@@ -1,6 +1,7 @@
 // A list of calls, one on a line: a call's name, then its operands as bytes.
-ghost use Rattle.std.specs.Prelude.{◌≡◌, ◌≤◌, length, replicate, IfOk};
+ghost use Rattle.std.specs.Prelude.{◌≡◌, ◌≤◌, length, replicate, IfOk, vec_len};
 
+use crate::inner::printer::Printer;
 use std::alloc::{AllocError, Global};
 use std::io::{Read, Write};
 
@@ -10,30 +11,33 @@ const LIST: u64 = 65536;
 // A call's name and operands have no more bytes than these; what would come behind them is left out.
 const OPERANDS: usize = 131072;
 
-// The list that is on standard input.
+// The list that is on standard input. A read that the system refuses ends it.
 pub fn input(rt: &(impl Input + AllocGlobal)) -> std::io::Result<Vec<u8>> {
     let mut list = Vec::new(rt.alloc());
-    rt.reader().take(LIST).read_to_end(&mut list)?;
-    Ok(list)
+    match rt.reader().take(LIST).read_to_end(&mut list) {
+        Err(e) if e.raw_os_error().is_none() => Err(e),
+        _ => Ok(list),
+    }
 }
 
-// Each line of a list, with a call's answer behind it.
-pub fn answered<W: Write, F: FnMut(&mut W, &Line) -> std::io::Result<()>>(
-    to: &mut W,
+// Each line of a list, with a call's answer behind it. What stands before the answer is written before the call.
+pub fn answered<W: Write, F: FnMut(&mut Printer<W>, &Line)>(
+    to: &mut Printer<W>,
     alloc: Global,
     list: &[u8],
     mut answer: F,
-) -> std::io::Result<()>
+) -> Result<(), AllocError>
     requires { F.IsAlwaysCallable answer }
 {
     for line in list.split_inclusive(|c| *c == b'\n') {
         let text = line.strip_suffix(b"\n").unwrap_or(line);
-        to.write_all(text)?;
+        to.write_all(text);
         if let Some(line) = Line::read(alloc, text)? {
-            write!(to, " -> ")?;
-            answer(to, &line)?;
+            write!(to, " -> ");
+            to.flush();
+            answer(to, &line);
         }
-        writeln!(to)?;
+        writeln!(to);
     }
     Ok(())
 }
@@ -48,10 +52,18 @@ pub fn untouched(alloc: Global, len: usize) -> Result<Vec<u8>, AllocError>
     vec![in alloc; 0xEE; len]
 }
 
+// Where the name, the first operand and the second end in a line's bytes.
+#[derive(Clone, Copy)]
+pub struct Parts {
+    pub name: usize,
+    pub first: usize,
+    pub second: usize,
+}
+
 #[derive(Drop)]
 pub struct Line {
     // the name and the operands, end to end
-    bytes: Vec<u8>,
+    pub bytes: Vec<u8>,
     // where the name ends, and where the first operand does, once a comma has ended it
     name: usize,
     first: Option<usize>,
@@ -92,20 +104,41 @@ impl Line {
         Ok(Some(line))
     }
 
+    // The `ensures` is what taking the parts out needs.
+    pub fn ends(&self) -> Parts
+        ensures { (result.name ≤ result.first) × (result.first ≤ result.second)
+            × (result.second ≤ vec_len self.now.bytes) }
+    {
+        let name = self.name;
+        let second = self.bytes.len();
+        let first = self.first.unwrap_or(second);
+        if name <= first && first <= second {
+            return Parts {
+                name,
+                first,
+                second,
+            };
+        }
+        Parts {
+            name: 0,
+            first: 0,
+            second: 0,
+        }
+    }
+
     pub fn name(&self) -> &[u8] {
-        self.bytes.get(..self.name).unwrap_or(&[])
+        let ends = self.ends();
+        &self.bytes[..ends.name]
     }
 
     pub fn first(&self) -> &[u8] {
-        let end = self.first.unwrap_or(self.bytes.len());
-        self.bytes.get(self.name..end).unwrap_or(&[])
+        let ends = self.ends();
+        &self.bytes[ends.name..ends.first]
     }
 
     pub fn second(&self) -> &[u8] {
-        match self.first {
-            None => &[],
-            Some(end) => self.bytes.get(end..).unwrap_or(&[]),
-        }
+        let ends = self.ends();
+        &self.bytes[ends.first..ends.second]
     }
 
     // Takes in what begins with the byte `c`, and gives what stands behind it.
@@ -173,11 +206,11 @@ impl Line {
         self.put(&[upper % 16 * 16 + digit % 16])
     }
 
-    // The bytes from the mark on, `times` times in all.
+    // The bytes from the mark on, `times` times in all; 0 times is once.
     fn repeat(&mut self, times: u64) -> Result<(), AllocError> {
-        if self.mark < self.bytes.len() {
+        if 2 <= times && self.mark < self.bytes.len() {
             let group = self.bytes.split_off(self.mark)?;
-            for _ in 0..times.max(1) {
+            for _ in 0..times {
                 if OPERANDS <= self.bytes.len() {
                     break;
                 }

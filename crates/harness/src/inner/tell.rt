@@ -1,4 +1,5 @@
 // Answers of the calls on a log, with what the log has then.
+use crate::inner::printer::Printer;
 use crate::inner::show::{Bytes, Refused};
 use crate::inner::{show, words};
 use answers::Refusal;
@@ -46,94 +47,91 @@ impl fmt::Display for Reason {
 
 // The answer, what the log has then, and the counterparts with the whole output.
 pub fn accepted(
-    to: &mut impl Write,
+    to: &mut Printer<impl Write>,
     w: Result<(usize, usize), Refusal>,
     log: &[u8],
     out: &[u8],
-) -> std::io::Result<()> {
+) {
     match w {
         Ok((n, m)) => {
-            write!(to, "{n} {m}; ")?;
-            newest(to, log)?;
-            write!(to, "; counterparts ")?;
-            part(to, out, 0, m)?;
+            write!(to, "{n} {m}; ");
+            newest(to, log);
+            write!(to, "; counterparts ");
+            part(to, out, 0, m);
         }
         Err(x) => {
-            write!(to, "{}; {}", Refused(x), Revisions(words::count(log)))?;
+            write!(to, "{}; {}", Refused(x), Revisions(words::count(log)));
         }
     }
-    write!(to, "; output {}", Bytes(out))
+    write!(to, "; output {}", Bytes(out));
 }
 
 // The newest revision.
-fn newest(to: &mut impl Write, log: &[u8]) -> std::io::Result<()> {
+fn newest(to: &mut Printer<impl Write>, log: &[u8]) {
     let count = words::count(log);
-    write!(to, "revision {count} is ")?;
+    write!(to, "revision {count} is ");
     if 1 <= count {
         match session_log::inner::read(log, count - 1) {
-            None => write!(to, "unreadable")?,
-            Some(s) => part(to, log, s.at, s.size)?,
+            None => write!(to, "unreadable"),
+            Some(s) => part(to, log, s.at, s.size),
         }
     }
-    Ok(())
 }
 
 // The records that stand there.
-fn part(to: &mut impl Write, bytes: &[u8], from: usize, end: usize) -> std::io::Result<()> {
+fn part(to: &mut Printer<impl Write>, bytes: &[u8], from: usize, end: usize) {
     match bytes.get(from..end) {
         Some(records) => words::first_and_last(to, records),
-        None => Ok(()),
+        None => (),
     }
 }
 
-pub fn relayed(to: &mut impl Write, before: u64, log: &[u8]) -> std::io::Result<()> {
+pub fn relayed(to: &mut Printer<impl Write>, before: u64, log: &[u8]) {
     let count = words::count(log);
     if before <= count {
-        write!(to, "{} accepted; ", count - before)?;
+        write!(to, "{} accepted; ", count - before);
     }
-    write!(to, "{}", Revisions(count))
+    write!(to, "{}", Revisions(count));
 }
 
-pub fn opened(to: &mut impl Write, w: Result<usize, Refusal>, log: &[u8]) -> std::io::Result<()> {
+pub fn opened(to: &mut Printer<impl Write>, w: Result<usize, Refusal>, log: &[u8]) {
     let revisions = Revisions(words::count(log));
-    write!(to, "{}; {revisions}", show::Answer(w))
+    write!(to, "{}; {revisions}", show::Answer(w));
 }
 
-pub fn summed(to: &mut impl Write, w: Result<usize, Refusal>, out: &[u8]) -> std::io::Result<()> {
-    write!(to, "{}", show::Answer(w))?;
+pub fn summed(to: &mut Printer<impl Write>, w: Result<usize, Refusal>, out: &[u8]) {
+    write!(to, "{}", show::Answer(w));
     if let Ok(n) = w {
-        write!(to, "; ")?;
-        part(to, out, 0, n)?;
+        write!(to, "; ");
+        part(to, out, 0, n);
     }
-    write!(to, "; output {}", Bytes(out))
+    write!(to, "; output {}", Bytes(out));
 }
 
-pub fn played(to: &mut impl Write, w: Result<usize, Refusal>, out: &[u8]) -> std::io::Result<()> {
-    write!(to, "{}", show::Answer(w))?;
+pub fn played(to: &mut Printer<impl Write>, w: Result<usize, Refusal>, out: &[u8]) {
+    write!(to, "{}", show::Answer(w));
     if let Ok(n) = w {
-        write!(to, "; ")?;
+        write!(to, "; ");
         if let Some(text) = out.get(..n) {
-            words::text(to, text)?;
+            words::text(to, text);
         }
     }
-    Ok(())
 }
 
 // The contents, and the whole buffer.
-pub fn log(to: &mut impl Write, log: &[u8]) -> std::io::Result<()> {
+pub fn log(to: &mut Printer<impl Write>, log: &[u8]) {
     match session_log::inner::read(log, 0) {
-        None => write!(to, "unreadable")?,
-        Some(s) => contents(to, log, s)?,
+        None => write!(to, "unreadable"),
+        Some(s) => contents(to, log, s),
     }
-    write!(to, "; buffer {}", Bytes(log))
+    write!(to, "; buffer {}", Bytes(log));
 }
 
-fn contents(to: &mut impl Write, log: &[u8], s: Scan) -> std::io::Result<()> {
+fn contents(to: &mut Printer<impl Write>, log: &[u8], s: Scan) {
     let revisions = Revisions(s.count as u64);
-    write!(to, "{revisions} from length {}: ", s.start)?;
-    part(to, log, session_log::inner::LOG_HEADER, s.size)?;
+    write!(to, "{revisions} from length {}: ", s.start);
+    part(to, log, session_log::inner::LOG_HEADER, s.size);
     if let Some(written) = log.get(..s.size) {
-        write!(to, "; contents {}", Bytes(written))?;
+        write!(to, "; contents {}", Bytes(written));
     }
-    Ok(())
 }

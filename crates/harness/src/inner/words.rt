@@ -2,6 +2,7 @@
 ghost use Rattle.std.specs.Prelude.{length};
 ghost use Rattle.std.specs.Iterator.{at_most};
 
+use crate::inner::printer::Printer;
 use crate::inner::show::Bytes;
 use std::io::Write;
 use walker::{Kind, Op};
@@ -41,62 +42,65 @@ impl<'a> Iterator for Records<'a> {
 }
 
 // The first record and the last.
-pub fn first_and_last(to: &mut impl Write, bytes: &[u8]) -> std::io::Result<()> {
+pub fn first_and_last(to: &mut Printer<impl Write>, bytes: &[u8]) {
     let mut all = Records(bytes);
     let Some(first) = all.next() else {
-        return write!(to, "none");
+        write!(to, "none");
+        return;
     };
-    record(to, first)?;
+    record(to, first);
     let Some(second) = all.next() else {
-        return Ok(());
+        return;
     };
     match all.last() {
         None => {
-            write!(to, ", ")?;
-            record(to, second)
+            write!(to, ", ");
+            record(to, second);
         }
         Some(last) => {
-            write!(to, ", .., ")?;
-            record(to, last)
+            write!(to, ", .., ");
+            record(to, last);
         }
     }
 }
 
 // At most its first eight operations.
-fn record(to: &mut impl Write, rec: &[u8]) -> std::io::Result<()> {
+fn record(to: &mut Printer<impl Write>, rec: &[u8]) {
     for k in 0..SHOWN {
         let Some(op) = walker::step(rec, k) else {
-            return if k == 0 { write!(to, "empty") } else { Ok(()) };
+            if k == 0 {
+                write!(to, "empty");
+            }
+            return;
         };
         if 0 < k {
-            write!(to, " ")?;
+            write!(to, " ");
         }
-        named(to, op, operation::insert_text(rec, k))?;
+        named(to, op, operation::insert_text(rec, k));
     }
-    match walker::step(rec, SHOWN) {
-        Some(_) => write!(to, " .."),
-        None => Ok(()),
+    if walker::step(rec, SHOWN).is_some() {
+        write!(to, " ..");
     }
 }
 
-fn named(to: &mut impl Write, op: Op, inserted: &[u8]) -> std::io::Result<()> {
+fn named(to: &mut Printer<impl Write>, op: Op, inserted: &[u8]) {
     match op.kind {
         Kind::Retain => write!(to, "R{}", op.count),
         Kind::Insert => {
-            write!(to, "I")?;
-            text(to, inserted)
+            write!(to, "I");
+            text(to, inserted);
         }
         Kind::Delete => write!(to, "D{}", op.count),
     }
 }
 
 // Short ones in quotes; of long ones the length and a sum.
-pub fn text(to: &mut impl Write, t: &[u8]) -> std::io::Result<()> {
+pub fn text(to: &mut Printer<impl Write>, t: &[u8]) {
     if t.len() <= 64 {
-        write!(to, "\"")?;
-        to.write_all(t)?;
-        write!(to, "\"")
+        write!(to, "\"");
+        to.write_all(t);
+        write!(to, "\"");
     } else {
-        write!(to, "({})", Bytes(t))
+        write!(to, "({})", Bytes(t));
     }
 }
