@@ -1,15 +1,13 @@
 -- The answers of the call.
-use Rattle.std.specs.Prelude.{◌≡◌, ℕ, ◌<◌, ◌≤◌, false, T, List, length, take, Result, Option, Ok, Err, Some, None}
+use Rattle.std.specs.Prelude.{◌≡◌, ℕ, ◌≤◌, false, T, List, length, take, Result, Option, Ok, Err, Some, None}
 use mathlib.Core.Path.{refl, sym, ap}
 use native.Mathlib.Omega.{arith}
 use lib.Seq.{length-take-le}
 use Rattle.buffers.proofs.Tests.{holds}
 use Rattle.answers.specs.declared.Refusal.{Refusal}
-use Rattle.answers.specs.declared.Refusal.TheVariants.{Room}
 use Rattle.answers.specs.Answer.{refused}
 use Rattle.answers.specs.Output.{writing}
 use Rattle.answers.specs.InnerGiven.{Gives}
-use Rattle.answers.proofs.Delivered.{deliver_short}
 use Rattle.record.specs.Layout.{max_size}
 use Rattle.record.specs.Record.{encode}
 use Rattle.emitter.proofs.Delivering.{writing_refused}
@@ -41,10 +39,6 @@ module _ (l o : List ℕ) (r : T (readable l)) (v : Result ℕ Refusal) (b : Lis
     summed_whole w o' g =
         let (i, j) = (rw q at s).sums in
         rw (holds (readable l) r, i) (rw j.is at g)
-
-    -- what a test of the room before the delivery would answer
-    pub summed_short : length o < k → Gives (summary_call l o) (Err Room) o
-    summed_short g = summed_whole (Err Room) o (deliver_short (take k b) o (omega (arith, summed_size)))
 
 module _ (l o : List ℕ) (x : Option Scan) (s : Scans l 0 x) where
   module _ (q : x ≡ None) where

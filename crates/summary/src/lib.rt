@@ -22,9 +22,7 @@ pub fn summary(log: &[u8], out: &mut [u8]) -> Result<usize, Refusal>
     summed(log, s.count, s.start, out)
 }
 
-// The answer of `summary` for a log that can be read. (`summed_short` answers a test of the room before the delivery; the edit `room_left` is a
-// wrong one.)
-#[tactic(auto, using(crate::proofs::Answering::summed_short))]
+// The answer of `summary` for a log that can be read.
 fn summed(log: &[u8], count: usize, start: usize, out: &mut [u8]) -> Result<usize, Refusal>
     requires { T (readable log.now) × (count ≡ count_of log.now) × (start ≡ start_of log.now) × (start ≤ max_size) }
     ensures { Gives (summary_call log.now out.old) result out.new }
