@@ -61,8 +61,8 @@ fn by_eight(text: &[u8], at: usize) -> usize
     i
 }
 
-// The place of the first byte from `at` on that is not plain, or the end. (Each character that isn't ASCII leads here: by `take_while` over
-// a part of the text it cost a third to two thirds more.)
+// The place of the first byte from `at` on that is not plain, or the end. (Each character that isn't ASCII leads here. `take_while` over a part
+// of the text took 0.83 to 1.65 times the time, by where the code came to stand.)
 fn plain_ascii(text: &[u8], at: usize) -> usize
     requires { at ≤ length text.now }
     ensures { Run is_plain text.now at result }

@@ -60,6 +60,7 @@ pub fn skip(bytes: &[u8], at: usize, k: usize) -> usize
     i
 }
 
+#[tactic(auto, using(crate::proofs::Orders::cmp_order))]
 pub fn compare(a: &[u8], b: &[u8]) -> Ordering
     ensures { result ≡ byte_order a.now b.now }
 {
