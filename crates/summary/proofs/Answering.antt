@@ -1,7 +1,8 @@
 -- The answers of the call.
-use Rattle.std.specs.Prelude.{◌≡◌, ℕ, ◌≤◌, true, false, T, List, Result, Option, Err, Some, None}
+use Rattle.std.specs.Prelude.{◌≡◌, ℕ, ◌≤◌, true, false, T, List, length, take, Result, Option, Ok, Err, Some, None}
 use mathlib.Core.Path.{refl, sym, ap}
 use native.Mathlib.Omega.{arith}
+use lib.Seq.{length-take-le}
 use Rattle.buffers.proofs.Tests.{holds}
 use Rattle.answers.specs.declared.Refusal.{Refusal}
 use Rattle.answers.specs.Answer.{refused}
@@ -29,11 +30,25 @@ module _ (l o : List ℕ) (r : T (readable l)) where
   unfolding summary_call summary_fault
   summed_is i = rw (holds (readable l) r, i)
 
-  pub summed_refused : (v : Result ℕ Refusal) (b : List ℕ) → Sums l v b → (x : Refusal) → v ≡ Err x → Gives (summary_call l o) (Err x) o
-  unfolding summary_call summary_fault
-  summed_refused v b s x q =
-      let (i, j) = (rw q at s).sums in
-      rw (holds (readable l) r, j) (rw (writing_refused 9 (together l) o (λ z. absurd (omega arith))) (record { answer = ap refused i; out = refl }))
+  module _ (v : Result ℕ Refusal) (b : List ℕ) (s : Sums l v b) where
+    pub summed_refused : (x : Refusal) → v ≡ Err x → Gives (summary_call l o) (Err x) o
+    unfolding summary_call summary_fault
+    summed_refused x q =
+        let (i, j) = (rw q at s).sums in
+        rw (holds (readable l) r, j) (rw (writing_refused 9 (together l) o (λ z. absurd (omega arith))) (record { answer = ap refused i; out = refl }))
+
+    -- what a summary in the buffer is: as long as the result says, and what the call writes
+    module _ (k : ℕ) (q : v ≡ Ok k) where
+      pub summed_room : k ≤ length b
+      summed_room = (rw q at s).sums.1.room
+
+      pub summed_size : k ≡ length (take k b)
+      summed_size = sym (length-take-le k b summed_room)
+
+      pub summed_whole : (w : Result ℕ Refusal) (o' : List ℕ) → Gives (writing 0 (take k b) o) w o' → Gives (summary_call l o) w o'
+      summed_whole w o' g =
+          let (i, j) = (rw q at s).sums in
+          rw (summed_is i) (rw j.is at g)
 
 module _ (l o : List ℕ) (x : Option Scan) (s : Scans l 0 x) where
   module _ (q : x ≡ None) where
